@@ -1,0 +1,14 @@
+use Rattle.std.proofs.Common.{List, subst, sym}
+use Rattle.udt_model.specs.declared.line.Line.{Line}
+use Rattle.client_runner.proofs.SoloLemmas.{RanSoFar, none_yet, ran_more}
+use Rattle.client_runner.proofs.solo.run.Goals as goal
+
+pub loop-command-init : goal.loop-command-init
+loop-command-init c = rw c.in_ok-lines.ensures.items (none_yet c.args.store)
+
+pub loop-command-preserved : goal.loop-command-preserved
+loop-command-preserved c =
+    let line = c.perform-line.ensures in
+    rw c.in_ok-push.ensures.items
+    (ran_more c.args.store c.loop-command.yielded c.loop-command.lines.items c.loop-command.store c.perform-line.new.store c.loop-command.last c.in-Some.command c.perform-line.result c.loop-command.invariant
+    (record { event = line.event; who = line.who; mark = line.mark; reply = line.reply; after_is = line.after; printed = line.printed }))

@@ -1,0 +1,13 @@
+pub mod Print
+pub mod Words
+pub mod Grammar
+pub mod Targets
+pub mod Faults
+pub mod Transcripts
+pub mod Flows
+pub mod Output
+pub mod Solo
+pub mod Commands
+pub mod Stops
+pub mod Ready
+pub mod Ends

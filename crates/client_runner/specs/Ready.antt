@@ -1,0 +1,52 @@
+-- Transcripts that wait to be written, and why there is none.
+use Rattle.std.specs.Prelude.{◌≡◌, ◌⊎◌, ℕ, ◌≤◌, List, ◌++◌, All, length, Some}
+use Rattle.udt_disk.specs.Opens.{Standing, Stands}
+use Rattle.udt_model.specs.declared.event.Event.{Event}
+use Rattle.udt_model.specs.Histories.{IsSoloHistory}
+use Rattle.client_runner.specs.Grammar.{IsBadLine, lines_of}
+use Rattle.client_runner.specs.Output.{HasRoom}
+use Rattle.client_runner.specs.Print.{IsBuiltLine, print_header, print_lines}
+use Rattle.client_runner.specs.Stops.{file_limit, message, status_of}
+use Rattle.client_runner.specs.Transcripts.{IsTranscript, fresh}
+use Rattle.client_runner.specs.declared.top.Ready.{Ready}
+use Rattle.client_runner.specs.declared.status.Status.{Status}
+use Rattle.client_runner.specs.declared.status.Stop.{Stop}
+use Rattle.client_runner.specs.declared.status.Stop.TheVariants.{BadWords, NoFile, TooLong, BadLine, SourceFault, NoMemory}
+
+-- the whole text
+abbrev pub text_of : Ready → List ℕ
+text_of r = r.buffer.items ++ print_lines r.lines.items
+
+-- the lines are those of the commands, behind the header, and the buffer has the room to write them
+pub record IsPerformed (commands : List Event) (r : Ready) : Type 0 where
+  pub history : IsSoloHistory fresh commands r.lines.items
+  pub header : r.buffer.items ≡ print_header 0 fresh.heads
+  pub built : All IsBuiltLine r.lines.items
+  pub room : HasRoom r.buffer r.lines.items
+
+-- the text is the transcript of these bytes, and the buffer has the room to write it
+pub record IsReady (bytes : List ℕ) (r : Ready) : Type 0 where
+  pub transcript : IsTranscript bytes (text_of r)
+  pub built : All IsBuiltLine r.lines.items
+  pub room : HasRoom r.buffer r.lines.items
+
+-- the same for the file that stands there
+pub record IsTried (standing : Standing) (r : Ready) : Type 0 where
+  pub bytes : List ℕ
+  pub stands : Stands standing (Some bytes)
+  pub short : length bytes ≤ file_limit
+  pub ready : IsReady bytes r
+
+-- these bytes have a first bad line; want of memory is free
+abbrev pub IsReadyStop : List ℕ → Stop → Type 0
+IsReadyStop bytes (BadLine n) = IsBadLine (lines_of bytes) n
+IsReadyStop bytes NoMemory = Unit {0}
+IsReadyStop bytes BadWords = ⊥
+IsReadyStop bytes NoFile = ⊥
+IsReadyStop bytes TooLong = ⊥
+IsReadyStop bytes SourceFault = ⊥
+
+-- the status and the message of a stop, or of want of memory in its place
+abbrev pub IsMessage : List ℕ → Stop → Status → List ℕ → Type 0
+IsMessage path stop status text =
+    ((status ≡ status_of stop) × (text ≡ message path stop)) ⊎ ((status ≡ status_of NoMemory) × (text ≡ message path NoMemory))

@@ -1,0 +1,95 @@
+//! Transcripts written to a sink, over one buffer whose room is reserved before the first write.
+ghost use Rattle.std.specs.Prelude.{◌≡◌, ◌≤◌, ◌++◌, All, length, vec_len, vec_capacity, OnOk, OnErr, IfOk};
+ghost use Rattle.std.specs.Io.KnownBytes.{Appends};
+ghost use Rattle.udt_disk.specs.Causes.{Rose};
+ghost use Rattle.client_runner.specs.Flows.{AppendsFront};
+ghost use Rattle.client_runner.specs.Output.{HasRoom, HasRoomFor, Passes, Flushes};
+ghost use Rattle.client_runner.specs.Print.{IsBuiltLine, print_line as line_text, print_lines as lines_text, print_header as header_text};
+
+use crate::flow::write_whole;
+use crate::print::{print_header, print_line};
+use std::alloc::{AllocError, Global};
+use ts_key::NoMemory;
+use udt_disk::{Failed, Sink};
+use udt_model::{FamilyHead, Line};
+
+/// So many bytes of lines are gathered before they are written.
+const BATCH: usize = 65_536;
+
+/// How many bytes the longest line has in print. Each line is printed for it, and once more to be written.
+fn longest_line(alloc: Global, lines: &[Line]) -> Result<usize, NoMemory>
+    requires { All IsBuiltLine lines.now }
+    ensures { IfOk result (λ longest. All (λ l. length (line_text l) ≤ longest) lines.now) }
+{
+    let mut text = Vec::new(alloc);
+    let mut longest = 0;
+    for line in lines {
+        text.clear();
+        print_line(line, &mut text)?;
+        longest = text.len().max(longest);
+    }
+    Ok(longest)
+}
+
+/// A buffer with the header of a store without a write, and room for the lines: writing them needs no memory.
+pub fn header_with_room(
+    alloc: Global,
+    heads: &[FamilyHead],
+    lines: &[Line],
+) -> Result<Vec<u8>, NoMemory>
+    requires { All IsBuiltLine lines.now }
+    ensures header { IfOk result (λ buffer. buffer.items ≡ header_text 0 heads.now) }
+    ensures room { IfOk result (λ buffer. HasRoom buffer lines.now) }
+{
+    let Some(room) = longest_line(alloc, lines)?.checked_add(BATCH) else {
+        return Err(AllocError);
+    };
+    let mut buffer = Vec::new(alloc);
+    print_header(0, heads, &mut buffer)?;
+    buffer.reserve(room)?;
+    Ok(buffer)
+}
+
+/// Writes the buffer where it has a batch of bytes.
+fn flush_batch<K: Sink>(out: &mut K, buffer: &mut Vec<u8>) -> Result<(), Failed>
+    ensures ok { OnOk result (Flushes (K.taken out.old) (K.taken out.new) buffer.old buffer.new) }
+    ensures front { OnErr result (AppendsFront (K.taken out.old) (K.taken out.new) buffer.old.items) }
+    ensures failed { OnErr result (Rose (K.faults out.old) (K.faults out.new)) }
+    ensures later { K.faults out.old ≤ K.faults out.new }
+{
+    if buffer.len() < BATCH {
+        return Ok(());
+    }
+    write_whole(out, buffer)?;
+    buffer.clear();
+    Ok(())
+}
+
+/// Adds a line to the buffer, which is written first where it has a batch of bytes.
+fn write_line<K: Sink>(out: &mut K, buffer: &mut Vec<u8>, line: &Line) -> Result<(), Failed>
+    requires built { IsBuiltLine line.now }
+    requires room { HasRoomFor buffer.old line.now }
+    ensures ok { OnOk result (Passes (K.taken out.old) (K.taken out.new) buffer.old buffer.new (line_text line.now)) }
+    ensures front { OnErr result (AppendsFront (K.taken out.old) (K.taken out.new) (buffer.old.items ++ line_text line.now)) }
+    ensures failed { OnErr result (Rose (K.faults out.old) (K.faults out.new)) }
+    ensures later { K.faults out.old ≤ K.faults out.new }
+{
+    flush_batch(out, buffer)?;
+    print_line(line, buffer).unwrap();
+    Ok(())
+}
+
+/// Writes what the buffer holds, and the lines behind it. Where the sink fails, it has taken a front of that.
+pub fn write_lines<K: Sink>(out: &mut K, buffer: &mut Vec<u8>, lines: &[Line]) -> Result<(), Failed>
+    requires built { All IsBuiltLine lines.now }
+    requires room { HasRoom buffer.old lines.now }
+    ensures ok { OnOk result (Appends (K.taken out.old) (K.taken out.new) (buffer.old.items ++ lines_text lines.now)) }
+    ensures front { OnErr result (AppendsFront (K.taken out.old) (K.taken out.new) (buffer.old.items ++ lines_text lines.now)) }
+    ensures failed { OnErr result (Rose (K.faults out.old) (K.faults out.new)) }
+    ensures later { K.faults out.old ≤ K.faults out.new }
+{
+    for line in lines {
+        write_line(out, buffer, line)?;
+    }
+    write_whole(out, buffer)
+}

@@ -1,0 +1,52 @@
+//! How a command ends.
+
+/// The status of a command.
+#[derive(Clone, Copy, Debug, PartialEq, Eq)]
+pub enum Status {
+    /// The command did what it is for.
+    Done,
+    /// The words are no command, or a file isn't there or isn't a command file.
+    Usage,
+    /// The folder is no store, or the command is refused by what it holds.
+    Folder,
+    /// A folder's disk failed.
+    DiskFault,
+    /// The output failed.
+    SinkFault,
+    /// A file couldn't be read.
+    SourceFault,
+    /// There was no memory.
+    NoMemory,
+}
+
+impl Status {
+    /// The exit status of the program.
+    pub fn code(self) -> u8 {
+        match self {
+            Status::Done => 0,
+            Status::Usage => 2,
+            Status::Folder => 3,
+            Status::DiskFault => 4,
+            Status::SinkFault => 5,
+            Status::SourceFault => 6,
+            Status::NoMemory => 7,
+        }
+    }
+}
+
+/// Why a command stops before it prints what it is for.
+#[derive(Clone, Copy, Debug, PartialEq, Eq)]
+pub enum Stop {
+    /// The words are no command.
+    BadWords,
+    /// The file isn't there.
+    NoFile,
+    /// The file has more bytes than a command file may have.
+    TooLong,
+    /// This line, counted from 1, is the first that is outside the grammar.
+    BadLine { line: u64 },
+    /// The file couldn't be read.
+    SourceFault,
+    /// There was no memory.
+    NoMemory,
+}

@@ -1,0 +1,16 @@
+-- Counts of faults: they never fall, and end at 2^64 - 1.
+use Rattle.std.specs.Prelude.{◌≡◌, ℕ, ◌+◌, ◌-◌, ◌^◌, ◌≤◌, min, Result, OnOk, OnErr}
+
+-- the count with n more faults
+abbrev pub plus_faults : ℕ → ℕ → ℕ
+plus_faults count n = min (count + n) (2 ^ 64 - 1)
+
+-- the count rose, or stands at its end
+abbrev pub Rose : ℕ → ℕ → Type 0
+Rose before now = plus_faults before 1 ≤ now
+
+-- a call that answers Err has its cause in the count, and one that answers Ok leaves the count as it was
+pub record HasCause {T E : Type 0} (before now : ℕ) (result : Result T E) : Type 0 where
+  pub later : before ≤ now
+  pub failed : OnErr result (Rose before now)
+  pub kept : OnOk result (now ≡ before)

@@ -1,0 +1,5 @@
+pub mod Causes
+pub mod Flows
+pub mod Opens
+pub mod Memory
+pub mod Hosting

@@ -1,0 +1,5 @@
+pub mod Versions
+pub mod Reads
+pub mod State
+pub mod Steps
+pub mod Histories

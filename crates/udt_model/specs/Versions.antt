@@ -1,0 +1,38 @@
+-- Versions of keys, and which one a read sees.
+use Rattle.std.specs.Prelude.{ℕ, Bool, ◌==◌, nat_lt, nat_le, ◌&&◌, ◌||◌, if◌then◌else◌, List, [], ◌∷◌, filter, Option, Some, None}
+use Rattle.std.specs.Str.{bytes_eq}
+use Rattle.ts_key.specs.declared.numbers.Family.{Family}
+use Rattle.ts_key.specs.declared.numbers.Ts.{Ts}
+use Rattle.ts_key.specs.declared.numbers.Seq.{Seq}
+use Rattle.ts_key.specs.declared.version.Version.{Version}
+
+-- it has a larger timestamp, or the same and a larger sequence
+abbrev pub is_newer : Version → Version → Bool
+is_newer a b = nat_lt b.ts.0 a.ts.0 || (a.ts.0 == b.ts.0 && nat_lt b.seq.0 a.seq.0)
+
+-- the newer of two, the first where neither is
+abbrev pub newer : Option Version → Option Version → Option Version
+newer None b = b
+newer (Some a) None = Some a
+newer (Some a) (Some b) = if is_newer b a then Some b else Some a
+
+-- the newest of a list
+abbrev pub newest_of : List Version → Option Version
+newest_of [] = None
+newest_of (v ∷ vs) = newer (Some v) (newest_of vs)
+
+-- it is of this key of this family
+abbrev pub is_of : Family → List ℕ → Version → Bool
+is_of family key v = v.family.0 == family.0 && bytes_eq v.key key
+
+-- the versions of a key
+abbrev pub of_key : List Version → Family → List ℕ → List Version
+of_key w family key = filter (is_of family key) w
+
+-- it isn't above this timestamp and this sequence
+abbrev pub is_within : Ts → Seq → Version → Bool
+is_within t s v = nat_le v.ts.0 t.0 && nat_le v.seq.0 s.0
+
+-- among the versions of the key with timestamps up to t and sequences up to s the newest
+abbrev pub visible : List Version → Family → List ℕ → Ts → Seq → Option Version
+visible w family key t s = newest_of (filter (is_within t s) (of_key w family key))

@@ -1,0 +1,24 @@
+//! The model of the store: what it is asked, what it may reply, and the definitions that say which replies are legal.
+//!
+//! A history is a plain list of versions. The definitions in `specs/` say which version a read sees, which writes are
+//! admitted, and which lines of a transcript are legal; this crate's calls compute them, plainly and slowly.
+#![tactic(auto)]
+
+mod event;
+mod items;
+mod line;
+mod place;
+mod read;
+mod reply;
+mod step;
+
+pub use event::{Event, NamedOp};
+pub use items::Items;
+pub use line::{FamilyHead, Line, Mark, Who};
+pub use place::{Place, plain_place};
+pub use read::{Answer, ModelRead, plain_newest, plain_read, plain_visible};
+pub use reply::{KeySpan, Piece, Reply, Row, Stamp};
+pub use step::is_step;
+
+#[cfg(test)]
+mod tests;

@@ -1,0 +1,59 @@
+//! The program: a key-value store whose keys carry timestamps. Its commands are those of `client_runner`.
+#![tactic(auto)]
+
+use client_runner::{Status, refuse_words, store_plain};
+use std::alloc::AllocFailed;
+use std::process::ExitCode;
+use std::rt::Env;
+use std::{env, io};
+use udt_disk::{HostSink, RealHost, Text, TextFault};
+
+/// Why there are no words.
+enum WordsFault {
+    /// One isn't text, or is longer than a `Text` may be.
+    Refused,
+    NoMemory,
+}
+
+impl From<TextFault> for WordsFault {
+    fn from(fault: TextFault) -> WordsFault {
+        match fault {
+            TextFault::TooLong { .. } => WordsFault::Refused,
+            TextFault::NoMemory => WordsFault::NoMemory,
+        }
+    }
+}
+
+impl From<io::Error> for WordsFault {
+    fn from(error: io::Error) -> WordsFault {
+        match error.kind() {
+            io::ErrorKind::InvalidData => WordsFault::Refused,
+            _ => WordsFault::NoMemory,
+        }
+    }
+}
+
+impl From<AllocFailed<Text>> for WordsFault {
+    fn from(_: AllocFailed<Text>) -> WordsFault {
+        WordsFault::NoMemory
+    }
+}
+
+/// The words of the command line.
+fn command_words(rt: &(impl Env + AllocGlobal)) -> Result<Vec<Text>, WordsFault> {
+    let mut words = Vec::new(rt.alloc());
+    for word in env::args(rt)?.skip(1) {
+        words.push(Text::of(rt.alloc(), word.as_bytes())?)?;
+    }
+    Ok(words)
+}
+
+fn main(rt: HostRuntime) -> ExitCode {
+    let mut out = HostSink::new(io::writer(&rt));
+    let status = match command_words(&rt) {
+        Ok(words) => store_plain(rt.alloc(), &words, &mut RealHost::new(&rt), &mut out),
+        Err(WordsFault::Refused) => refuse_words(&mut out),
+        Err(WordsFault::NoMemory) => Status::NoMemory,
+    };
+    ExitCode::from(status.code())
+}
