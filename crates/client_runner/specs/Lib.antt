@@ -8,6 +8,7 @@ pub mod Flows
 pub mod Output
 pub mod Solo
 pub mod Commands
+pub mod Statuses
 pub mod Stops
 pub mod Ready
 pub mod Ends

@@ -207,10 +207,15 @@ fn begins_hex(bytes: &[u8]) -> bool
     }
 }
 
+/// Each byte is plain. It doesn't stop at one that isn't, so that many bytes are tested at once.
 fn are_plain(bytes: &[u8]) -> bool
     ensures { result ≡ list_all printed.is_plain_byte bytes.now }
 {
-    bytes.iter().all(|b| is_plain_byte(*b))
+    let mut plain = true;
+    for b in bytes {
+        plain &= is_plain_byte(*b);
+    }
+    plain
 }
 
 /// The byte is one of A to Z, a to z, 0 to 9, and `_ - . / : @ +`.

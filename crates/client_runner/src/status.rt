@@ -1,4 +1,5 @@
 //! How a command ends.
+ghost use Rattle.std.specs.Prelude.{◌≡◌};
 
 /// The status of a command.
 #[derive(Clone, Copy, Debug, PartialEq, Eq)]
@@ -20,8 +21,12 @@ pub enum Status {
 }
 
 impl Status {
+    ghost use Rattle.client_runner.specs.Statuses.{exit_code};
+
     /// The exit status of the program.
-    pub fn code(self) -> u8 {
+    pub fn code(self) -> u8
+        ensures { result ≡ exit_code self }
+    {
         match self {
             Status::Done => 0,
             Status::Usage => 2,
