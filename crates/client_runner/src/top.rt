@@ -1,7 +1,8 @@
 //! The top call.
-ghost use Rattle.std.specs.Prelude.{◌≡◌, ◌⊎◌, ◌-◌, ◌^◌, ◌<◌, ◌≤◌, ◌++◌, [], All, length, Some, IfOk, IfErr, OnOk};
+ghost use Rattle.std.specs.Prelude.{◌≡◌, ℕ, List, ◌-◌, ◌^◌, ◌<◌, ◌≤◌, ◌++◌, [], All, length, Some, IfOk, IfErr, OnOk};
 ghost use Rattle.udt_disk.specs.Causes.{Rose};
-ghost use Rattle.udt_disk.specs.Opens.{Stands};
+ghost use Rattle.udt_disk.specs.Opens.{Stands, StaysBut};
+ghost use Rattle.client_runner.specs.Commands.{IsTry};
 ghost use Rattle.client_runner.specs.Ends.{IsAnswered, IsComplete, IsEnd, IsFileWork, IsPrinted, IsRefused, IsStopped, IsWork};
 ghost use Rattle.client_runner.specs.Output.{HasRoom};
 ghost use Rattle.client_runner.specs.Print.{IsBuilt, IsBuiltLine};
@@ -32,6 +33,7 @@ fn read_file<H: Host>(alloc: Global, path: &Text, host: &mut H) -> Result<Vec<u8
     ensures ok { IfOk result (λ bytes. Stands (H.standing host.old path.now) (Some bytes.items)) }
     ensures short { IfOk result (λ bytes. length bytes.items ≤ file_limit) }
     ensures stopped { IfErr result (IsFileStop (H.standing host.old path.now) (H.faults host.old) (H.faults host.new)) }
+    ensures others { StaysBut path.now (H.standing host.old) (H.standing host.new) }
 {
     let Ok(opened) = host.open_source(path) else {
         return Err(Stop::SourceFault);
@@ -83,6 +85,7 @@ fn prepare(alloc: Global, bytes: &[u8]) -> Result<Ready, Stop>
 fn try_path<H: Host>(alloc: Global, path: &Text, host: &mut H) -> Result<Ready, Stop>
     ensures ready { IfOk result (IsTried (H.standing host.old path.now)) }
     ensures stopped { IfErr result (IsFileStop (H.standing host.old path.now) (H.faults host.old) (H.faults host.new)) }
+    ensures others { StaysBut path.now (H.standing host.old) (H.standing host.new) }
 {
     let bytes = match read_file(alloc, path, host) {
         Ok(bytes) => bytes,
@@ -164,8 +167,9 @@ fn say_ready<K: Sink>(out: &mut K, mut ready: Ready) -> Status
 
 /// Prints the transcript of the file under a path, or why there is none.
 fn try_file<H: Host, K: Sink>(alloc: Global, path: &Text, host: &mut H, out: &mut K) -> Status
-    ensures { IsEnd (IsFileWork (H.standing host.old path.now) (H.faults host.old) (H.faults host.new) path.now)
+    ensures ends { IsEnd (IsFileWork (H.standing host.old path.now) (H.faults host.old) (H.faults host.new) path.now)
         result (K.taken out.old) (K.taken out.new) (Rose (K.faults out.old) (K.faults out.new)) }
+    ensures others { StaysBut path.now (H.standing host.old) (H.standing host.new) }
 {
     match try_path(alloc, path, host) {
         Ok(ready) => say_ready(out, ready),
@@ -174,8 +178,9 @@ fn try_file<H: Host, K: Sink>(alloc: Global, path: &Text, host: &mut H, out: &mu
 }
 
 fn plain<H: Host, K: Sink>(alloc: Global, words: &[Text], host: &mut H, out: &mut K) -> Status
-    ensures { IsEnd (IsWork words.now (H.standing host.old) (H.faults host.old) (H.faults host.new))
+    ensures ends { IsEnd (IsWork words.now (H.standing host.old) (H.faults host.old) (H.faults host.new))
         result (K.taken out.old) (K.taken out.new) (Rose (K.faults out.old) (K.faults out.new)) }
+    ensures others { (path : List ℕ) → (IsTry words.now path → ⊥) → H.standing host.new path ≡ H.standing host.old path }
 {
     match command_of(words) {
         None => refuse_words(out),
@@ -209,6 +214,9 @@ pub fn store_plain<H: Host, K: Sink>(
     ensures stopped { IsStopped result words.now (H.standing host.old) (K.taken out.old) (K.taken out.new) }
     ensures refused { IsRefused result words.now (K.taken out.old) (K.taken out.new) }
     ensures answered { IsAnswered result words.now (K.taken out.old) (K.taken out.new) }
+
+    // What stands under other paths stays.
+    ensures others { (path : List ℕ) → (IsTry words.now path → ⊥) → H.standing host.new path ≡ H.standing host.old path }
 {
     plain(alloc, words, host, out)
 }
