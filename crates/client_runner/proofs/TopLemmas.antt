@@ -10,7 +10,7 @@ use Rattle.client_runner.specs.Ends.{IsAnswered, IsComplete, IsEnd, IsFaultOrWan
 use Rattle.client_runner.specs.Flows.{AppendsFront}
 use Rattle.client_runner.specs.Grammar.{IsBadLine, IsFile, lines_of}
 use Rattle.client_runner.specs.Print.{print_header, print_lines}
-use Rattle.client_runner.specs.Ready.{IsMessage, IsPerformed, IsReady, IsReadyStop, IsTried, text_of}
+use Rattle.client_runner.specs.Ready.{IsMessage, IsTranscribed, IsReady, IsReadyStop, IsTried, text_of}
 use Rattle.client_runner.specs.Stops.{IsFileStop, file_limit, message, status_of}
 use Rattle.client_runner.specs.Transcripts.{IsTranscript, fresh}
 use Rattle.client_runner.specs.declared.top.Ready.{Ready}
@@ -43,8 +43,8 @@ two_words (a ∷ b ∷ x ∷ words) d e len is = absurd (omega arith)
 
 -- ---- files
 
--- commands that are performed give the transcript of a file that spells them
-pub ready_of : (bytes : List ℕ) (commands : List Event) (r : Ready) → IsFile bytes commands → ((other : List Event) → IsFile bytes other → other ≡ commands) → IsPerformed commands r → IsReady bytes r
+-- commands that are transcribed give the transcript of a file that spells them
+pub ready_of : (bytes : List ℕ) (commands : List Event) (r : Ready) → IsFile bytes commands → ((other : List Event) → IsFile bytes other → other ≡ commands) → IsTranscribed commands r → IsReady bytes r
 ready_of bytes commands r spelled only p = record {
   transcript = record { commands = commands; lines = r.lines.items; spelled = spelled; only = only; history = p.history; printed = ap (λ (t : List ℕ). t ++ print_lines r.lines.items) p.header };
   built = p.built;

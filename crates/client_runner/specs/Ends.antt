@@ -30,7 +30,7 @@ pub record StopsAt (standing : Standing) (before now : ℕ) (path : List ℕ) (s
   pub status_is : status ≡ status_of stop
   pub text_is : text ≡ message path stop
 
--- of `try`: the transcript, or the message of a stop; the host's faults were before and are now
+-- of `try`: the transcript, or the message of a stop; the count of the host's faults was `before` and is `now`
 abbrev pub IsFileWork : Standing → ℕ → ℕ → List ℕ → Status → List ℕ → Type 0
 IsFileWork standing before now path status text = ((status ≡ statuses.Done) × IsTranscriptAt standing text) ⊎ StopsAt standing before now path status text
 

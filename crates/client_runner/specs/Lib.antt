@@ -10,5 +10,6 @@ pub mod Solo
 pub mod Commands
 pub mod Statuses
 pub mod Stops
+pub mod Hosts
 pub mod Ready
 pub mod Ends

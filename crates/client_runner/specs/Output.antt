@@ -7,12 +7,12 @@ use Rattle.udt_model.specs.declared.line.Line.{Line}
 use Rattle.client_runner.specs.Print.{print_line}
 
 -- so many bytes are gathered before they are written
-abbrev pub batch : ℕ
-batch = 65536
+abbrev pub chunk : ℕ
+chunk = 65536
 
--- behind less than a batch of bytes the buffer has room for the line
+-- behind less than a chunk of bytes the buffer has room for the line
 abbrev pub HasRoomFor : Vec ℕ Global → Line → Type 0
-HasRoomFor buffer line = batch + length (print_line line) ≤ vec_capacity buffer
+HasRoomFor buffer line = chunk + length (print_line line) ≤ vec_capacity buffer
 
 abbrev pub HasRoom : Vec ℕ Global → List Line → Type 0
 HasRoom buffer lines = All (HasRoomFor buffer) lines
@@ -24,10 +24,10 @@ pub record Passes (taken_old taken_new : Option (List ℕ)) (old new : Vec ℕ G
   pub in_order : old.items ++ text ≡ written ++ new.items
   pub room : vec_capacity old ≤ vec_capacity new
 
--- What was in the buffer went to the sink, or is less than a batch and stays.
+-- What was in the buffer went to the sink, or is less than a chunk and stays.
 pub record Flushes (taken_old taken_new : Option (List ℕ)) (old new : Vec ℕ Global) : Type 0 where
   pub written : List ℕ
   pub taken : Appends taken_old taken_new written
   pub in_order : old.items ≡ written ++ new.items
   pub room : vec_capacity old ≤ vec_capacity new
-  pub short : vec_len new < batch
+  pub short : vec_len new < chunk

@@ -59,12 +59,6 @@ abbrev pub op_words : NamedOp → Op → List (List ℕ)
 op_words o (ops.Put value) = codes "put" ∷ o.family ∷ spell o.key ∷ decimal o.ts.0 ∷ spell value ∷ []
 op_words o ops.Del = codes "del" ∷ o.family ∷ spell o.key ∷ decimal o.ts.0 ∷ []
 
--- operations with a semicolon between them
-abbrev pub ops_words : List NamedOp → List (List ℕ)
-ops_words [] = []
-ops_words (o ∷ []) = op_words o o.op
-ops_words (o ∷ p ∷ os) = op_words o o.op ++ codes ";" ∷ ops_words (p ∷ os)
-
 -- the event is one whose command is built so far: a write of one operation without a sync, or a get without a snapshot
 abbrev pub IsBuilt : Event → Type 0
 IsBuilt (Write (o ∷ []) false) = Unit {0}
@@ -73,8 +67,8 @@ IsBuilt event = ⊥
 
 -- the words of an event that is built
 abbrev pub event_words : Event → List (List ℕ)
-event_words (Write os sync) = ops_words os
-event_words (Get family key t snap) = codes "get" ∷ family ∷ spell key ∷ decimal t.0 ∷ []
+event_words (Write (o ∷ []) false) = op_words o o.op
+event_words (Get family key t None) = codes "get" ∷ family ∷ spell key ∷ decimal t.0 ∷ []
 event_words event = []
 
 -- ---- replies

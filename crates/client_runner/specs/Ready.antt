@@ -18,7 +18,7 @@ abbrev pub text_of : Ready → List ℕ
 text_of r = r.buffer.items ++ print_lines r.lines.items
 
 -- the lines are those of the commands, behind the header, and the buffer has the room to write them
-pub record IsPerformed (commands : List Event) (r : Ready) : Type 0 where
+pub record IsTranscribed (commands : List Event) (r : Ready) : Type 0 where
   pub history : IsSoloHistory fresh commands r.lines.items
   pub header : r.buffer.items ≡ print_header 0 fresh.heads
   pub built : All IsBuiltLine r.lines.items

@@ -14,8 +14,8 @@ use Rattle.client_runner.specs.declared.status.Stop.TheVariants.{BadWords, NoFil
 abbrev pub file_limit : ℕ
 file_limit = 8388608
 
--- The file that stands under the path isn't there, is too long, has a first bad line, or can't be read: the host's
--- faults were before and are now. Want of memory is free.
+-- The file that stands under the path isn't there, is too long, has a first bad line, or can't be read: the count
+-- of the host's faults was `before` and is `now`. Want of memory is free.
 abbrev pub IsFileStop : Standing → ℕ → ℕ → Stop → Type 0
 IsFileStop standing before now NoFile = IsMissing standing
 IsFileStop standing before now TooLong = Told standing (λ bytes. file_limit < length bytes)

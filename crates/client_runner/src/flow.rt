@@ -30,7 +30,7 @@ impl From<AllocError> for FlowFault {
     }
 }
 
-/// All that a source has left, up to `FILE_LIMIT` bytes. It reads no further than it must to tell that there are more.
+/// All that a source has left, up to `FILE_LIMIT` bytes. It stops once it has more.
 pub fn read_whole<S: Source>(alloc: Global, source: &mut S) -> Result<Vec<u8>, FlowFault>
     ensures ok { IfOk result (λ bytes. IfSome (S.left source.old) (λ left. left ≡ bytes.items)) }
     ensures short { IfOk result (λ bytes. length bytes.items ≤ 8388608) }

@@ -14,7 +14,7 @@ use udt_disk::{Failed, Sink};
 use udt_model::{FamilyHead, Line};
 
 /// So many bytes of lines are gathered before they are written.
-const BATCH: usize = 65_536;
+const CHUNK: usize = 65_536;
 
 /// How many bytes the longest line has in print. Each line is printed for it, and once more to be written.
 fn longest_line(alloc: Global, lines: &[Line]) -> Result<usize, NoMemory>
@@ -41,7 +41,7 @@ pub fn header_with_room(
     ensures header { IfOk result (λ buffer. buffer.items ≡ header_text 0 heads.now) }
     ensures room { IfOk result (λ buffer. HasRoom buffer lines.now) }
 {
-    let Some(room) = longest_line(alloc, lines)?.checked_add(BATCH) else {
+    let Some(room) = longest_line(alloc, lines)?.checked_add(CHUNK) else {
         return Err(AllocError);
     };
     let mut buffer = Vec::new(alloc);
@@ -50,14 +50,14 @@ pub fn header_with_room(
     Ok(buffer)
 }
 
-/// Writes the buffer where it has a batch of bytes.
-fn flush_batch<K: Sink>(out: &mut K, buffer: &mut Vec<u8>) -> Result<(), Failed>
+/// Writes the buffer where it has a chunk of bytes.
+fn flush_chunk<K: Sink>(out: &mut K, buffer: &mut Vec<u8>) -> Result<(), Failed>
     ensures ok { OnOk result (Flushes (K.taken out.old) (K.taken out.new) buffer.old buffer.new) }
     ensures front { OnErr result (AppendsFront (K.taken out.old) (K.taken out.new) buffer.old.items) }
     ensures failed { OnErr result (Rose (K.faults out.old) (K.faults out.new)) }
     ensures later { K.faults out.old ≤ K.faults out.new }
 {
-    if buffer.len() < BATCH {
+    if buffer.len() < CHUNK {
         return Ok(());
     }
     write_whole(out, buffer)?;
@@ -65,7 +65,7 @@ fn flush_batch<K: Sink>(out: &mut K, buffer: &mut Vec<u8>) -> Result<(), Failed>
     Ok(())
 }
 
-/// Adds a line to the buffer, which is written first where it has a batch of bytes.
+/// Adds a line to the buffer, which is written first where it has a chunk of bytes.
 fn write_line<K: Sink>(out: &mut K, buffer: &mut Vec<u8>, line: &Line) -> Result<(), Failed>
     requires built { IsBuiltLine line.now }
     requires room { HasRoomFor buffer.old line.now }
@@ -74,7 +74,7 @@ fn write_line<K: Sink>(out: &mut K, buffer: &mut Vec<u8>, line: &Line) -> Result
     ensures failed { OnErr result (Rose (K.faults out.old) (K.faults out.new)) }
     ensures later { K.faults out.old ≤ K.faults out.new }
 {
-    flush_batch(out, buffer)?;
+    flush_chunk(out, buffer)?;
     print_line(line, buffer).unwrap();
     Ok(())
 }

@@ -231,11 +231,16 @@ fn push_event(out: &mut Vec<u8>, event: &Event) -> Result<(), NoMemory>
     ensures { Pushes out.old out.new result (followed (printed.event_words event.now)) }
 {
     match event {
-        Event::Write { ops, .. } => match ops.as_slice() {
+        Event::Write { ops, sync: false } => match ops.as_slice() {
             [op] => push_op(out, op),
             _ => unreachable!(),
         },
-        Event::Get { family, key, t, .. } => push_followed(
+        Event::Get {
+            family,
+            key,
+            t,
+            snap: None,
+        } => push_followed(
             out,
             &[
                 Word::Text(b"get"),

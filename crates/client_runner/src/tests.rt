@@ -139,6 +139,34 @@ fn byte_words_print_in_one_spelling(rt: HostRuntime) -> Result<(), Fail> {
     Ok(())
 }
 
+/// `put d K 5 v` with a key of so many bytes.
+fn put_of_key(alloc: Global, len: usize) -> Result<Vec<u8>, Fail> {
+    let mut file = Vec::from_slice(alloc, b"put d ")?;
+    file.extend_from_slice(&vec![in alloc; b'k'; len]?)?;
+    file.extend_from_slice(b" 5 v\n")?;
+    Ok(file)
+}
+
+#[test]
+fn keys_at_their_limit(rt: HostRuntime) -> Result<(), Fail> {
+    let alloc = rt.alloc();
+    let file = put_of_key(alloc, 1024)?;
+    let mut line = Vec::from_slice(alloc, b"1 c1 ")?;
+    line.extend_from_slice(&file[..file.len().saturating_sub(1)])?;
+    line.extend_from_slice(b" = ok 1\n")?;
+    assert!(rt; prints(alloc, &file, &line)?);
+    assert!(rt; refuses(alloc, &put_of_key(alloc, 1025)?, b"bad line FILE 1\n")?);
+    Ok(())
+}
+
+#[test]
+fn exit_statuses(rt: HostRuntime) {
+    assert!(rt; Status::Done.code() == 0 && Status::Usage.code() == 2);
+    assert!(rt; Status::Folder.code() == 3 && Status::DiskFault.code() == 4);
+    assert!(rt; Status::SinkFault.code() == 5 && Status::SourceFault.code() == 6);
+    assert!(rt; Status::NoMemory.code() == 7);
+}
+
 #[test]
 fn refused_files(rt: HostRuntime) -> Result<(), Fail> {
     let alloc = rt.alloc();
@@ -203,7 +231,11 @@ fn words_of_the_command_line(rt: HostRuntime) -> Result<(), Fail> {
         )?
     );
     let help = ran(alloc, &[b"--help"], b"", None, None)?;
-    assert!(rt; help.status == Status::Done && help.text.starts_with(b"udtstore: "));
+    let mut lines = help.text.split(|b| *b == b'\n');
+    assert!(rt; help.status == Status::Done);
+    assert!(rt;
+        matches!(lines.next(), Some(line) if line == b"udtstore: a key-value store whose keys carry timestamps".as_slice())
+    );
     let mut out = MemSink::new(alloc, None);
     assert!(rt; refuse_words(&mut out) == Status::Usage && out.taken() == refused);
     Ok(())

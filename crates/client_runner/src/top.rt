@@ -6,7 +6,8 @@ ghost use Rattle.client_runner.specs.Commands.{IsTry};
 ghost use Rattle.client_runner.specs.Ends.{IsAnswered, IsComplete, IsEnd, IsFileWork, IsPrinted, IsRefused, IsStopped, IsWork};
 ghost use Rattle.client_runner.specs.Output.{HasRoom};
 ghost use Rattle.client_runner.specs.Print.{IsBuilt, IsBuiltLine};
-ghost use Rattle.client_runner.specs.Ready.{IsMessage, IsPerformed, IsReady, IsReadyStop, IsTried, text_of};
+ghost use Rattle.client_runner.specs.Hosts.{StaysOrGoes};
+ghost use Rattle.client_runner.specs.Ready.{IsMessage, IsTranscribed, IsReady, IsReadyStop, IsTried, text_of};
 ghost use Rattle.client_runner.specs.Stops.{IsFileStop, file_limit, message, status_of as status_of_stop};
 
 use crate::flow::{FlowFault, read_whole, write_whole};
@@ -34,6 +35,7 @@ fn read_file<H: Host>(alloc: Global, path: &Text, host: &mut H) -> Result<Vec<u8
     ensures short { IfOk result (λ bytes. length bytes.items ≤ file_limit) }
     ensures stopped { IfErr result (IsFileStop (H.standing host.old path.now) (H.faults host.old) (H.faults host.new)) }
     ensures others { StaysBut path.now (H.standing host.old) (H.standing host.new) }
+    ensures taken { StaysOrGoes (H.standing host.old path.now) (H.standing host.new path.now) }
 {
     let Ok(opened) = host.open_source(path) else {
         return Err(Stop::SourceFault);
@@ -52,10 +54,10 @@ fn read_file<H: Host>(alloc: Global, path: &Text, host: &mut H) -> Result<Vec<u8
 }
 
 /// The transcript of commands over a store in memory, ready to be written.
-fn perform(alloc: Global, commands: Vec<Event>) -> Result<Ready, NoMemory>
+fn transcribe(alloc: Global, commands: Vec<Event>) -> Result<Ready, NoMemory>
     requires built { All IsBuilt commands.items }
     requires few { length commands.items < 2 ^ 32 - 1 }
-    ensures { IfOk result (IsPerformed commands.items) }
+    ensures { IfOk result (IsTranscribed commands.items) }
 {
     let store = PlainStore::new(alloc, fresh_heads(alloc)?);
     let lines = run(alloc, store, commands)?;
@@ -75,7 +77,7 @@ fn prepare(alloc: Global, bytes: &[u8]) -> Result<Ready, Stop>
         Err(ReadFault::BadLine { line }) => return Err(Stop::BadLine { line }),
         Err(ReadFault::NoMemory) => return Err(Stop::NoMemory),
     };
-    match perform(alloc, commands) {
+    match transcribe(alloc, commands) {
         Ok(ready) => Ok(ready),
         Err(_) => Err(Stop::NoMemory),
     }
@@ -86,6 +88,7 @@ fn try_path<H: Host>(alloc: Global, path: &Text, host: &mut H) -> Result<Ready, 
     ensures ready { IfOk result (IsTried (H.standing host.old path.now)) }
     ensures stopped { IfErr result (IsFileStop (H.standing host.old path.now) (H.faults host.old) (H.faults host.new)) }
     ensures others { StaysBut path.now (H.standing host.old) (H.standing host.new) }
+    ensures taken { StaysOrGoes (H.standing host.old path.now) (H.standing host.new path.now) }
 {
     let bytes = match read_file(alloc, path, host) {
         Ok(bytes) => bytes,
@@ -170,6 +173,7 @@ fn try_file<H: Host, K: Sink>(alloc: Global, path: &Text, host: &mut H, out: &mu
     ensures ends { IsEnd (IsFileWork (H.standing host.old path.now) (H.faults host.old) (H.faults host.new) path.now)
         result (K.taken out.old) (K.taken out.new) (Rose (K.faults out.old) (K.faults out.new)) }
     ensures others { StaysBut path.now (H.standing host.old) (H.standing host.new) }
+    ensures taken { StaysOrGoes (H.standing host.old path.now) (H.standing host.new path.now) }
 {
     match try_path(alloc, path, host) {
         Ok(ready) => say_ready(out, ready),
@@ -181,6 +185,7 @@ fn plain<H: Host, K: Sink>(alloc: Global, words: &[Text], host: &mut H, out: &mu
     ensures ends { IsEnd (IsWork words.now (H.standing host.old) (H.faults host.old) (H.faults host.new))
         result (K.taken out.old) (K.taken out.new) (Rose (K.faults out.old) (K.faults out.new)) }
     ensures others { (path : List ℕ) → (IsTry words.now path → ⊥) → H.standing host.new path ≡ H.standing host.old path }
+    ensures taken { (path : List ℕ) → IsTry words.now path → StaysOrGoes (H.standing host.old path) (H.standing host.new path) }
 {
     match command_of(words) {
         None => refuse_words(out),
@@ -192,10 +197,10 @@ fn plain<H: Host, K: Sink>(alloc: Global, words: &[Text], host: &mut H, out: &mu
 
 /// Runs the command of a command line, and answers its status.
 ///
-/// `try FILE` reads the command file under the path and prints the transcript of its commands over an empty store in
-/// memory. Where the words are no command, or the file isn't there, is too long or has a line outside the grammar, it
-/// prints one line that says so, and changes nothing else. Want of memory may come in the place of any answer, before
-/// anything is printed.
+/// `try FILE` takes the command file under the path out of the host, reads it, and prints the transcript of its commands
+/// over an empty store in memory. Where the words are no command, or the file isn't there, is too long or has a line
+/// outside the grammar, it prints one line that says so. Want of memory may come in the place of any answer to
+/// `try FILE`, and then nothing is printed. What stands under other paths stays.
 pub fn store_plain<H: Host, K: Sink>(
     alloc: Global,
     words: &[Text],
@@ -215,8 +220,9 @@ pub fn store_plain<H: Host, K: Sink>(
     ensures refused { IsRefused result words.now (K.taken out.old) (K.taken out.new) }
     ensures answered { IsAnswered result words.now (K.taken out.old) (K.taken out.new) }
 
-    // What stands under other paths stays.
+    // What stands under other paths stays, and the file stays or is taken out.
     ensures others { (path : List ℕ) → (IsTry words.now path → ⊥) → H.standing host.new path ≡ H.standing host.old path }
+    ensures taken { (path : List ℕ) → IsTry words.now path → StaysOrGoes (H.standing host.old path) (H.standing host.new path) }
 {
     plain(alloc, words, host, out)
 }

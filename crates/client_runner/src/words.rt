@@ -18,7 +18,8 @@ commands, one a line; empty lines and lines that begin with # are skipped:
   put F K T V   writes the value V of the key K at the timestamp T in the family F; try has the one family d
   del F K T     deletes the key K at the timestamp T
   get F K T     reads the value of the key K at the timestamp T
-K and V are 1 or more of A-Z a-z 0-9 _ - . / : @ + that don't begin with 0x, or 0x and hex digits.
+K and V are 1 or more of A-Z a-z 0-9 _ - . / : @ + that don't begin with 0x,
+or 0x and an even number of 0-9 a-f. T is a decimal number.
 ";
 
 /// What `--version` prints.
@@ -35,7 +36,7 @@ pub enum Command<'a> {
     Try(&'a Text),
 }
 
-/// A path is text: other bytes name no file.
+/// A word that isn't text is no part of a command.
 fn is_text(bytes: &[u8]) -> bool
     ensures { IsTrue result ↔ IsUtf8 bytes.now }
 {

@@ -73,18 +73,18 @@ fn versions(rt: HostRuntime) -> Result<(), Fail> {
     let alloc = rt.alloc();
     let put = Version {
         family: Family(3),
-        key: Key::of(alloc, b"apple")?,
-        ts: Ts(7),
-        seq: Seq(9),
-        op: Op::Put(Value::of(alloc, b"red")?),
+        key: Key::of(alloc, b"a")?,
+        ts: Ts(5),
+        seq: Seq(1),
+        op: Op::Put(Value::of(alloc, b"v")?),
     };
     let copy = put.copy()?;
     assert_eq!(rt;
         (copy.family, copy.ts, copy.seq),
-        (Family(3), Ts(7), Seq(9))
+        (Family(3), Ts(5), Seq(1))
     );
-    assert_eq!(rt; copy.key.bytes(), b"apple".as_slice());
-    assert!(rt; matches!(&copy.op, Op::Put(value) if value.bytes() == b"red".as_slice()));
+    assert_eq!(rt; copy.key.bytes(), b"a".as_slice());
+    assert!(rt; matches!(&copy.op, Op::Put(value) if value.bytes() == b"v".as_slice()));
     assert!(rt; matches!(Op::Del.copy()?, Op::Del));
     Ok(())
 }

@@ -5,6 +5,7 @@ ghost use Rattle.udt_model.specs.Versions.{is_newer, newer, newest_of, of_key, v
 ghost use Rattle.udt_model.specs.Reads.{answer_of, read, stamp_of};
 
 use crate::reply::Stamp;
+use std::alloc::Global;
 use ts_key::{Family, NoMemory, Op, Seq, Ts, Value, Version};
 
 /// What a read at or above the floor finds.
@@ -91,7 +92,9 @@ fn plain_stamp(floor: Ts, ts: Ts) -> Stamp
 }
 
 /// The read of a key at `t` that sees sequences up to `s`, over the list `w` of all versions ever written.
+/// The answer shares its value, so nothing is allocated for it today.
 pub fn plain_read(
+    _alloc: Global,
     w: &[Version],
     floor: Ts,
     family: Family,

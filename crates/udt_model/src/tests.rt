@@ -35,27 +35,27 @@ fn is_found(read: &ModelRead, wanted: &[u8], at: Stamp) -> bool {
 #[test]
 fn reads_around_the_floor(rt: HostRuntime) -> Result<(), Fail> {
     let puts = two_puts(rt.alloc())?;
-    let below = plain_read(&puts, Ts(8), Family(0), b"a", Ts(8), Seq(2))?;
+    let below = plain_read(rt.alloc(), &puts, Ts(8), Family(0), b"a", Ts(8), Seq(2))?;
     assert!(rt; is_found(&below, b"u", Stamp::Below));
-    let at = plain_read(&puts, Ts(8), Family(0), b"a", Ts(9), Seq(2))?;
+    let at = plain_read(rt.alloc(), &puts, Ts(8), Family(0), b"a", Ts(9), Seq(2))?;
     assert!(rt; is_found(&at, b"w", Stamp::At(Ts(9))));
-    let earlier = plain_read(&puts, Ts(8), Family(0), b"a", Ts(9), Seq(1))?;
+    let earlier = plain_read(rt.alloc(), &puts, Ts(8), Family(0), b"a", Ts(9), Seq(1))?;
     assert!(rt; is_found(&earlier, b"u", Stamp::Below));
     assert!(rt;
         matches!(
-            plain_read(&puts, Ts(8), Family(0), b"a", Ts(7), Seq(2))?,
+            plain_read(rt.alloc(), &puts, Ts(8), Family(0), b"a", Ts(7), Seq(2))?,
             ModelRead::Collapsed { floor: Ts(8) }
         )
     );
     assert!(rt;
         matches!(
-            plain_read(&puts, Ts(0), Family(0), b"a", Ts(4), Seq(2))?,
+            plain_read(rt.alloc(), &puts, Ts(0), Family(0), b"a", Ts(4), Seq(2))?,
             ModelRead::Told(Answer::Absent)
         )
     );
     assert!(rt;
         matches!(
-            plain_read(&puts, Ts(0), Family(1), b"a", Ts(9), Seq(2))?,
+            plain_read(rt.alloc(), &puts, Ts(0), Family(1), b"a", Ts(9), Seq(2))?,
             ModelRead::Told(Answer::Absent)
         )
     );
@@ -68,11 +68,11 @@ fn deletes_read_as_absent(rt: HostRuntime) -> Result<(), Fail> {
     versions.push(version(rt.alloc(), 9, 3, Op::Del)?)?;
     assert!(rt;
         matches!(
-            plain_read(&versions, Ts(0), Family(0), b"a", Ts(9), Seq(3))?,
+            plain_read(rt.alloc(), &versions, Ts(0), Family(0), b"a", Ts(9), Seq(3))?,
             ModelRead::Told(Answer::Absent)
         )
     );
-    let earlier = plain_read(&versions, Ts(0), Family(0), b"a", Ts(9), Seq(2))?;
+    let earlier = plain_read(rt.alloc(), &versions, Ts(0), Family(0), b"a", Ts(9), Seq(2))?;
     assert!(rt; is_found(&earlier, b"w", Stamp::At(Ts(9))));
     Ok(())
 }

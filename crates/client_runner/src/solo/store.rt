@@ -147,6 +147,7 @@ impl PlainStore {
             return Ok(Reply::Unknown);
         };
         let read = plain_read(
+            *self.versions.allocator(),
             &self.versions,
             place.floor,
             place.family,
