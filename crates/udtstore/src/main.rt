@@ -16,6 +16,11 @@ enum WordsFault {
 }
 
 impl From<TextFault> for WordsFault {
+    ghost use Rattle.std.specs.Prelude.{◌≡◌};
+    ghost use Rattle.udtstore.specs.Faults.{fault_of_word};
+
+    ghost from_gives = { λ fault e. e ≡ fault_of_word fault };
+
     fn from(fault: TextFault) -> WordsFault {
         match fault {
             TextFault::TooLong { .. } => WordsFault::Refused,
