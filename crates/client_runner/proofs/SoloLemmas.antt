@@ -1,5 +1,5 @@
 -- The history of one client, one command after another.
-use Rattle.std.proofs.Common.{◌≡◌, ℕ, ◌+◌, ◌<◌, ◌≤◌, Bool, true, false, cond, List, [], ◌∷◌, ◌++◌, length, refl, sym, ap, subst, ◌∙◌, append_assoc, inl, inr, arith}
+use Rattle.std.proofs.Common.{◌≡◌, ℕ, ◌+◌, ◌≤◌, List, [], ◌∷◌, ◌++◌, length, refl, sym, ap, subst, ◌∙◌, append_assoc, inl, inr, arith}
 use Rattle.std.specs.Prelude.{All}
 use Rattle.std.proofs.lemmas.Bool.{cases_Bool}
 use Rattle.std.proofs.lemmas.List.{length_push}
@@ -11,8 +11,8 @@ use Rattle.udt_model.specs.declared.line.Who.{Who}
 use Rattle.udt_model.specs.declared.line.Who.TheVariants.{Client}
 use Rattle.udt_model.specs.State.{State}
 use Rattle.udt_model.specs.Steps.{IsReply, after, is_step}
-use Rattle.udt_model.specs.Histories.{Point, start, IsLegal, next_mark, behind, Leads, is_same, own, IsDone, Expand, IsSoloHistory}
-use Rattle.client_runner.specs.Print.{IsBuilt, IsBuiltLine}
+use Rattle.udt_model.specs.Histories.{Point, start, IsLegal, next_mark, behind, Leads, is_same, own, Expand, IsSoloHistory}
+use Rattle.client_runner.specs.Print.{IsBuiltLine}
 use Rattle.client_runner.specs.Solo.{mark_behind}
 
 pub Leads-append : (a b c : Point) (xs ys : List Line) → Leads a xs b → Leads b ys c → Leads a (xs ++ ys) c

@@ -6,13 +6,11 @@ use Rattle.udt_disk.specs.Causes.{Rose}
 use Rattle.udt_disk.specs.Opens.{Standing, Stands, Told, IsMissing}
 use Rattle.udt_model.specs.declared.event.Event.{Event}
 use Rattle.client_runner.specs.Commands.{IsHelp, IsVersion, IsTry, IsNoCommand}
-use Rattle.client_runner.specs.Ends.{IsAnswered, IsComplete, IsEnd, IsFaultOrWant, IsFileWork, IsPrinted, IsRefused, IsStopped, IsTranscriptAt, IsWork, StopsAt, TellsStop}
-use Rattle.client_runner.specs.Flows.{AppendsFront}
+use Rattle.client_runner.specs.Ends.{IsAnswered, IsComplete, IsEnd, IsFileWork, IsPrinted, IsRefused, IsStopped, IsTranscriptAt, IsWork, StopsAt, TellsStop}
 use Rattle.client_runner.specs.Grammar.{IsBadLine, IsFile, lines_of}
-use Rattle.client_runner.specs.Print.{print_header, print_lines}
-use Rattle.client_runner.specs.Ready.{IsMessage, IsTranscribed, IsReady, IsReadyStop, IsTried, text_of}
+use Rattle.client_runner.specs.Print.{print_lines}
+use Rattle.client_runner.specs.Ready.{IsMessage, IsTranscribed, IsReady, IsReadyStop}
 use Rattle.client_runner.specs.Stops.{IsFileStop, file_limit, message, status_of}
-use Rattle.client_runner.specs.Transcripts.{IsTranscript, fresh}
 use Rattle.client_runner.specs.declared.top.Ready.{Ready}
 use Rattle.client_runner.specs.declared.status.Status.{Status}
 use Rattle.client_runner.specs.declared.status.Status.TheVariants as statuses

@@ -1,8 +1,8 @@
 -- Why a command stops before it prints what it is for.
-use Rattle.std.specs.Prelude.{◌≡◌, ℕ, ◌<◌, ◌≤◌, List, [], ◌∷◌, length, codes, Option, Some, None}
+use Rattle.std.specs.Prelude.{ℕ, ◌<◌, ◌≤◌, List, [], ◌∷◌, length, codes}
 use Rattle.std.specs.Fmt.{decimal}
 use Rattle.udt_disk.specs.Causes.{Rose}
-use Rattle.udt_disk.specs.Opens.{Standing, Stands, IsMissing, Told}
+use Rattle.udt_disk.specs.Opens.{Standing, IsMissing, Told}
 use Rattle.client_runner.specs.Grammar.{IsBadLine, lines_of}
 use Rattle.client_runner.specs.Print.{line_of}
 use Rattle.client_runner.specs.declared.status.Status.{Status}

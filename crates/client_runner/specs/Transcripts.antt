@@ -3,7 +3,6 @@ use Rattle.std.specs.Prelude.{◌≡◌, ℕ, List, [], ◌∷◌, ◌++◌, cod
 use Rattle.ts_key.specs.declared.version.Form.TheVariants.{Persist}
 use Rattle.udt_model.specs.declared.event.Event.{Event}
 use Rattle.udt_model.specs.declared.line.Line.{Line}
-use Rattle.udt_model.specs.declared.line.FamilyHead.{FamilyHead}
 use Rattle.udt_model.specs.State.{State}
 use Rattle.udt_model.specs.Histories.{IsSoloHistory}
 use Rattle.client_runner.specs.Print.{print_header, print_lines}

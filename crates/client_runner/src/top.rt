@@ -36,6 +36,7 @@ fn read_file<H: Host>(alloc: Global, path: &Text, host: &mut H) -> Result<Vec<u8
     ensures stopped { IfErr result (IsFileStop (H.standing host.old path.now) (H.faults host.old) (H.faults host.new)) }
     ensures others { StaysBut path.now (H.standing host.old) (H.standing host.new) }
     ensures taken { StaysOrGoes (H.standing host.old path.now) (H.standing host.new path.now) }
+    ensures later { H.faults host.old ≤ H.faults host.new }
 {
     let Ok(opened) = host.open_source(path) else {
         return Err(Stop::SourceFault);
@@ -89,6 +90,7 @@ fn try_path<H: Host>(alloc: Global, path: &Text, host: &mut H) -> Result<Ready, 
     ensures stopped { IfErr result (IsFileStop (H.standing host.old path.now) (H.faults host.old) (H.faults host.new)) }
     ensures others { StaysBut path.now (H.standing host.old) (H.standing host.new) }
     ensures taken { StaysOrGoes (H.standing host.old path.now) (H.standing host.new path.now) }
+    ensures later { H.faults host.old ≤ H.faults host.new }
 {
     let bytes = match read_file(alloc, path, host) {
         Ok(bytes) => bytes,
@@ -174,6 +176,7 @@ fn try_file<H: Host, K: Sink>(alloc: Global, path: &Text, host: &mut H, out: &mu
         result (K.taken out.old) (K.taken out.new) (Rose (K.faults out.old) (K.faults out.new)) }
     ensures others { StaysBut path.now (H.standing host.old) (H.standing host.new) }
     ensures taken { StaysOrGoes (H.standing host.old path.now) (H.standing host.new path.now) }
+    ensures later { H.faults host.old ≤ H.faults host.new }
 {
     match try_path(alloc, path, host) {
         Ok(ready) => say_ready(out, ready),
@@ -186,6 +189,7 @@ fn plain<H: Host, K: Sink>(alloc: Global, words: &[Text], host: &mut H, out: &mu
         result (K.taken out.old) (K.taken out.new) (Rose (K.faults out.old) (K.faults out.new)) }
     ensures others { (path : List ℕ) → (IsTry words.now path → ⊥) → H.standing host.new path ≡ H.standing host.old path }
     ensures taken { (path : List ℕ) → IsTry words.now path → StaysOrGoes (H.standing host.old path) (H.standing host.new path) }
+    ensures later { H.faults host.old ≤ H.faults host.new }
 {
     match command_of(words) {
         None => refuse_words(out),
@@ -223,6 +227,7 @@ pub fn store_plain<H: Host, K: Sink>(
     // What stands under other paths stays, and the file stays or is taken out.
     ensures others { (path : List ℕ) → (IsTry words.now path → ⊥) → H.standing host.new path ≡ H.standing host.old path }
     ensures taken { (path : List ℕ) → IsTry words.now path → StaysOrGoes (H.standing host.old path) (H.standing host.new path) }
+    ensures later { H.faults host.old ≤ H.faults host.new }
 {
     plain(alloc, words, host, out)
 }

@@ -1,29 +1,58 @@
--- The host in memory, as contracts see it.
-use Rattle.std.specs.Prelude.{ℕ, Bool, if◌then◌else◌, List, [], ◌∷◌, Option, Some, None, option_map}
-use Rattle.std.specs.Str.{bytes_eq}
-use Rattle.udt_disk.specs.Memory.{Reading}
+-- What a host in memory tells.
+use Rattle.std.specs.Prelude.{◌≡◌, ℕ, Bool, List, Option, Some, None, option_map, is_some, position}
+use Rattle.udt_disk.specs.Crash.{Image}
+use Rattle.udt_disk.specs.Causes.{plus_faults}
 use Rattle.udt_disk.specs.Opens.{Standing}
-use Rattle.udt_disk.specs.declared.memory.Place.{Place}
+use Rattle.udt_disk.specs.OpensFolder.{Holding}
+use Rattle.udt_disk.specs.Chain.{ChainLeaves, place_at, place_stands}
+use Rattle.udt_disk.specs.Memory.{Reading}
+use Rattle.udt_disk.specs.Places.{has_path, stands_in, source_of, folder_of}
+use Rattle.udt_disk.specs.declared.name.FileName.{FileName}
+use Rattle.udt_disk.specs.declared.mem_disk.MemDisk.{MemDisk}
+use Rattle.udt_disk.specs.declared.mem_host.MemHost.{MemHost}
 
--- a host: its places, the sum of the counts that were given back to it, and how many calls found no memory
-pub record Hosting : Type 0 where
-  pub places : List Place
-  pub given_back : ℕ
-  pub starved : ℕ
+-- what stands under the names of a folder
+abbrev pub contents_of : MemDisk → FileName → Image
+contents_of disk name = place_stands (place_at disk.chain name)
 
--- the place is that of the path
-abbrev pub has_path : List ℕ → Place → Bool
-has_path path place = bytes_eq place.path path
+-- its count of faults
+abbrev pub faults_of : MemDisk → ℕ
+faults_of disk = plus_faults (plus_faults disk.troubled disk.starved) disk.given_back
 
--- the source under a path
-abbrev pub source_in : List Place → List ℕ → Option Reading
-source_in [] path = None
-source_in (place ∷ places) path = if has_path path place then place.source else source_in places path
+-- a folder that was opened is clean, and has what stood there, with its count
+pub record IsOpening (opened stood : MemDisk) : Type 0 where
+  pub stands : (n : FileName) → contents_of opened n ≡ contents_of stood n
+  pub clean : (n : FileName) (c : Image) → ChainLeaves opened.chain n c → c ≡ contents_of opened n
+  pub faults : faults_of opened ≡ faults_of stood
 
--- the source that stands under a path of a host
-abbrev pub source_at : Hosting → List ℕ → Option Reading
-source_at host path = source_in host.places path
+-- a new folder is empty and clean, and its count is 0
+pub record IsNew (disk : MemDisk) : Type 0 where
+  pub stands : (n : FileName) → contents_of disk n ≡ None
+  pub clean : (n : FileName) (c : Image) → ChainLeaves disk.chain n c → c ≡ contents_of disk n
+  pub faults : faults_of disk ≡ 0
 
--- what a host tells of it
-abbrev pub standing_of : Hosting → List ℕ → Standing
-standing_of host path = Some (option_map (λ source. source.left) (source_at host path))
+-- the source that stands under a path
+abbrev pub source_at : MemHost → List ℕ → Option Reading
+source_at host path = source_of (stands_in host.places.items path)
+
+-- the folder that stands under a path
+abbrev pub folder_in : MemHost → List ℕ → Option MemDisk
+folder_in host path = folder_of (stands_in host.places.items path)
+
+-- what the host tells of them
+abbrev pub source_standing : MemHost → List ℕ → Standing
+source_standing host path = Some (option_map (λ source. source.left) (source_at host path))
+
+abbrev pub folder_standing : MemHost → List ℕ → Holding
+folder_standing host path = Some (option_map contents_of (folder_in host path))
+
+-- the path has a place
+abbrev pub has_place : MemHost → List ℕ → Bool
+has_place host path = is_some (position (has_path path) host.places.items)
+
+-- the sum of the counts that were given back to it, and how many calls found no memory
+abbrev pub given_back_to : MemHost → ℕ
+given_back_to host = host.given_back
+
+abbrev pub starved_in : MemHost → ℕ
+starved_in host = host.starved

@@ -2,17 +2,34 @@
 //! Each is a trait with a count of its faults, with a form in memory, for tests, and a form over the real system.
 #![tactic(auto)]
 
+mod chain;
+mod disk;
+mod file;
+mod history;
+mod mem_disk;
+mod mem_file;
+mod mem_host;
 mod memory;
+mod name;
+mod outcome;
 mod real;
 #[cfg(test)]
 mod tests;
 mod text;
 mod traits;
+mod trouble;
 
-pub use memory::{MemHost, MemSink, MemSource};
-pub use real::{HostSink, HostSource, RealHost};
-pub use text::{Text, TextFault};
+pub use disk::Disk;
+pub use file::DiskFile;
+pub use mem_disk::{MemDisk, MemFile};
+pub use mem_host::MemHost;
+pub use memory::{MemSink, MemSource};
+pub use name::FileName;
+pub use outcome::Outcome;
+pub use real::{HostFile, HostFolder, HostSink, HostSource, RealHost};
+pub use text::{TEXT_LIMIT, Text, TextFault};
 pub use traits::{Failed, Host, Sink, Source};
+pub use trouble::Trouble;
 
 /// Memory ran out.
 pub type NoMemory = std::alloc::AllocError;

@@ -6,9 +6,8 @@ ghost use Rattle.std.specs.Io.KnownBytes.{ReadConsumes, WriteAppends};
 ghost use Rattle.udt_disk.specs.Causes.{HasCause, plus_faults};
 ghost use Rattle.udt_disk.specs.Flows.{TakesSome};
 ghost use Rattle.udt_disk.specs.Memory.{fails_now, fails_later};
-ghost use Rattle.udt_disk.specs.Hosting.{has_path};
 
-use crate::{Failed, Host, NoMemory, Sink, Source, Text};
+use crate::{Failed, Sink, Source};
 use std::alloc::Global;
 use std::marker::Model;
 
@@ -45,6 +44,13 @@ impl MemSource {
             fails_in: fail_at,
             faults: 0,
         }
+    }
+
+    /// How often it has failed.
+    pub(crate) fn faults(&self) -> u64
+        ensures { result ≡ self.now.faults }
+    {
+        self.faults
     }
 }
 
@@ -179,118 +185,5 @@ impl Sink for MemSink {
                 Err(Failed)
             }
         }
-    }
-}
-
-/// A path of a host in memory, and the source under it. A path stays once its source is opened.
-#[derive(Drop)]
-struct Place {
-    path: Text,
-    source: Option<MemSource>,
-}
-
-/// A host over sources in memory, by their paths.
-#[derive(Drop)]
-pub struct MemHost {
-    places: Vec<Place>,
-    given_back: u64,
-    starved: u64,
-}
-
-impl Model for MemHost {
-    ghost use Rattle.udt_disk.specs.Hosting.{Hosting};
-
-    ghost Value = { Hosting };
-
-    ghost view = { λ h. record { places = h.places.items; given_back = h.given_back; starved = h.starved } };
-}
-
-impl MemHost {
-    ghost use Rattle.udt_disk.specs.Hosting.{source_at};
-
-    /// A host with nothing under any path.
-    pub fn new(alloc: Global) -> MemHost
-        ensures empty { (path : List ℕ) → source_at result path ≡ None }
-        ensures given_back { result.given_back ≡ 0 }
-        ensures starved { result.starved ≡ 0 }
-    {
-        MemHost {
-            places: Vec::new(alloc),
-            given_back: 0,
-            starved: 0,
-        }
-    }
-
-    /// Puts a source under a path, in the place of what stood there. Without memory for the path nothing changes.
-    pub fn put_source(&mut self, path: Text, source: MemSource) -> Result<(), NoMemory>
-        ensures put { OnOk result (source_at self.new path ≡ Some source) }
-        ensures others { OnOk result ((other : List ℕ) → other ≢ path → source_at self.new other ≡ source_at self.old other) }
-        ensures given_back { self.new.given_back ≡ self.old.given_back }
-        ensures starved { self.new.starved ≡ self.old.starved }
-        ensures err { OnErr result (self.new ≡ self.old) }
-    {
-        match place_of(&self.places, &path) {
-            Some(i) => self.places[i].source = Some(source),
-            None => self.places.push(Place {
-                path,
-                source: Some(source),
-            })?,
-        }
-        Ok(())
-    }
-
-    /// How many calls of the host found no memory. Those of `put_source` don't count.
-    pub fn starved(&self) -> u64
-        ensures { result ≡ self.now.starved }
-    {
-        self.starved
-    }
-}
-
-/// Which place has the path.
-fn place_of(places: &[Place], path: &Text) -> Option<usize>
-    ensures { result ≡ position (has_path path.now) places.now }
-{
-    let path = path.bytes();
-    places.iter().position(|place| place.path.bytes() == path)
-}
-
-impl Host for MemHost {
-    ghost use Rattle.std.specs.Prelude.{Some};
-    ghost use Rattle.udt_disk.specs.Opens.{Opens};
-    ghost use Rattle.udt_disk.specs.Hosting.{source_at, standing_of};
-
-    type Input = MemSource;
-
-    ghost standing = { standing_of };
-
-    ghost faults = { λ h. plus_faults h.given_back h.starved };
-
-    /// Takes no memory, and never fails.
-    fn open_source(&mut self, path: &Text) -> Result<Option<MemSource>, Failed>
-        ensures opens { Opens (λ s. Some s.left) (standing_of self.old) (standing_of self.new) path.now result }
-        ensures cause { HasCause (plus_faults self.old.given_back self.old.starved) (plus_faults self.new.given_back self.new.starved) result }
-
-        ensures source { result ≡ Ok (source_at self.old path.now) }
-        ensures gone { source_at self.new path.now ≡ None }
-        ensures others { (other : List ℕ) → other ≢ path.now → source_at self.new other ≡ source_at self.old other }
-        ensures given_back { self.new.given_back ≡ self.old.given_back }
-        ensures starved { self.new.starved ≡ self.old.starved }
-    {
-        let Some(i) = place_of(&self.places, path) else {
-            return Ok(None);
-        };
-        Ok(self.places[i].source.take())
-    }
-
-    fn close_source(&mut self, input: MemSource)
-        ensures stays { (path : List ℕ) → standing_of self.new path ≡ standing_of self.old path }
-        ensures faults { plus_faults self.new.given_back self.new.starved ≡ plus_faults (plus_faults self.old.given_back self.old.starved) input.faults }
-
-        ensures all { (path : List ℕ) → source_at self.new path ≡ source_at self.old path }
-        ensures given_back { self.new.given_back ≡ plus_faults self.old.given_back input.faults }
-        ensures starved { self.new.starved ≡ self.old.starved }
-    {
-        self.given_back = self.given_back.saturating_add(input.faults);
     }
 }

@@ -1,5 +1,4 @@
 use Rattle.std.proofs.Common.{arith}
-use Rattle.std.proofs.lemmas.List.{length-take, length-drop}
 use Rattle.std.proofs.lemmas.Result.{err_from_is_err_and}
 use Rattle.client_runner.proofs.FlowLemmas.{appends_more, front_kept}
 use Rattle.client_runner.proofs.flow.write_whole.Goals as goal

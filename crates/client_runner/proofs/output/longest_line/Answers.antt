@@ -1,4 +1,4 @@
-use Rattle.std.proofs.Common.{◌≡◌, ◌≤◌, length, ap, arith}
+use Rattle.std.proofs.Common.{◌≤◌, length, ap, arith}
 use Rattle.client_runner.specs.Print.{print_line}
 use Rattle.client_runner.proofs.OutputLemmas.{longest_more, all_lines, alone_in}
 use Rattle.client_runner.proofs.output.longest_line.Goals as goal

@@ -1,6 +1,4 @@
-use Rattle.std.proofs.Common.{List, subst, sym}
-use Rattle.udt_model.specs.declared.line.Line.{Line}
-use Rattle.client_runner.proofs.SoloLemmas.{RanSoFar, none_yet, ran_more}
+use Rattle.client_runner.proofs.SoloLemmas.{none_yet, ran_more}
 use Rattle.client_runner.proofs.solo.run.Goals as goal
 
 pub loop-command-init : goal.loop-command-init

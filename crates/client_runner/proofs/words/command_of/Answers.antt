@@ -11,5 +11,5 @@ returns c =
     let both = two_words c.args.words.now c.index-words-0-else-words-ne2.result path (omega arith) (sym c.index-words-0-else-words-ne2.is ∙ verb) in
     let at : path ≡ _ = c.index-words-1.is in (
       subst (λ (p : List ℕ). c.args.words.now ≡ codes "try" ∷ p ∷ []) (sym at) both,
-      subst IsUtf8 c.bytes-2.ensures (c.is_text.ensures.0 c.if-not-is_text.false),
+      subst IsUtf8 c.bytes-2.ensures.bytes (c.is_text.ensures.0 c.if-not-is_text.false),
     )

@@ -1,0 +1,13 @@
+-- Whether two names are one.
+use Rattle.std.specs.Prelude.{Bool, true, false, nat_eq}
+use Rattle.udt_disk.specs.declared.name.FileName.{FileName}
+use Rattle.udt_disk.specs.declared.name.FileName.TheVariants.{Manifest0, Manifest1, Current, Made, Log, Table}
+
+abbrev pub same_name : FileName → FileName → Bool
+same_name Manifest0 Manifest0 = true
+same_name Manifest1 Manifest1 = true
+same_name Current Current = true
+same_name Made Made = true
+same_name (Log a) (Log b) = nat_eq a b
+same_name (Table a) (Table b) = nat_eq a b
+same_name a b = false
