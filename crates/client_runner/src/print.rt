@@ -207,7 +207,7 @@ fn begins_hex(bytes: &[u8]) -> bool
     }
 }
 
-/// Each byte is plain. It doesn't stop at one that isn't, so that many bytes are tested at once.
+/// Each byte is plain. The loop has no early end, which compilers can turn into tests of many bytes at once.
 fn are_plain(bytes: &[u8]) -> bool
     ensures { result ≡ list_all printed.is_plain_byte bytes.now }
 {
