@@ -1,10 +1,5 @@
 pub mod FlowLemmas
+pub mod Adding
 pub mod SoloLemmas
-pub mod Pushing
-pub mod Texts
 pub mod OutputLemmas
-pub mod ReadWords
-pub mod ReadCommands
-pub mod ReadLines
-pub mod BadLines
 pub mod TopLemmas

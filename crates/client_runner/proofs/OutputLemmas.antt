@@ -9,8 +9,8 @@ use Rattle.std.proofs.lemmas.List.Elements.{All-nil, All-get_or, All-from_get_or
 use Rattle.udt_model.specs.declared.line.Line.{Line}
 use Rattle.client_runner.specs.Flows.{AppendsFront}
 use Rattle.client_runner.specs.Output.{HasRoom, HasRoomFor, Passes, Flushes}
-use Rattle.client_runner.specs.Print.{print_line, print_lines}
-use Rattle.client_runner.proofs.Texts.{flat_map-one_more, flat_map-around}
+use Rattle.client_lang.specs.Print.{print_line, print_lines}
+use Rattle.client_lang.proofs.Texts.{flat_map-one_more, flat_map-around}
 
 pub Appends-nil : (a : Option (List ℕ)) → Appends a a []
 Appends-nil None = tt

@@ -1,23 +1,26 @@
 -- What a command prints, and why it stops.
-use Rattle.std.proofs.Common.{◌≡◌, ℕ, ◌<◌, ◌≤◌, List, [], ◌∷◌, ◌++◌, length, get_or, Option, Some, None, ◌⊎◌, refl, sym, ap, subst, ◌∙◌, inl, inr, arith}
+use Rattle.std.proofs.Common.{◌≡◌, ℕ, List, [], ◌∷◌, ◌++◌, length, get_or, Option, Some, None, ◌⊎◌, refl, sym, ap, subst, ◌∙◌, inl, inr, arith}
 use Rattle.std.specs.Prelude.{codes}
 use Rattle.std.specs.Io.KnownBytes.{Appends}
 use Rattle.udt_disk.specs.Causes.{Rose}
 use Rattle.udt_disk.specs.Opens.{Standing, Stands, Told, IsMissing}
-use Rattle.udt_model.specs.declared.event.Event.{Event}
+use Rattle.client_lang.specs.declared.command.Command.{Command}
 use Rattle.client_runner.specs.Commands.{IsHelp, IsVersion, IsTry, IsNoCommand}
-use Rattle.client_runner.specs.Ends.{IsAnswered, IsComplete, IsEnd, IsFileWork, IsPrinted, IsRefused, IsStopped, IsTranscriptAt, IsWork, StopsAt, TellsStop}
-use Rattle.client_runner.specs.Grammar.{IsBadLine, IsFile, lines_of}
-use Rattle.client_runner.specs.Print.{print_lines}
-use Rattle.client_runner.specs.Ready.{IsMessage, IsTranscribed, IsReady, IsReadyStop}
-use Rattle.client_runner.specs.Stops.{IsFileStop, file_limit, message, status_of}
+use Rattle.client_runner.specs.Ends.{IsAnswered, IsComplete, IsEnd, IsFileWork, IsPrinted, IsRefused, IsStopped, IsTranscriptAt, IsWork, StopsAt, TellsFault, TellsStop}
+use Rattle.client_lang.specs.declared.grammar.lines.ReadFault.{ReadFault}
+use Rattle.client_lang.specs.declared.grammar.lines.ReadFault.TheVariants as faults
+use Rattle.client_lang.specs.Faults.{IsReadFault, Refuses}
+use Rattle.client_lang.specs.Grammar.{IsFile}
+use Rattle.client_lang.specs.Print.{print_lines}
+use Rattle.client_runner.specs.Ready.{IsMessage, IsTranscribed, IsReady, IsReadyStop, stop_of_read}
+use Rattle.client_runner.specs.Stops.{IsFileStop, message, status_of}
 use Rattle.client_runner.specs.declared.top.Ready.{Ready}
 use Rattle.client_runner.specs.declared.status.Status.{Status}
 use Rattle.client_runner.specs.declared.status.Status.TheVariants as statuses
 use Rattle.client_runner.specs.declared.status.Stop.{Stop}
-use Rattle.client_runner.specs.declared.status.Stop.TheVariants.{BadWords, NoFile, TooLong, BadLine, SourceFault, NoMemory}
+use Rattle.client_runner.specs.declared.status.Stop.TheVariants.{BadWords, NoFile, TooLong, TooMany, BadLine, SourceFault, NoMemory}
 use Rattle.client_runner.specs.declared.words.TheConstants.{HELP, VERSION}
-use Rattle.client_runner.proofs.BadLines.{none_bad, one_bad}
+use Rattle.client_lang.proofs.BadLines.{none_refused, one_refusal}
 
 -- ---- words
 
@@ -42,9 +45,9 @@ two_words (a ∷ b ∷ x ∷ words) d e len is = absurd (omega arith)
 -- ---- files
 
 -- commands that are transcribed give the transcript of a file that spells them
-pub ready_of : (bytes : List ℕ) (commands : List Event) (r : Ready) → IsFile bytes commands → ((other : List Event) → IsFile bytes other → other ≡ commands) → IsTranscribed commands r → IsReady bytes r
+pub ready_of : (bytes : List ℕ) (commands : List Command) (r : Ready) → IsFile bytes commands → ((other : List Command) → IsFile bytes other → other ≡ commands) → IsTranscribed commands r → IsReady bytes r
 ready_of bytes commands r spelled only p = record {
-  transcript = record { commands = commands; lines = r.lines.items; spelled = spelled; only = only; history = p.history; printed = ap (λ (t : List ℕ). t ++ print_lines r.lines.items) p.header };
+  transcript = record { commands = commands; lines = r.lines.items; spelled = spelled; only = only; history = p.history; sound = p.sound; printed = ap (λ (t : List ℕ). t ++ print_lines r.lines.items) p.header };
   built = p.built;
   room = p.room;
 }
@@ -55,13 +58,24 @@ told_of P None bytes stands p = tt
 told_of P (Some None) bytes stands p = absurd stands
 told_of P (Some (Some told)) bytes stands p = let same : bytes ≡ told = cc in subst P same p
 
-pub stop_of : (standing : Standing) (before now : ℕ) (bytes : List ℕ) (stop : Stop) → Stands standing (Some bytes) → length bytes ≤ file_limit → IsReadyStop bytes stop → IsFileStop standing before now stop
-stop_of standing before now bytes BadWords stands short h = absurd h
-stop_of standing before now bytes NoFile stands short h = absurd h
-stop_of standing before now bytes TooLong stands short h = absurd h
-stop_of standing before now bytes (BadLine n) stands short h = told_of (λ (b : List ℕ). (length b ≤ file_limit) × IsBadLine (lines_of b) n) standing bytes stands (short, h)
-stop_of standing before now bytes SourceFault stands short h = absurd h
-stop_of standing before now bytes NoMemory stands short h = tt
+pub stop_of : (standing : Standing) (before now : ℕ) (bytes : List ℕ) (stop : Stop) → Stands standing (Some bytes) → IsReadyStop bytes stop → IsFileStop standing before now stop
+stop_of standing before now bytes BadWords stands h = absurd h
+stop_of standing before now bytes NoFile stands h = absurd h
+stop_of standing before now bytes TooLong stands h = told_of (λ (b : List ℕ). Refuses b faults.TooLong) standing bytes stands h
+stop_of standing before now bytes (TooMany n) stands h = told_of (λ (b : List ℕ). Refuses b (faults.TooMany n)) standing bytes stands h
+stop_of standing before now bytes (BadLine n) stands h = told_of (λ (b : List ℕ). Refuses b (faults.BadLine n)) standing bytes stands h
+stop_of standing before now bytes SourceFault stands h = absurd h
+stop_of standing before now bytes NoMemory stands h = tt
+
+-- the stop of a fault of reading has its cause
+pub stop_of_fault : (bytes : List ℕ) (fault : ReadFault) → IsReadFault bytes fault → IsReadyStop bytes (stop_of_read fault)
+stop_of_fault bytes faults.TooLong (inl h) = h
+stop_of_fault bytes faults.TooLong (inr want) = absurd (cc want)
+stop_of_fault bytes (faults.TooMany n) (inl h) = h
+stop_of_fault bytes (faults.TooMany n) (inr want) = absurd (cc want)
+stop_of_fault bytes (faults.BadLine n) (inl h) = h
+stop_of_fault bytes (faults.BadLine n) (inr want) = absurd (cc want)
+stop_of_fault bytes faults.NoMemory h = tt
 
 -- the message that was said is the stop's, or that of want of memory
 pub said_stop : (standing : Standing) (before now : ℕ) (path : List ℕ) (stop : Stop) (status : Status) (text : List ℕ) → IsFileStop standing before now stop → IsMessage path stop status text → StopsAt standing before now path status text
@@ -96,64 +110,78 @@ not_told P None e h = cc e
 not_told P (Some None) e h = h
 not_told P (Some (Some b)) e h = cc e
 
--- a file in the grammar and within the limit has no stop but a fault or want of memory
-pub no_stop : (standing : Standing) (before now : ℕ) (stop : Stop) (bytes : List ℕ) (commands : List Event) → standing ≡ Some (Some bytes) → length bytes ≤ file_limit → IsFile bytes commands
+-- a fault that is told isn't that of a command file
+no_fault : (standing : Standing) (fault : ReadFault) (bytes : List ℕ) (commands : List Command) → standing ≡ Some (Some bytes) → IsFile bytes commands → Told standing (λ b. Refuses b fault) → ⊥
+no_fault standing fault bytes commands s spelled h = none_refused bytes commands fault spelled (told_bytes (λ (b : List ℕ). Refuses b fault) standing bytes s h)
+
+-- a file in the grammar has no stop but a fault or want of memory
+pub no_stop : (standing : Standing) (before now : ℕ) (stop : Stop) (bytes : List ℕ) (commands : List Command) → standing ≡ Some (Some bytes) → IsFile bytes commands
     → (Rose before now → ⊥) → IsFileStop standing before now stop → stop ≡ NoMemory
-no_stop standing before now BadWords bytes commands s short spelled quiet h = absurd h
-no_stop standing before now NoFile bytes commands s short spelled quiet h = absurd (not_missing standing bytes s h)
-no_stop standing before now TooLong bytes commands s short spelled quiet h =
-    let long = told_bytes (λ (b : List ℕ). file_limit < length b) standing bytes s h in absurd (omega arith)
-no_stop standing before now (BadLine n) bytes commands s short spelled quiet h =
-    absurd (none_bad (lines_of bytes) commands n spelled (told_bytes (λ (b : List ℕ). (length b ≤ file_limit) × IsBadLine (lines_of b) n) standing bytes s h).1)
-no_stop standing before now SourceFault bytes commands s short spelled quiet h = absurd (quiet h)
-no_stop standing before now NoMemory bytes commands s short spelled quiet h = refl
+no_stop standing before now BadWords bytes commands s spelled quiet h = absurd h
+no_stop standing before now NoFile bytes commands s spelled quiet h = absurd (not_missing standing bytes s h)
+no_stop standing before now TooLong bytes commands s spelled quiet h = absurd (no_fault standing faults.TooLong bytes commands s spelled h)
+no_stop standing before now (TooMany n) bytes commands s spelled quiet h = absurd (no_fault standing (faults.TooMany n) bytes commands s spelled h)
+no_stop standing before now (BadLine n) bytes commands s spelled quiet h = absurd (no_fault standing (faults.BadLine n) bytes commands s spelled h)
+no_stop standing before now SourceFault bytes commands s spelled quiet h = absurd (quiet h)
+no_stop standing before now NoMemory bytes commands s spelled quiet h = refl
+
+-- ---- one cause
+
+-- the cause that is told of a file: it is missing, or refused for a fault of reading
+abbrev IsCause : Standing → Stop → Type 0
+IsCause standing stop = ((stop ≡ NoFile) × (standing ≡ Some None)) ⊎ ((fault : ReadFault) × (stop ≡ stop_of_read fault) × TellsFault standing fault)
+
+cause_told : (standing : Standing) (stop : Stop) → TellsStop standing stop → IsCause standing stop
+cause_told standing NoFile t = inl (refl, t)
+cause_told standing TooLong t = inr (faults.TooLong, refl, t)
+cause_told standing (TooMany n) t = inr (faults.TooMany n, refl, t)
+cause_told standing (BadLine n) t = inr (faults.BadLine n, refl, t)
+cause_told standing BadWords t = absurd t
+cause_told standing SourceFault t = absurd t
+cause_told standing NoMemory t = absurd t
+
+-- the cause that the command met
+abbrev IsMet : Standing → Stop → Type 0
+IsMet standing stop = ((stop ≡ NoFile) × IsMissing standing) ⊎ ((fault : ReadFault) × (stop ≡ stop_of_read fault) × Told standing (λ b. Refuses b fault))
+
+-- or a fault or want of memory
+abbrev IsFault : Stop → Type 0
+IsFault stop = (status_of stop ≡ statuses.SourceFault) ⊎ (status_of stop ≡ statuses.NoMemory)
+
+cause_met : (standing : Standing) (before now : ℕ) (stop : Stop) → IsFileStop standing before now stop → IsMet standing stop ⊎ IsFault stop
+cause_met standing before now NoFile h = inl (inl (refl, h))
+cause_met standing before now TooLong h = inl (inr (faults.TooLong, refl, h))
+cause_met standing before now (TooMany n) h = inl (inr (faults.TooMany n, refl, h))
+cause_met standing before now (BadLine n) h = inl (inr (faults.BadLine n, refl, h))
+cause_met standing before now SourceFault h = inr (inl refl)
+cause_met standing before now NoMemory h = inr (inr refl)
+cause_met standing before now BadWords h = absurd h
+
+one_cause : (standing : Standing) (told stop : Stop) → IsCause standing told → IsMet standing stop → stop ≡ told
+one_cause standing told stop (inl t) (inl m) = m.0 ∙ sym t.0
+one_cause standing told stop (inl t) (inr m) = absurd (not_told (λ (b : List ℕ). Refuses b m.0) standing t.1 m.2)
+one_cause standing told stop (inr t) (inl m) = absurd (not_missing standing t.2.0 t.2.1 m.1)
+one_cause standing told stop (inr t) (inr m) =
+    let same = one_refusal t.2.0 m.0 t.0 (told_bytes (λ (b : List ℕ). Refuses b m.0) standing t.2.0 t.2.1 m.2) t.2.2 in
+    m.1 ∙ ap stop_of_read same ∙ sym t.1
 
 -- where the host tells the cause of a stop, a stop is that one, or a fault or want of memory
-pub told_stop : (standing : Standing) (before now : ℕ) (told stop : Stop) → TellsStop standing told → IsFileStop standing before now stop → (stop ≡ told) ⊎ ((status_of stop ≡ statuses.SourceFault) ⊎ (status_of stop ≡ statuses.NoMemory))
-told_stop standing before now told SourceFault t h = inr (inl refl)
-told_stop standing before now told NoMemory t h = inr (inr refl)
-told_stop standing before now told BadWords t h = absurd h
-told_stop standing before now BadWords NoFile t h = absurd t
-told_stop standing before now BadWords TooLong t h = absurd t
-told_stop standing before now BadWords (BadLine n) t h = absurd t
-told_stop standing before now SourceFault NoFile t h = absurd t
-told_stop standing before now SourceFault TooLong t h = absurd t
-told_stop standing before now SourceFault (BadLine n) t h = absurd t
-told_stop standing before now NoMemory NoFile t h = absurd t
-told_stop standing before now NoMemory TooLong t h = absurd t
-told_stop standing before now NoMemory (BadLine n) t h = absurd t
-told_stop standing before now NoFile NoFile t h = inl refl
-told_stop standing before now NoFile TooLong t h = absurd (not_told (λ (b : List ℕ). file_limit < length b) standing t h)
-told_stop standing before now NoFile (BadLine n) t h = absurd (not_told (λ (b : List ℕ). (length b ≤ file_limit) × IsBadLine (lines_of b) n) standing t h)
-told_stop standing before now TooLong NoFile t h = absurd (not_missing standing t.0 t.1 h)
-told_stop standing before now TooLong TooLong t h = inl refl
-told_stop standing before now TooLong (BadLine n) t h =
-    let b = told_bytes (λ (b : List ℕ). (length b ≤ file_limit) × IsBadLine (lines_of b) n) standing t.0 t.1 h in
-    let long = t.2 in
-    absurd (omega arith)
-told_stop standing before now (BadLine m) NoFile t h = absurd (not_missing standing t.0 t.1 h)
-told_stop standing before now (BadLine m) TooLong t h =
-    let long = told_bytes (λ (b : List ℕ). file_limit < length b) standing t.0 t.1 h in
-    let short = t.2 in
-    absurd (omega arith)
-told_stop standing before now (BadLine m) (BadLine n) t h =
-    let b = told_bytes (λ (b : List ℕ). (length b ≤ file_limit) × IsBadLine (lines_of b) n) standing t.0 t.1 h in
-    inl (ap BadLine (one_bad (lines_of t.0) n m b.1 t.3))
+pub told_stop : (standing : Standing) (before now : ℕ) (told stop : Stop) → TellsStop standing told → IsFileStop standing before now stop → (stop ≡ told) ⊎ IsFault stop
+told_stop standing before now told stop t h =
+    elim (cause_met standing before now stop h) [
+      | inl met ↦ inl (one_cause standing told stop (cause_told standing told t) met)
+      | inr fault ↦ inr fault
+    ]
 
 -- where the host tells the cause of a stop, there is no transcript
 pub no_transcript : (standing : Standing) (told : Stop) (text : List ℕ) → TellsStop standing told → IsTranscriptAt standing text → ⊥
-no_transcript standing BadWords text t w = t
-no_transcript standing SourceFault text t w = t
-no_transcript standing NoMemory text t w = t
-no_transcript standing NoFile text t w = not_standing standing w.bytes t w.stands
-no_transcript standing TooLong text t w =
-    let same = ap length (same_bytes standing t.0 w.bytes t.1 w.stands) in
-    let long = t.2 in
-    let short = w.short in
-    omega arith
-no_transcript standing (BadLine n) text t w =
-    let same = same_bytes standing t.0 w.bytes t.1 w.stands in
-    none_bad (lines_of t.0) w.transcript.commands n (subst (λ (b : List ℕ). IsFile b w.transcript.commands) same w.transcript.spelled) t.3
+no_transcript standing told text t w =
+    elim (cause_told standing told t) [
+      | inl missing ↦ not_standing standing w.bytes missing.1 w.stands
+      | inr refused ↦
+          let same = same_bytes standing refused.2.0 w.bytes refused.2.1 w.stands in
+          none_refused refused.2.0 w.transcript.commands refused.0 (subst (λ (b : List ℕ). IsFile b w.transcript.commands) same w.transcript.spelled) refused.2.2
+    ]
 
 -- ---- ends
 
@@ -162,11 +190,11 @@ printed_or : (status meant : Status) (text : List ℕ) (old new : Option (List �
 printed_or status meant text old new failed (inl p) = inl p
 printed_or status meant text old new failed (inr p) = inr (p.0, p.1)
 
-file_done : (standing : Standing) (before now : ℕ) (path : List ℕ) (meant : Status) (text bytes : List ℕ) (commands : List Event) → standing ≡ Some (Some bytes) → length bytes ≤ file_limit → IsFile bytes commands
+file_done : (standing : Standing) (before now : ℕ) (path : List ℕ) (meant : Status) (text bytes : List ℕ) (commands : List Command) → standing ≡ Some (Some bytes) → IsFile bytes commands
     → (Rose before now → ⊥) → IsFileWork standing before now path meant text → (meant ≡ statuses.Done) ⊎ (meant ≡ statuses.NoMemory)
-file_done standing before now path meant text bytes commands s short spelled quiet (inl done) = inl done.0
-file_done standing before now path meant text bytes commands s short spelled quiet (inr stops) =
-    inr (stops.status_is ∙ ap status_of (no_stop standing before now stops.stop bytes commands s short spelled quiet stops.cause))
+file_done standing before now path meant text bytes commands s spelled quiet (inl done) = inl done.0
+file_done standing before now path meant text bytes commands s spelled quiet (inr stops) =
+    inr (stops.status_is ∙ ap status_of (no_stop standing before now stops.stop bytes commands s spelled quiet stops.cause))
 
 work_of_try : (words : List (List ℕ)) (standing : List ℕ → Standing) (before now : ℕ) (meant : Status) (text path : List ℕ) → IsTry words path → IsWork words standing before now meant text → IsFileWork (standing path) before now path meant text
 work_of_try words standing before now meant text path t (inl help) = let one = help_is_one words help.0 in let two = try_is_two words path t in absurd (omega arith)
@@ -180,10 +208,10 @@ through status meant X e x = subst X (sym e) x
 
 pub is_complete : (words : List (List ℕ)) (standing : List ℕ → Standing) (before now : ℕ) (status : Status) (old new : Option (List ℕ)) (failed : Type 0)
     → IsEnd (IsWork words standing before now) status old new failed → IsComplete status words standing (Rose before now) failed
-is_complete words standing before now status old new failed e path bytes commands t s short spelled quiet calm =
+is_complete words standing before now status old new failed e path bytes commands t s spelled quiet calm =
     elim (printed_or status e.meant e.text old new failed e.printed) [
       | inl p ↦ through status e.meant (λ (x : Status). (x ≡ statuses.Done) ⊎ (x ≡ statuses.NoMemory)) p.0
-          (file_done (standing path) before now path e.meant e.text bytes commands s short spelled quiet (work_of_try words standing before now e.meant e.text path t e.work))
+          (file_done (standing path) before now path e.meant e.text bytes commands s spelled quiet (work_of_try words standing before now e.meant e.text path t e.work))
       | inr p ↦ absurd (calm p.1)
     ]
 
@@ -191,6 +219,7 @@ stop_usage : (standing : Standing) (told : Stop) → TellsStop standing told →
 stop_usage standing BadWords t = absurd t
 stop_usage standing NoFile t = refl
 stop_usage standing TooLong t = refl
+stop_usage standing (TooMany n) t = refl
 stop_usage standing (BadLine n) t = refl
 stop_usage standing SourceFault t = absurd t
 stop_usage standing NoMemory t = absurd t

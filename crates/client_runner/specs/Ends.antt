@@ -1,18 +1,21 @@
 -- What the commands print, and how they end.
-use Rattle.std.specs.Prelude.{◌≡◌, ℕ, ◌<◌, ◌≤◌, ◌⊎◌, List, [], length, Option, Some, None}
+use Rattle.std.specs.Prelude.{◌≡◌, ℕ, ◌⊎◌, List, [], Option, Some, None}
 use Rattle.std.specs.Io.KnownBytes.{Appends}
 use Rattle.udt_disk.specs.Opens.{Standing, Stands}
-use Rattle.udt_model.specs.declared.event.Event.{Event}
+use Rattle.client_lang.specs.declared.command.Command.{Command}
 use Rattle.client_runner.specs.Commands.{IsHelp, IsVersion, IsTry, IsNoCommand}
 use Rattle.client_runner.specs.Flows.{AppendsFront}
-use Rattle.client_runner.specs.Grammar.{IsBadLine, IsFile, lines_of}
-use Rattle.client_runner.specs.Stops.{file_limit, IsFileStop, message, status_of}
+use Rattle.client_lang.specs.declared.grammar.lines.ReadFault.{ReadFault}
+use Rattle.client_lang.specs.declared.grammar.lines.ReadFault.TheVariants as faults
+use Rattle.client_lang.specs.Faults.{Refuses}
+use Rattle.client_lang.specs.Grammar.{IsFile}
+use Rattle.client_runner.specs.Stops.{IsFileStop, message, status_of}
 use Rattle.client_runner.specs.Transcripts.{IsTranscript}
 use Rattle.client_runner.specs.declared.words.TheConstants.{HELP, VERSION}
 use Rattle.client_runner.specs.declared.status.Status.{Status}
 use Rattle.client_runner.specs.declared.status.Status.TheVariants as statuses
 use Rattle.client_runner.specs.declared.status.Stop.{Stop}
-use Rattle.client_runner.specs.declared.status.Stop.TheVariants.{BadWords, NoFile, TooLong, BadLine, SourceFault, NoMemory}
+use Rattle.client_runner.specs.declared.status.Stop.TheVariants.{BadWords, NoFile, TooLong, TooMany, BadLine, SourceFault, NoMemory}
 
 -- ---- what a command is to print, and its status
 
@@ -20,7 +23,6 @@ use Rattle.client_runner.specs.declared.status.Stop.TheVariants.{BadWords, NoFil
 pub record IsTranscriptAt (standing : Standing) (text : List ℕ) : Type 0 where
   pub bytes : List ℕ
   pub stands : Stands standing (Some bytes)
-  pub short : length bytes ≤ file_limit
   pub transcript : IsTranscript bytes text
 
 -- the text is the message of a stop at the file of this path, and the status is the stop's
@@ -66,14 +68,19 @@ IsFaultOrWant status = (status ≡ statuses.SinkFault) ⊎ ((status ≡ statuses
 -- then the command is done, or memory runs out.
 abbrev pub IsComplete : Status → List (List ℕ) → (List ℕ → Standing) → (host_failed : Type 0) → (sink_failed : Type 0) → Type 0
 IsComplete status words standing host_failed sink_failed =
-    (file bytes : List ℕ) (commands : List Event) → IsTry words file → standing file ≡ Some (Some bytes) → length bytes ≤ file_limit → IsFile bytes commands
+    (file bytes : List ℕ) (commands : List Command) → IsTry words file → standing file ≡ Some (Some bytes) → IsFile bytes commands
     → (host_failed → ⊥) → (sink_failed → ⊥) → (status ≡ statuses.Done) ⊎ (status ≡ statuses.NoMemory)
+
+-- the host tells of bytes that are refused for this fault
+abbrev pub TellsFault : Standing → ReadFault → Type 0
+TellsFault standing fault = (bytes : List ℕ) × (standing ≡ Some (Some bytes)) × Refuses bytes fault
 
 -- the host tells the cause of this stop
 abbrev pub TellsStop : Standing → Stop → Type 0
 TellsStop standing NoFile = standing ≡ Some None
-TellsStop standing TooLong = (bytes : List ℕ) × (standing ≡ Some (Some bytes)) × (file_limit < length bytes)
-TellsStop standing (BadLine n) = (bytes : List ℕ) × (standing ≡ Some (Some bytes)) × (length bytes ≤ file_limit) × IsBadLine (lines_of bytes) n
+TellsStop standing TooLong = TellsFault standing faults.TooLong
+TellsStop standing (TooMany n) = TellsFault standing (faults.TooMany n)
+TellsStop standing (BadLine n) = TellsFault standing (faults.BadLine n)
 TellsStop standing BadWords = ⊥
 TellsStop standing SourceFault = ⊥
 TellsStop standing NoMemory = ⊥

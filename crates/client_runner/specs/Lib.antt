@@ -1,8 +1,5 @@
-pub mod Print
-pub mod Words
-pub mod Grammar
-pub mod Targets
-pub mod Faults
+pub mod Expand
+pub mod Adding
 pub mod Transcripts
 pub mod Flows
 pub mod Output

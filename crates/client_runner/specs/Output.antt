@@ -4,7 +4,7 @@ use Rattle.std.specs.declared.vec.Vec.{Vec}
 use Rattle.std.specs.declared.alloc.Global.{Global}
 use Rattle.std.specs.Io.KnownBytes.{Appends}
 use Rattle.udt_model.specs.declared.line.Line.{Line}
-use Rattle.client_runner.specs.Print.{print_line}
+use Rattle.client_lang.specs.Print.{print_line}
 
 -- so many bytes are gathered before they are written
 abbrev pub chunk : ℕ

@@ -1,25 +1,29 @@
 -- Transcripts that wait to be written, and why there is none.
-use Rattle.std.specs.Prelude.{◌≡◌, ◌⊎◌, ℕ, ◌≤◌, List, ◌++◌, All, length, Some}
+use Rattle.std.specs.Prelude.{◌≡◌, ◌⊎◌, ℕ, List, ◌++◌, All, Some}
 use Rattle.udt_disk.specs.Opens.{Standing, Stands}
-use Rattle.udt_model.specs.declared.event.Event.{Event}
-use Rattle.udt_model.specs.Histories.{IsSoloHistory}
-use Rattle.client_runner.specs.Grammar.{IsBadLine, lines_of}
+use Rattle.client_lang.specs.declared.command.Command.{Command}
+use Rattle.udt_model.specs.Histories.{IsSound}
+use Rattle.client_runner.specs.Expand.{IsSoloHistory}
+use Rattle.client_lang.specs.declared.grammar.lines.ReadFault.{ReadFault}
+use Rattle.client_lang.specs.declared.grammar.lines.ReadFault.TheVariants as faults
+use Rattle.client_lang.specs.Faults.{Refuses}
 use Rattle.client_runner.specs.Output.{HasRoom}
-use Rattle.client_runner.specs.Print.{IsBuiltLine, print_header, print_lines}
-use Rattle.client_runner.specs.Stops.{file_limit, message, status_of}
+use Rattle.client_lang.specs.Print.{IsBuiltLine, print_header, print_lines}
+use Rattle.client_runner.specs.Stops.{message, status_of}
 use Rattle.client_runner.specs.Transcripts.{IsTranscript, fresh}
 use Rattle.client_runner.specs.declared.top.Ready.{Ready}
 use Rattle.client_runner.specs.declared.status.Status.{Status}
 use Rattle.client_runner.specs.declared.status.Stop.{Stop}
-use Rattle.client_runner.specs.declared.status.Stop.TheVariants.{BadWords, NoFile, TooLong, BadLine, SourceFault, NoMemory}
+use Rattle.client_runner.specs.declared.status.Stop.TheVariants.{BadWords, NoFile, TooLong, TooMany, BadLine, SourceFault, NoMemory}
 
 -- the whole text
 abbrev pub text_of : Ready → List ℕ
 text_of r = r.buffer.items ++ print_lines r.lines.items
 
 -- the lines are those of the commands, behind the header, and the buffer has the room to write them
-pub record IsTranscribed (commands : List Event) (r : Ready) : Type 0 where
+pub record IsTranscribed (commands : List Command) (r : Ready) : Type 0 where
   pub history : IsSoloHistory fresh commands r.lines.items
+  pub sound : All IsSound r.lines.items
   pub header : r.buffer.items ≡ print_header 0 fresh.heads
   pub built : All IsBuiltLine r.lines.items
   pub room : HasRoom r.buffer r.lines.items
@@ -34,16 +38,23 @@ pub record IsReady (bytes : List ℕ) (r : Ready) : Type 0 where
 pub record IsTried (standing : Standing) (r : Ready) : Type 0 where
   pub bytes : List ℕ
   pub stands : Stands standing (Some bytes)
-  pub short : length bytes ≤ file_limit
   pub ready : IsReady bytes r
 
--- these bytes have a first bad line; want of memory is free
+-- the stop of a fault of reading
+abbrev pub stop_of_read : ReadFault → Stop
+stop_of_read (faults.BadLine n) = BadLine n
+stop_of_read (faults.TooMany n) = TooMany n
+stop_of_read faults.TooLong = TooLong
+stop_of_read faults.NoMemory = NoMemory
+
+-- these bytes are no command file; want of memory is free
 abbrev pub IsReadyStop : List ℕ → Stop → Type 0
-IsReadyStop bytes (BadLine n) = IsBadLine (lines_of bytes) n
+IsReadyStop bytes TooLong = Refuses bytes faults.TooLong
+IsReadyStop bytes (TooMany n) = Refuses bytes (faults.TooMany n)
+IsReadyStop bytes (BadLine n) = Refuses bytes (faults.BadLine n)
 IsReadyStop bytes NoMemory = Unit {0}
 IsReadyStop bytes BadWords = ⊥
 IsReadyStop bytes NoFile = ⊥
-IsReadyStop bytes TooLong = ⊥
 IsReadyStop bytes SourceFault = ⊥
 
 -- the status and the message of a stop, or of want of memory in its place

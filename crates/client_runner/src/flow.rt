@@ -5,11 +5,9 @@ ghost use Rattle.udt_disk.specs.Causes.{Rose};
 ghost use Rattle.client_runner.specs.Flows.{AppendsFront};
 ghost use Rattle.client_runner.specs.declared.flow.FlowFault.TheVariants.{NoMemory};
 
+use client_lang::FILE_LIMIT;
 use std::alloc::{AllocError, Global};
 use udt_disk::{Failed, Sink, Source};
-
-/// The most bytes that a command file has.
-pub const FILE_LIMIT: usize = 8_388_608;
 
 /// Why a source isn't read whole.
 #[derive(Clone, Copy, Debug, PartialEq, Eq)]

@@ -5,9 +5,7 @@
 #![tactic(auto)]
 
 mod flow;
-mod grammar;
 mod output;
-mod print;
 mod solo;
 mod status;
 mod top;

@@ -4,10 +4,10 @@ ghost use Rattle.std.specs.Io.KnownBytes.{Appends};
 ghost use Rattle.udt_disk.specs.Causes.{Rose};
 ghost use Rattle.client_runner.specs.Flows.{AppendsFront};
 ghost use Rattle.client_runner.specs.Output.{HasRoom, HasRoomFor, Passes, Flushes};
-ghost use Rattle.client_runner.specs.Print.{IsBuiltLine, print_line as line_text, print_lines as lines_text, print_header as header_text};
+ghost use Rattle.client_lang.specs.Print.{IsBuiltLine, print_line as line_text, print_lines as lines_text, print_header as header_text};
 
 use crate::flow::write_whole;
-use crate::print::{print_header, print_line};
+use client_lang::{print_header, print_line};
 use std::alloc::{AllocError, Global};
 use ts_key::NoMemory;
 use udt_disk::{Failed, Sink};

@@ -48,6 +48,8 @@ pub enum Stop {
     NoFile,
     /// The file has more bytes than a command file may have.
     TooLong,
+    /// This line, counted from 1, has one command more than a command file may have.
+    TooMany { line: u64 },
     /// This line, counted from 1, is the first that is outside the grammar.
     BadLine { line: u64 },
     /// The file couldn't be read.

@@ -139,6 +139,81 @@ fn byte_words_print_in_one_spelling(rt: HostRuntime) -> Result<(), Fail> {
     Ok(())
 }
 
+#[test]
+fn batches_and_syncs(rt: HostRuntime) -> Result<(), Fail> {
+    let alloc = rt.alloc();
+    // rising, falling and equal timestamps of one key in a batch
+    assert!(rt;
+        prints(
+            alloc,
+            b"put d a 5 v ; put d a 7 w\nget d a 6\nget d a 7\n",
+            b"1 c1 put d a 5 v ; put d a 7 w = ok 2\n2 c1 get d a 6 = found v 5\n3 c1 get d a 7 = found w 7\n"
+        )?
+    );
+    assert!(rt;
+        prints(
+            alloc,
+            b"put d b 9 u\nput d b 9 v ; put d a 7 w ; put d a 6 x sync\nget d a 9\nget d b 9\n",
+            b"1 c1 put d b 9 u = ok 1\n2 c1 put d b 9 v ; put d a 7 w ; put d a 6 x sync = fell 3 7\n3 c1 get d a 9 = absent\n4 c1 get d b 9 = found u 9\n"
+        )?
+    );
+    assert!(rt;
+        prints(
+            alloc,
+            b"put d a 5 v ; put d a 5 w\nget d a 5\nput d b 6 u ; put d a 4 t\n",
+            b"1 c1 put d a 5 v ; put d a 5 w = ok 2\n2 c1 get d a 5 = found w 5\n3 c1 put d b 6 u ; put d a 4 t = fell 2 5\n"
+        )?
+    );
+    // `unknown` stands before `fell`
+    assert!(rt;
+        prints(
+            alloc,
+            b"put d a 5 v ; put d a 4 w ; del e a 6\nget d a 5\n",
+            b"1 c1 put d a 5 v ; put d a 4 w ; del e a 6 = unknown\n2 c1 get d a 5 = absent\n"
+        )?
+    );
+    assert!(rt;
+        prints(
+            alloc,
+            b"sync\ndel d a 5 sync\nput d a 5 sync\nsync",
+            b"1 c1 sync = ok\n2 c1 del d a 5 sync = ok 1\n3 c1 put d a 5 sync = ok 2\n4 c1 sync = ok\n"
+        )?
+    );
+    assert!(rt; refuses(alloc, b"put d a 5 v ;put d a 6 w\n", b"bad line FILE 1\n")?);
+    assert!(rt; refuses(alloc, b"sync\nput d a 5 v ;\n", b"bad line FILE 2\n")?);
+    Ok(())
+}
+
+/// The text so many times.
+fn repeated(alloc: Global, text: &[u8], count: usize) -> Result<Vec<u8>, Fail> {
+    let mut bytes = Vec::new(alloc);
+    for _ in 0..count {
+        bytes.extend_from_slice(text)?;
+    }
+    Ok(bytes)
+}
+
+#[test]
+fn limits_of_batches_and_files(rt: HostRuntime) -> Result<(), Fail> {
+    let alloc = rt.alloc();
+    let mut most = repeated(alloc, b"put d a 5 v ; ", 63)?;
+    most.extend_from_slice(b"put d a 5 v")?;
+    let mut line = Vec::from_slice(alloc, b"1 c1 ")?;
+    line.extend_from_slice(&most)?;
+    line.extend_from_slice(b" = ok 64\n")?;
+    assert!(rt; prints(alloc, &most, &line)?);
+    most.extend_from_slice(b" ; del d a 6")?;
+    assert!(rt; refuses(alloc, &most, b"bad line FILE 1\n")?);
+    let mut syncs = repeated(alloc, b"sync\n", 100_000)?;
+    let answered = ran(alloc, &[b"try", b"FILE"], &syncs, None, None)?;
+    assert!(rt;
+        answered.status == Status::Done && answered.text.ends_with(b"\n100000 c1 sync = ok\n")
+    );
+    syncs.extend_from_slice(b"sync\n")?;
+    assert!(rt; refuses(alloc, &syncs, b"too many FILE 100001\n")?);
+    Ok(())
+}
+
 /// `put d K 5 v` with a key of so many bytes.
 fn put_of_key(alloc: Global, len: usize) -> Result<Vec<u8>, Fail> {
     let mut file = Vec::from_slice(alloc, b"put d ")?;

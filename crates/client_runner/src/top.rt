@@ -5,22 +5,21 @@ ghost use Rattle.udt_disk.specs.Opens.{Stands, StaysBut};
 ghost use Rattle.client_runner.specs.Commands.{IsTry};
 ghost use Rattle.client_runner.specs.Ends.{IsAnswered, IsComplete, IsEnd, IsFileWork, IsPrinted, IsRefused, IsStopped, IsWork};
 ghost use Rattle.client_runner.specs.Output.{HasRoom};
-ghost use Rattle.client_runner.specs.Print.{IsBuilt, IsBuiltLine};
+ghost use Rattle.client_lang.specs.Print.{IsBuiltCommand, IsBuiltLine};
 ghost use Rattle.client_runner.specs.Hosts.{StaysOrGoes};
-ghost use Rattle.client_runner.specs.Ready.{IsMessage, IsTranscribed, IsReady, IsReadyStop, IsTried, text_of};
-ghost use Rattle.client_runner.specs.Stops.{IsFileStop, file_limit, message, status_of as status_of_stop};
+ghost use Rattle.client_runner.specs.Ready.{IsMessage, IsTranscribed, IsReady, IsReadyStop, IsTried, stop_of_read, text_of};
+ghost use Rattle.client_runner.specs.Stops.{IsFileStop, message, status_of as status_of_stop};
 
 use crate::flow::{FlowFault, read_whole, write_whole};
-use crate::grammar::{ReadFault, read_client};
 use crate::output::{header_with_room, write_lines};
-use crate::print::{Word, push_line};
 use crate::solo::{PlainStore, fresh_heads, run};
 use crate::status::{Status, Stop};
 use crate::words::{Command, HELP, VERSION, command_of};
+use client_lang::{ReadFault, Word, push_line, read_client};
 use std::alloc::Global;
 use ts_key::NoMemory;
 use udt_disk::{Host, Sink, Text};
-use udt_model::{Event, Line};
+use udt_model::Line;
 
 /// A transcript that waits to be written: the header in a buffer that has the room for the lines.
 #[derive(Drop)]
@@ -32,7 +31,6 @@ struct Ready {
 /// The bytes of the file under a path.
 fn read_file<H: Host>(alloc: Global, path: &Text, host: &mut H) -> Result<Vec<u8>, Stop>
     ensures ok { IfOk result (λ bytes. Stands (H.standing host.old path.now) (Some bytes.items)) }
-    ensures short { IfOk result (λ bytes. length bytes.items ≤ file_limit) }
     ensures stopped { IfErr result (IsFileStop (H.standing host.old path.now) (H.faults host.old) (H.faults host.new)) }
     ensures others { StaysBut path.now (H.standing host.old) (H.standing host.new) }
     ensures taken { StaysOrGoes (H.standing host.old path.now) (H.standing host.new path.now) }
@@ -55,8 +53,8 @@ fn read_file<H: Host>(alloc: Global, path: &Text, host: &mut H) -> Result<Vec<u8
 }
 
 /// The transcript of commands over a store in memory, ready to be written.
-fn transcribe(alloc: Global, commands: Vec<Event>) -> Result<Ready, NoMemory>
-    requires built { All IsBuilt commands.items }
+fn transcribe(alloc: Global, commands: Vec<client_lang::Command>) -> Result<Ready, NoMemory>
+    requires built { All IsBuiltCommand commands.items }
     requires few { length commands.items < 2 ^ 32 - 1 }
     ensures { IfOk result (IsTranscribed commands.items) }
 {
@@ -67,16 +65,25 @@ fn transcribe(alloc: Global, commands: Vec<Event>) -> Result<Ready, NoMemory>
     Ok(Ready { buffer, lines })
 }
 
+fn stop_of_fault(fault: ReadFault) -> Stop
+    ensures { result ≡ stop_of_read fault }
+{
+    match fault {
+        ReadFault::BadLine { line } => Stop::BadLine { line },
+        ReadFault::TooMany { line } => Stop::TooMany { line },
+        ReadFault::TooLong => Stop::TooLong,
+        ReadFault::NoMemory => Stop::NoMemory,
+    }
+}
+
 /// The transcript of a command file, ready to be written.
 fn prepare(alloc: Global, bytes: &[u8]) -> Result<Ready, Stop>
-    requires { length bytes.now ≤ file_limit }
     ensures ready { IfOk result (IsReady bytes.now) }
     ensures stopped { IfErr result (IsReadyStop bytes.now) }
 {
     let commands = match read_client(alloc, bytes) {
         Ok(commands) => commands,
-        Err(ReadFault::BadLine { line }) => return Err(Stop::BadLine { line }),
-        Err(ReadFault::NoMemory) => return Err(Stop::NoMemory),
+        Err(fault) => return Err(stop_of_fault(fault)),
     };
     match transcribe(alloc, commands) {
         Ok(ready) => Ok(ready),
@@ -105,7 +112,11 @@ fn status_of(stop: Stop) -> Status
     match stop {
         Stop::SourceFault => Status::SourceFault,
         Stop::NoMemory => Status::NoMemory,
-        Stop::BadWords | Stop::NoFile | Stop::TooLong | Stop::BadLine { .. } => Status::Usage,
+        Stop::BadWords
+        | Stop::NoFile
+        | Stop::TooLong
+        | Stop::TooMany { .. }
+        | Stop::BadLine { .. } => Status::Usage,
     }
 }
 
@@ -117,6 +128,14 @@ fn push_message(text: &mut Vec<u8>, path: &[u8], stop: Stop) -> Result<(), NoMem
         Stop::BadWords => push_line(text, &[Word::Text(b"bad words")]),
         Stop::NoFile => push_line(text, &[Word::Text(b"no file"), Word::Text(path)]),
         Stop::TooLong => push_line(text, &[Word::Text(b"too long"), Word::Text(path)]),
+        Stop::TooMany { line } => push_line(
+            text,
+            &[
+                Word::Text(b"too many"),
+                Word::Text(path),
+                Word::Number(line),
+            ],
+        ),
         Stop::BadLine { line } => push_line(
             text,
             &[
@@ -202,8 +221,8 @@ fn plain<H: Host, K: Sink>(alloc: Global, words: &[Text], host: &mut H, out: &mu
 /// Runs the command of a command line, and answers its status.
 ///
 /// `try FILE` takes the command file under the path out of the host, reads it, and prints the transcript of its commands
-/// over an empty store in memory. Where the words are no command, or the file isn't there, is too long or has a line
-/// outside the grammar, it prints one line that says so. Want of memory may come in the place of any answer to
+/// over an empty store in memory. Where the words are no command, or the file isn't there, is too long, has too many
+/// commands or a line outside the grammar, it prints one line that says so. Want of memory may come in the place of any answer to
 /// `try FILE`, and then nothing is printed. What stands under other paths stays.
 pub fn store_plain<H: Host, K: Sink>(
     alloc: Global,

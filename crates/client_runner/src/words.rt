@@ -18,6 +18,9 @@ commands, one a line; empty lines and lines that begin with # are skipped:
   put F K T V   writes the value V of the key K at the timestamp T in the family F; try has the one family d
   del F K T     deletes the key K at the timestamp T
   get F K T     reads the value of the key K at the timestamp T
+  sync          puts every write on the disk
+1 to 64 puts and dels with ; as a word between them are one write, which is taken whole or not at all.
+The word sync behind a write puts it on the disk before its reply.
 K and V are 1 or more of A-Z a-z 0-9 _ - . / : @ + that don't begin with 0x,
 or 0x and an even number of 0-9 a-f. T is a decimal number.
 ";

@@ -4,5 +4,10 @@ pub mod Places
 pub mod Joints
 pub mod Moments
 pub mod Histories
-pub mod Chains
+pub mod Tries
+pub mod Trees
+pub mod Directories
+pub mod Births
 pub mod AfterCrashes
+pub mod TouchLemmas
+pub mod Runs

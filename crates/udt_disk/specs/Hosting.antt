@@ -1,10 +1,11 @@
 -- What a host in memory tells.
-use Rattle.std.specs.Prelude.{◌≡◌, ℕ, Bool, List, Option, Some, None, option_map, is_some, position}
+use Rattle.std.specs.Prelude.{◌≡◌, ℕ, Bool, true, List, Option, Some, None, option_map, is_some, position}
 use Rattle.udt_disk.specs.Crash.{Image}
 use Rattle.udt_disk.specs.Causes.{plus_faults}
 use Rattle.udt_disk.specs.Opens.{Standing}
 use Rattle.udt_disk.specs.OpensFolder.{Holding}
-use Rattle.udt_disk.specs.Chain.{ChainLeaves, place_at, place_stands}
+use Rattle.udt_disk.specs.Files.{place_stands}
+use Rattle.udt_disk.specs.Directory.{NameLeaves, place_at}
 use Rattle.udt_disk.specs.Memory.{Reading}
 use Rattle.udt_disk.specs.Places.{has_path, stands_in, source_of, folder_of}
 use Rattle.udt_disk.specs.declared.name.FileName.{FileName}
@@ -13,7 +14,7 @@ use Rattle.udt_disk.specs.declared.mem_host.MemHost.{MemHost}
 
 -- what stands under the names of a folder
 abbrev pub contents_of : MemDisk → FileName → Image
-contents_of disk name = place_stands (place_at disk.chain name)
+contents_of disk name = place_stands (place_at disk.directory name)
 
 -- its count of faults
 abbrev pub faults_of : MemDisk → ℕ
@@ -22,13 +23,13 @@ faults_of disk = plus_faults (plus_faults disk.troubled disk.starved) disk.given
 -- a folder that was opened is clean, and has what stood there, with its count
 pub record IsOpening (opened stood : MemDisk) : Type 0 where
   pub stands : (n : FileName) → contents_of opened n ≡ contents_of stood n
-  pub clean : (n : FileName) (c : Image) → ChainLeaves opened.chain n c → c ≡ contents_of opened n
+  pub clean : (n : FileName) (c : Image) → NameLeaves opened.directory n c → c ≡ contents_of opened n
   pub faults : faults_of opened ≡ faults_of stood
 
 -- a new folder is empty and clean, and its count is 0
 pub record IsNew (disk : MemDisk) : Type 0 where
   pub stands : (n : FileName) → contents_of disk n ≡ None
-  pub clean : (n : FileName) (c : Image) → ChainLeaves disk.chain n c → c ≡ contents_of disk n
+  pub clean : (n : FileName) (c : Image) → NameLeaves disk.directory n c → c ≡ contents_of disk n
   pub faults : faults_of disk ≡ 0
 
 -- the source that stands under a path
@@ -46,9 +47,21 @@ source_standing host path = Some (option_map (λ source. source.left) (source_at
 abbrev pub folder_standing : MemHost → List ℕ → Holding
 folder_standing host path = Some (option_map contents_of (folder_in host path))
 
+-- what a crash may leave of a folder, if there is one
+abbrev pub leaves_of : Option MemDisk → FileName → Image → Type 0
+leaves_of None n c = ⊥
+leaves_of (Some disk) n c = NameLeaves disk.directory n c
+
+abbrev pub folder_leaves : MemHost → List ℕ → FileName → Image → Type 0
+folder_leaves host path = leaves_of (folder_in host path)
+
 -- the path has a place
 abbrev pub has_place : MemHost → List ℕ → Bool
 has_place host path = is_some (position (has_path path) host.places.items)
+
+-- its folders keep the model of crashes
+abbrev pub keeps_model : MemHost → Bool
+keeps_model host = true
 
 -- the sum of the counts that were given back to it, and how many calls found no memory
 abbrev pub given_back_to : MemHost → ℕ

@@ -17,4 +17,4 @@ file_starved file = file.data.starved
 
 -- what the outcome leaves under a name
 abbrev pub left_by : Outcome → MemDisk → FileName → Image
-left_by outcome disk name = crash_image outcome disk.chain name
+left_by outcome disk name = crash_image outcome disk.directory name

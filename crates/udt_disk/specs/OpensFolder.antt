@@ -1,6 +1,6 @@
 -- What folder stands under the paths of a host, and what it means to open one.
 use Rattle.std.specs.Prelude.{◌≡◌, ◌≢◌, ℕ, Bool, false, List, ⊤, IsTrue, Option, Some, None, Result, Ok, Err}
-use Rattle.udt_disk.specs.Crash.{Image}
+use Rattle.udt_disk.specs.Crash.{Image, NoMore}
 use Rattle.udt_disk.specs.declared.name.FileName.{FileName}
 
 -- what folder stands under a path: None where it isn't told, Some None where there is none, else what stands under its names
@@ -30,6 +30,13 @@ KeepsFolders old new = (path : List ℕ) → new path ≡ old path
 -- under every other path stands the folder that stood there
 abbrev pub KeepsFoldersBut : List ℕ → (List ℕ → Holding) → (List ℕ → Holding) → Type 0
 KeepsFoldersBut path old new = (other : List ℕ) → other ≢ path → new other ≡ old other
+
+-- a crash leaves no more of the folders that stand under each path, or under every other path
+abbrev pub LeavesNoMore : (List ℕ → FileName → Image → Type 0) → (List ℕ → FileName → Image → Type 0) → Type 0
+LeavesNoMore old new = (path : List ℕ) (n : FileName) → NoMore (old path n) (new path n)
+
+abbrev pub LeavesNoMoreBut : List ℕ → (List ℕ → FileName → Image → Type 0) → (List ℕ → FileName → Image → Type 0) → Type 0
+LeavesNoMoreBut path old new = (other : List ℕ) (n : FileName) → other ≢ path → NoMore (old other n) (new other n)
 
 -- None comes exactly where no folder stands there and none is to be made
 abbrev pub OpensFolder : {D E : Type 0} → (D → Bool) → (D → ℕ) → (D → FileName → Image) → (List ℕ → Holding) → (List ℕ → Holding) → List ℕ → Bool → Result (Option D) E → Type 0

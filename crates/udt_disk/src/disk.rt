@@ -30,7 +30,7 @@ pub trait Disk: Send {
     /// names nothing.
     ghost may_leave: { Self → NameOf → Image → Type 0 };
 
-    /// The moment, as a number that doesn't fall. The disk counts its own calls.
+    /// The moment, as a number that doesn't fall. It rises at least where a file is given back.
     ghost moment: { Self → ℕ };
 
     /// What a crash at some moment from that one on might have left under a name, unless its file was held then.

@@ -2,7 +2,7 @@
 //! Each is a trait with a count of its faults, with a form in memory, for tests, and a form over the real system.
 #![tactic(auto)]
 
-mod chain;
+mod directory;
 mod disk;
 mod file;
 mod history;
@@ -17,6 +17,7 @@ mod real;
 mod tests;
 mod text;
 mod traits;
+mod tree;
 mod trouble;
 
 pub use disk::Disk;

@@ -1,15 +1,17 @@
-ghost use Rattle.std.specs.Prelude.{◌≡◌, ◌≢◌, ◌⊎◌, ℕ, true, List, reverse, Option, Some, None, IfOk, IfSome, OnOk, OnErr, MatchOption};
+ghost use Rattle.std.specs.Prelude.{◌≡◌, ◌≢◌, ◌⊎◌, ◌↔◌, IsErr, IsTrue, IfNone, OnSome, ℕ, ◌+◌, ◌-◌, ◌^◌, ◌≤◌, length, take, drop, true, List, reverse, Option, Some, None, IfOk, IfSome, OnOk, OnErr, MatchOption};
 ghost use Rattle.std.proofs.Common.{refl, inl};
 ghost use Rattle.udt_disk.specs.Causes.{plus_faults};
-ghost use Rattle.udt_disk.specs.History.{counts_since, only_since};
-ghost use Rattle.udt_disk.specs.Chain.{Put, IsFresh, LeavesBirth, ChainLeaves, place_at, place_stands, file_stays};
-ghost use Rattle.udt_disk.specs.AfterCrash.{bytes_of};
+ghost use Rattle.udt_disk.specs.History.{LeftSince, counts_since, only_since};
+ghost use Rattle.udt_disk.specs.Files.{FileLeaves, IsFresh, LeavesBirth, place_stands, file_stays, bytes_of};
+ghost use Rattle.udt_disk.specs.Crashed.{emptied_by};
+ghost use Rattle.udt_disk.specs.Directory.{Made, NameLeaves, place_at};
 ghost use Rattle.udt_disk.specs.Crash.{Image};
-ghost use Rattle.udt_disk.specs.declared.chain.Place.TheVariants.{Home, Out};
+ghost use Rattle.udt_disk.specs.declared.tree.Place.TheVariants.{Home, Out};
 ghost use Rattle.udt_disk.specs.declared.name.FileName.{FileName as NameOf};
 
-use crate::chain::{Birth, Chain, Place};
+use crate::directory::{Directory, Room, new_fork};
 use crate::mem_file::FileData;
+use crate::tree::Birth;
 use crate::trouble::{count_call, count_calls};
 use crate::{Disk, DiskFile, Failed, FileName, NoMemory, Outcome, Trouble};
 use std::alloc::Global;
@@ -18,11 +20,14 @@ use std::alloc::Global;
 #[derive(Drop)]
 pub struct MemFile {
     data: FileData,
-    room: Box<Chain>,
+    room: Room,
 }
 
 impl MemFile {
     ghost use Rattle.udt_disk.specs.MemForms.{file_starved};
+    ghost use Rattle.udt_disk.specs.Tried.{FileTried, SameFile, IsWritten, IsSynced};
+    ghost use Rattle.std.specs.List.{list_any};
+    ghost use Rattle.udt_disk.specs.Troubles.{is_due};
 
     /// How many of its calls found no memory since it was given out.
     pub fn starved(&self) -> u64
@@ -30,24 +35,67 @@ impl MemFile {
     {
         self.data.starved
     }
+
+    /// `DiskFile::len`. It takes no memory: it fails exactly where a trouble is due.
+    pub fn len(&mut self) -> Result<u64, Failed>
+        ensures tried { FileTried self.old.data self.new.data result }
+        ensures exactly { IsErr result ↔ IsTrue (list_any (is_due self.old.data.name) self.old.data.troubles.items) }
+        ensures same { SameFile self.old.data self.new.data }
+        ensures name { self.new.data.name ≡ self.old.data.name }
+        ensures len { IfOk result (λ n. n ≡ length self.old.data.bytes.items) }
+    {
+        self.data.len()
+    }
+
+    /// `DiskFile::read_at`. It takes no memory: it fails exactly where a trouble is due.
+    pub fn read_at(&mut self, at: u64, into: &mut [u8]) -> Result<usize, Failed>
+        ensures tried { FileTried self.old.data self.new.data result }
+        ensures exactly { IsErr result ↔ IsTrue (list_any (is_due self.old.data.name) self.old.data.troubles.items) }
+        ensures same { SameFile self.old.data self.new.data }
+        ensures name { self.new.data.name ≡ self.old.data.name }
+        ensures bound { IfOk result (λ n. n ≤ length into.old) }
+        ensures read { IfOk result (λ n. take n into.new ≡ take (length into.old) (drop at self.old.data.bytes.items)) }
+    {
+        self.data.read_at(at, into)
+    }
+
+    /// `DiskFile::write_at`. A call that fails changes nothing, and fails only where a trouble is due or memory wanted.
+    pub fn write_at(&mut self, at: u64, bytes: &[u8]) -> Result<(), Failed>
+        requires { at ≤ length self.old.data.bytes.items }
+        ensures tried { FileTried self.old.data self.new.data result }
+        ensures name { self.new.data.name ≡ self.old.data.name }
+        ensures fits { OnOk result (at + length bytes.now ≤ 2 ^ 64 - 1) }
+        ensures written { OnOk result (IsWritten at bytes.now self.old.data self.new.data) }
+    {
+        self.data.write_at(at, bytes)
+    }
+
+    /// `DiskFile::sync`. A call that fails changes nothing, and fails only where a trouble is due or memory wanted.
+    pub fn sync(&mut self) -> Result<(), Failed>
+        ensures tried { FileTried self.old.data self.new.data result }
+        ensures name { self.new.data.name ≡ self.old.data.name }
+        ensures synced { OnOk result (IsSynced self.old.data self.new.data) }
+    {
+        self.data.sync()
+    }
 }
 
 impl DiskFile for MemFile {
-    ghost name = { λ m. ⟦<FileData as DiskFile>⟧.name m.data };
+    ghost name = { λ m. m.data.name };
 
-    ghost faults = { λ m. ⟦<FileData as DiskFile>⟧.faults m.data };
+    ghost faults = { λ m. plus_faults m.data.troubled m.data.starved };
 
-    ghost is_told = { λ m. ⟦<FileData as DiskFile>⟧.is_told m.data };
+    ghost is_told = { λ _. true };
 
-    ghost seen = { λ m. ⟦<FileData as DiskFile>⟧.seen m.data };
+    ghost seen = { λ m. m.data.bytes.items };
 
-    ghost keeps_model = { λ m. ⟦<FileData as DiskFile>⟧.keeps_model m.data };
+    ghost keeps_model = { λ _. true };
 
-    ghost may_leave = { λ m. ⟦<FileData as DiskFile>⟧.may_leave m.data };
+    ghost may_leave = { λ m. FileLeaves m.data };
 
-    ghost moment = { λ m. ⟦<FileData as DiskFile>⟧.moment m.data };
+    ghost moment = { λ m. length (reverse m.data.calls.items) };
 
-    ghost left_since = { λ m. ⟦<FileData as DiskFile>⟧.left_since m.data };
+    ghost left_since = { λ m. LeftSince m.data.may_miss m.data.may_differ m.data.bytes.items (reverse m.data.calls.items) };
 
     ghost model_tells = { λ _ _. refl };
 
@@ -58,19 +106,19 @@ impl DiskFile for MemFile {
     ghost only_now = { λ m c left. only_since m.data.may_miss m.data.may_differ m.data.bytes.items (reverse m.data.calls.items) c left };
 
     fn len(&mut self) -> Result<u64, Failed> {
-        self.data.len()
+        MemFile::len(self)
     }
 
     fn read_at(&mut self, at: u64, into: &mut [u8]) -> Result<usize, Failed> {
-        self.data.read_at(at, into)
+        MemFile::read_at(self, at, into)
     }
 
     fn write_at(&mut self, at: u64, bytes: &[u8]) -> Result<(), Failed> {
-        self.data.write_at(at, bytes)
+        MemFile::write_at(self, at, bytes)
     }
 
     fn sync(&mut self) -> Result<(), Failed> {
-        self.data.sync()
+        MemFile::sync(self)
     }
 }
 
@@ -78,7 +126,7 @@ impl DiskFile for MemFile {
 #[derive(Drop)]
 pub struct MemDisk {
     alloc: Global,
-    chain: Chain,
+    directory: Directory,
     troubles: Vec<Trouble>,
     troubled: u64,
     starved: u64,
@@ -87,6 +135,14 @@ pub struct MemDisk {
 
 impl MemDisk {
     ghost use Rattle.udt_disk.specs.MemForms.{folder_starved, left_by};
+    ghost use Rattle.udt_disk.specs.Tried.{FolderTried};
+    ghost use Rattle.std.specs.List.{list_any};
+    ghost use Rattle.udt_disk.specs.Troubles.{is_due, counted_by};
+    ghost use Rattle.std.specs.Prelude.{map};
+    ghost use Rattle.udt_disk.specs.Folder.{opened};
+    ghost use Rattle.udt_disk.specs.Files.{IsGiven};
+    ghost use Rattle.udt_disk.specs.Directory.{Put, Moved, Removed, Same};
+    ghost use Rattle.udt_disk.specs.declared.mem_file.FileData.{FileData as DataOf};
 
     /// An empty folder, with what is to go wrong in it.
     pub fn new(alloc: Global, troubles: Vec<Trouble>) -> Result<MemDisk, NoMemory>
@@ -96,7 +152,7 @@ impl MemDisk {
     {
         Ok(MemDisk {
             alloc,
-            chain: Chain::End,
+            directory: Directory::new(),
             troubles,
             troubled: 0,
             starved: 0,
@@ -114,7 +170,7 @@ impl MemDisk {
     {
         Ok(MemDisk {
             alloc,
-            chain: self.chain.after_crash(alloc, outcome)?,
+            directory: self.directory.after_crash(alloc, outcome)?,
             troubles: Vec::new(alloc),
             troubled: 0,
             starved: 0,
@@ -122,11 +178,92 @@ impl MemDisk {
         })
     }
 
+    /// `Disk::create`. A call that fails changes nothing, and fails only where a trouble is due or memory wanted.
+    pub fn create(&mut self, name: FileName) -> Result<MemFile, Failed>
+        ensures tried { FolderTried name self.old self.new result }
+        ensures file { IfOk result (λ f. IsFresh name f.data f.data.may_miss f.data.may_differ (emptied_by (place_at self.old.directory name))) }
+        ensures birth { IfOk result (λ f. LeavesBirth f.data.may_miss f.data.may_differ (NameLeaves self.old.directory name)) }
+        ensures made { OnOk result (Made name self.old.directory self.new.directory) }
+    {
+        if count_call(&mut self.troubles, name) {
+            self.troubled = self.troubled.saturating_add(1);
+            return Err(Failed);
+        }
+        match create_in(self.alloc, &mut self.directory, name, &self.troubles) {
+            Ok(file) => Ok(file),
+            Err(_) => {
+                self.starved = self.starved.saturating_add(1);
+                Err(Failed)
+            }
+        }
+    }
+
+    /// `Disk::open_file`. A call that fails changes nothing, and fails only where a trouble is due or memory wanted.
+    pub fn open_file(&mut self, name: FileName) -> Result<Option<MemFile>, Failed>
+        ensures tried { FolderTried name self.old self.new result }
+        ensures found { IfSome (opened result) (λ f. (was : DataOf) × (place_at self.old.directory name ≡ Some (Home was)) × IsGiven name was f.data) }
+        ensures held { OnSome (opened result) (Moved name Out self.old.directory self.new.directory) }
+        ensures missing { IfOk result (λ o. IfNone o (place_stands (place_at self.old.directory name) ≡ None)) }
+        ensures same { IfOk result (λ o. IfNone o (Same self.old.directory self.new.directory)) }
+    {
+        if count_call(&mut self.troubles, name) {
+            self.troubled = self.troubled.saturating_add(1);
+            return Err(Failed);
+        }
+        match outfit(self.alloc, &self.troubles) {
+            Ok((room, troubles)) => match self.directory.take_out(name) {
+                None => Ok(None),
+                Some(mut data) => {
+                    data.name = name;
+                    data.troubles = troubles;
+                    data.uses = 0;
+                    data.troubled = 0;
+                    data.starved = 0;
+                    Ok(Some(MemFile { data, room }))
+                }
+            },
+            Err(_) => {
+                self.starved = self.starved.saturating_add(1);
+                Err(Failed)
+            }
+        }
+    }
+
+    /// `Disk::remove`. It takes no memory: it fails exactly where a trouble is due, and then changes nothing.
+    pub fn remove(&mut self, name: FileName) -> Result<(), Failed>
+        ensures tried { FolderTried name self.old self.new result }
+        ensures exactly { IsErr result ↔ IsTrue (list_any (is_due name) self.old.troubles.items) }
+        ensures removed { OnOk result (Removed name self.old.directory self.new.directory) }
+    {
+        if count_call(&mut self.troubles, name) {
+            self.troubled = self.troubled.saturating_add(1);
+            return Err(Failed);
+        }
+        self.directory.remove(name);
+        Ok(())
+    }
+
+    /// `Disk::retire`. It takes no memory and never fails, and has no number of its own: the calls of the file count now.
+    pub fn retire(&mut self, file: MemFile)
+        ensures put { Put file.data.name (Home file.data) self.old.directory self.new.directory }
+        ensures given_back { self.new.given_back ≡ plus_faults self.old.given_back (plus_faults file.data.troubled file.data.starved) }
+        ensures troubled { self.new.troubled ≡ self.old.troubled }
+        ensures starved { folder_starved self.new ≡ folder_starved self.old }
+        ensures counted { self.new.troubles.items ≡ map (counted_by file.data.name file.data.uses) self.old.troubles.items }
+    {
+        let MemFile { data, room } = file;
+        self.given_back = self
+            .given_back
+            .saturating_add(data.troubled.saturating_add(data.starved));
+        count_calls(&mut self.troubles, data.name, data.uses);
+        self.directory.put_back(data.name, data, room);
+    }
+
     /// The bytes that stand under a name, unless the file is held.
     pub fn contents(&self, name: FileName) -> Option<&[u8]>
         ensures { bytes_of result ≡ ⟦<MemDisk as Disk>⟧.stands self.now name }
     {
-        self.chain.contents(name)
+        self.directory.contents(name)
     }
 
     /// Makes what stands now last, as an opening of the folder does. Who holds a file of it no longer does.
@@ -135,7 +272,7 @@ impl MemDisk {
         ensures only { (n : NameOf) (c : Image) → ⟦<MemDisk as Disk>⟧.may_leave self.new n c → c ≡ ⟦<MemDisk as Disk>⟧.stands self.new n }
         ensures faults { ⟦<MemDisk as Disk>⟧.faults self.new ≡ ⟦<MemDisk as Disk>⟧.faults self.old }
     {
-        self.chain.clean();
+        self.directory.clean();
     }
 
     /// How often it has failed, with the faults of the files that were given back.
@@ -162,9 +299,9 @@ fn new_file(
     birth: Birth,
     troubles: &[Trouble],
 ) -> Result<MemFile, NoMemory>
-    ensures { IfOk result (λ f. IsFresh name f.data birth.may_miss birth.may_differ) }
+    ensures { IfOk result (λ f. IsFresh name f.data birth.may_miss birth.may_differ birth.emptied) }
 {
-    let room = Box::new(alloc, Chain::End)?;
+    let room = Room::new(alloc)?;
     let data = FileData {
         alloc,
         name,
@@ -172,6 +309,7 @@ fn new_file(
         calls: Vec::new(alloc),
         may_miss: birth.may_miss,
         may_differ: birth.may_differ,
+        emptied: birth.emptied,
         is_settled: false,
         troubles: Vec::from_slice(alloc, troubles)?,
         uses: 0,
@@ -184,31 +322,27 @@ fn new_file(
 /// A new file of the name, which is held from now on.
 fn create_in(
     alloc: Global,
-    chain: &mut Chain,
+    directory: &mut Directory,
     name: FileName,
     troubles: &[Trouble],
 ) -> Result<MemFile, NoMemory>
-    ensures file { IfOk result (λ f. IsFresh name f.data f.data.may_miss f.data.may_differ) }
-    ensures birth { IfOk result (λ f. LeavesBirth f.data.may_miss f.data.may_differ (ChainLeaves chain.old name)) }
-    ensures out { OnOk result (Put name Out chain.old chain.new) }
-    ensures err { OnErr result (chain.new ≡ chain.old) }
+    ensures file { IfOk result (λ f. IsFresh name f.data f.data.may_miss f.data.may_differ (emptied_by (place_at directory.old name))) }
+    ensures birth { IfOk result (λ f. LeavesBirth f.data.may_miss f.data.may_differ (NameLeaves directory.old name)) }
+    ensures made { OnOk result (Made name directory.old directory.new) }
+    ensures err { OnErr result (directory.new ≡ directory.old) }
 {
-    let file = new_file(alloc, name, chain.birth(name), troubles)?;
-    let room = Box::new(alloc, Chain::End)?;
-    chain.put(name, Place::Out, room);
+    let file = new_file(alloc, name, directory.birth(name), troubles)?;
+    directory.create(name, new_fork(alloc)?);
     Ok(file)
 }
 
 /// What a file needs to be given out: the room to be given back in, and what is to go wrong.
-fn outfit(alloc: Global, troubles: &[Trouble]) -> Result<(Box<Chain>, Vec<Trouble>), NoMemory> {
-    Ok((
-        Box::new(alloc, Chain::End)?,
-        Vec::from_slice(alloc, troubles)?,
-    ))
+fn outfit(alloc: Global, troubles: &[Trouble]) -> Result<(Room, Vec<Trouble>), NoMemory> {
+    Ok((Room::new(alloc)?, Vec::from_slice(alloc, troubles)?))
 }
 
 impl Disk for MemDisk {
-    ghost use Rattle.udt_disk.specs.Chain.{place_stands, place_at, long, ChainLeaves, ChainLeftSince, chain_stays, chain_only};
+    ghost use Rattle.udt_disk.specs.Directory.{long, NameLeftSince, name_stays, name_only};
 
     type File = MemFile;
 
@@ -216,77 +350,37 @@ impl Disk for MemDisk {
 
     ghost is_told = { λ _. true };
 
-    ghost stands = { λ d n. place_stands (place_at d.chain n) };
+    ghost stands = { λ d n. place_stands (place_at d.directory n) };
 
     ghost keeps_model = { λ _. true };
 
-    ghost may_leave = { λ d. ChainLeaves d.chain };
+    ghost may_leave = { λ d. NameLeaves d.directory };
 
-    ghost moment = { λ d. long d.chain };
+    ghost moment = { λ d. long d.directory };
 
-    ghost left_since = { λ d. ChainLeftSince d.chain };
+    ghost left_since = { λ d. NameLeftSince d.directory };
 
     ghost model_tells = { λ _ _. refl };
 
-    ghost now_stays = { λ d n _. chain_stays d.chain n };
+    ghost now_stays = { λ d n _. name_stays d.directory n };
 
     ghost counts_now = { λ d t n c _ now. inl now };
 
-    ghost only_now = { λ d n c left. chain_only d.chain n c left };
+    ghost only_now = { λ d n c left. name_only d.directory n c left };
 
     fn create(&mut self, name: FileName) -> Result<MemFile, Failed> {
-        if count_call(&mut self.troubles, name) {
-            self.troubled = self.troubled.saturating_add(1);
-            return Err(Failed);
-        }
-        match create_in(self.alloc, &mut self.chain, name, &self.troubles) {
-            Ok(file) => Ok(file),
-            Err(_) => {
-                self.starved = self.starved.saturating_add(1);
-                Err(Failed)
-            }
-        }
+        MemDisk::create(self, name)
     }
 
     fn open_file(&mut self, name: FileName) -> Result<Option<MemFile>, Failed> {
-        if count_call(&mut self.troubles, name) {
-            self.troubled = self.troubled.saturating_add(1);
-            return Err(Failed);
-        }
-        match outfit(self.alloc, &self.troubles) {
-            Ok((room, troubles)) => match self.chain.take_out(name) {
-                None => Ok(None),
-                Some(mut data) => {
-                    data.name = name;
-                    data.troubles = troubles;
-                    data.uses = 0;
-                    data.troubled = 0;
-                    data.starved = 0;
-                    Ok(Some(MemFile { data, room }))
-                }
-            },
-            Err(_) => {
-                self.starved = self.starved.saturating_add(1);
-                Err(Failed)
-            }
-        }
+        MemDisk::open_file(self, name)
     }
 
     fn remove(&mut self, name: FileName) -> Result<(), Failed> {
-        if count_call(&mut self.troubles, name) {
-            self.troubled = self.troubled.saturating_add(1);
-            return Err(Failed);
-        }
-        self.chain.remove(name);
-        Ok(())
+        MemDisk::remove(self, name)
     }
 
     fn retire(&mut self, file: MemFile) {
-        let MemFile { data, room } = file;
-        self.given_back = self
-            .given_back
-            .saturating_add(data.troubled.saturating_add(data.starved));
-        count_calls(&mut self.troubles, data.name, data.uses);
-        self.chain.put(data.name, Place::Home(data), room);
+        MemDisk::retire(self, file);
     }
 }

@@ -1,16 +1,15 @@
-ghost use Rattle.std.specs.Prelude.{◌≡◌, ◌+◌, ◌-◌, ◌^◌, ◌<◌, ◌≤◌, min, [], ◌∷◌, ◌++◌, List, ℕ, length, reverse, true, take, drop, if◌then◌else◌, OnOk, OnErr, Some};
+ghost use Rattle.std.specs.Prelude.{◌≡◌, map, ◌+◌, ◌-◌, ◌^◌, ◌<◌, ◌≤◌, min, [], ◌∷◌, ◌++◌, List, ℕ, length, reverse, true, take, drop, if◌then◌else◌, ◌↔◌, IsErr, IsTrue, IfOk, OnOk, OnErr, Some};
 ghost use Rattle.std.specs.List.{list_any};
-ghost use Rattle.std.proofs.Common.{refl};
 ghost use Rattle.udt_disk.specs.Bytes.{overwritten};
 ghost use Rattle.udt_disk.specs.Causes.{plus_faults};
 ghost use Rattle.udt_disk.specs.Crash.{Image};
-ghost use Rattle.udt_disk.specs.History.{Leaves, LeftSince, is_synced, stays_now, counts_since, only_since};
-ghost use Rattle.udt_disk.specs.Troubles.{is_due};
+ghost use Rattle.udt_disk.specs.History.{Leaves, is_synced};
+ghost use Rattle.udt_disk.specs.Troubles.{is_due, counted_by};
 ghost use Rattle.udt_disk.specs.declared.history.FileCall.TheVariants.{Wrote, Synced};
 
 use crate::history::FileCall;
 use crate::trouble::count_call;
-use crate::{DiskFile, Failed, FileName, NoMemory, Trouble};
+use crate::{Failed, FileName, NoMemory, Trouble};
 use std::alloc::Global;
 
 /// A file of a folder in memory, wherever it is. It keeps its calls, so that each image of each moment is told.
@@ -26,6 +25,8 @@ pub(crate) struct FileData {
     pub(crate) may_miss: bool,
     /// It may hold any bytes after a crash until its first sync.
     pub(crate) may_differ: bool,
+    /// How many bytes stood there when it was emptied.
+    pub(crate) emptied: u64,
     /// It was synced since then.
     pub(crate) is_settled: bool,
     /// What is to go wrong, and how many calls it took since it was given out.
@@ -37,6 +38,8 @@ pub(crate) struct FileData {
 }
 
 impl FileData {
+    ghost use Rattle.udt_disk.specs.Crashed.{spoilt_len};
+
     /// Makes what a read gives now last, as if it had been synced.
     pub(crate) fn clean(&mut self)
         ensures bytes { self.new.bytes.items ≡ self.old.bytes.items }
@@ -45,7 +48,19 @@ impl FileData {
         self.calls.clear();
         self.may_miss = false;
         self.may_differ = false;
+        self.emptied = 0;
         self.is_settled = false;
+    }
+
+    /// How many bytes the file has after a crash whose outcome is `Hostile`.
+    pub(crate) fn spoilt_len(&self) -> u64
+        ensures { result ≡ spoilt_len self.now }
+    {
+        let len = self.bytes.len() as u64;
+        if self.is_settled || !self.may_differ {
+            return len;
+        }
+        len.max(self.emptied)
     }
 }
 
@@ -57,6 +72,7 @@ fn is_troubled(
     troubled: &mut u64,
 ) -> bool
     ensures due { result ≡ list_any (is_due name) troubles.old.items }
+    ensures counted { troubles.new.items ≡ map (counted_by name 1) troubles.old.items }
     ensures uses { uses.new ≡ plus_faults uses.old 1 }
     ensures troubled { troubled.new ≡ (if result then plus_faults troubled.old 1 else troubled.old) }
 {
@@ -116,32 +132,16 @@ fn read_from(bytes: &[u8], at: u64, into: &mut [u8]) -> usize
     count
 }
 
-impl DiskFile for FileData {
-    ghost name = { λ f. f.name };
+impl FileData {
+    ghost use Rattle.udt_disk.specs.Tried.{FileTried, SameFile, IsWritten, IsSynced};
 
-    ghost faults = { λ f. plus_faults f.troubled f.starved };
-
-    ghost is_told = { λ _. true };
-
-    ghost seen = { λ f. f.bytes.items };
-
-    ghost keeps_model = { λ _. true };
-
-    ghost may_leave = { λ f. Leaves f.may_miss f.may_differ f.bytes.items (reverse f.calls.items) };
-
-    ghost moment = { λ f. length (reverse f.calls.items) };
-
-    ghost left_since = { λ f. LeftSince f.may_miss f.may_differ f.bytes.items (reverse f.calls.items) };
-
-    ghost model_tells = { λ _ _. refl };
-
-    ghost now_stays = { λ f _. stays_now f.may_miss f.may_differ f.bytes.items (reverse f.calls.items) };
-
-    ghost counts_now = { λ f t c _ now. counts_since f.may_miss f.may_differ f.bytes.items (reverse f.calls.items) t c now };
-
-    ghost only_now = { λ f c left. only_since f.may_miss f.may_differ f.bytes.items (reverse f.calls.items) c left };
-
-    fn len(&mut self) -> Result<u64, Failed> {
+    pub(crate) fn len(&mut self) -> Result<u64, Failed>
+        ensures tried { FileTried self.old self.new result }
+        ensures exactly { IsErr result ↔ IsTrue (list_any (is_due self.old.name) self.old.troubles.items) }
+        ensures same { SameFile self.old self.new }
+        ensures name { self.new.name ≡ self.old.name }
+        ensures len { IfOk result (λ n. n ≡ length self.old.bytes.items) }
+    {
         if is_troubled(
             &mut self.troubles,
             self.name,
@@ -153,7 +153,14 @@ impl DiskFile for FileData {
         Ok(self.bytes.len() as u64)
     }
 
-    fn read_at(&mut self, at: u64, into: &mut [u8]) -> Result<usize, Failed> {
+    pub(crate) fn read_at(&mut self, at: u64, into: &mut [u8]) -> Result<usize, Failed>
+        ensures tried { FileTried self.old self.new result }
+        ensures exactly { IsErr result ↔ IsTrue (list_any (is_due self.old.name) self.old.troubles.items) }
+        ensures same { SameFile self.old self.new }
+        ensures name { self.new.name ≡ self.old.name }
+        ensures bound { IfOk result (λ n. n ≤ length into.old) }
+        ensures read { IfOk result (λ n. take n into.new ≡ take (length into.old) (drop at self.old.bytes.items)) }
+    {
         if is_troubled(
             &mut self.troubles,
             self.name,
@@ -165,7 +172,13 @@ impl DiskFile for FileData {
         Ok(read_from(&self.bytes, at, into))
     }
 
-    fn write_at(&mut self, at: u64, bytes: &[u8]) -> Result<(), Failed> {
+    pub(crate) fn write_at(&mut self, at: u64, bytes: &[u8]) -> Result<(), Failed>
+        requires { at ≤ length self.old.bytes.items }
+        ensures tried { FileTried self.old self.new result }
+        ensures name { self.new.name ≡ self.old.name }
+        ensures fits { OnOk result (at + length bytes.now ≤ 2 ^ 64 - 1) }
+        ensures written { OnOk result (IsWritten at bytes.now self.old self.new) }
+    {
         if is_troubled(
             &mut self.troubles,
             self.name,
@@ -183,7 +196,11 @@ impl DiskFile for FileData {
         }
     }
 
-    fn sync(&mut self) -> Result<(), Failed> {
+    pub(crate) fn sync(&mut self) -> Result<(), Failed>
+        ensures tried { FileTried self.old self.new result }
+        ensures name { self.new.name ≡ self.old.name }
+        ensures synced { OnOk result (IsSynced self.old self.new) }
+    {
         if is_troubled(
             &mut self.troubles,
             self.name,

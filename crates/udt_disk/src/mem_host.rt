@@ -1,4 +1,4 @@
-ghost use Rattle.std.specs.Prelude.{◌≡◌, ◌≢◌, ◌<◌, ◌≤◌, ℕ, List, Option, Some, None, IsTrue, IsSome, IfOk, IfSome, MatchOption, OnOk, OnErr, OnSome, length, position, slice_index_or, slice_set, true};
+ghost use Rattle.std.specs.Prelude.{◌≡◌, ◌≢◌, ◌<◌, ◌≤◌, ℕ, List, Option, Some, None, IsTrue, IsSome, IfOk, IfSome, MatchOption, OnOk, OnErr, OnSome, if◌then◌else◌, is_err, length, position, slice_index_or, slice_set};
 ghost use Rattle.udt_disk.specs.Causes.{HasCause, plus_faults};
 ghost use Rattle.udt_disk.specs.Places.{has_path, stands_in, kind_of, source_of, folder_of, with_stands};
 ghost use Rattle.udt_disk.specs.Hosting.{IsOpening, IsNew};
@@ -240,9 +240,12 @@ impl MemHost {
 }
 
 impl Host for MemHost {
-    ghost use Rattle.udt_disk.specs.Hosting.{source_at, source_standing, folder_standing, has_place, given_back_to, starved_in};
-    ghost use Rattle.udt_disk.specs.Opens.{Opens};
-    ghost use Rattle.udt_disk.specs.OpensFolder.{KeepsFolders};
+    ghost use Rattle.udt_disk.specs.Hosting.{source_at, source_standing, folder_standing, folder_leaves, has_place, keeps_model, given_back_to, starved_in};
+    ghost use Rattle.udt_disk.specs.Opens.{Opens, StaysBut};
+    ghost use Rattle.udt_disk.specs.OpensFolder.{OpensFolder, KeepsFolders, KeepsFoldersBut, LeavesNoMore, LeavesNoMoreBut};
+    ghost use Rattle.udt_disk.specs.Folder.{opened};
+    ghost use Rattle.udt_disk.specs.Crash.{Image, NoMore};
+    ghost use Rattle.udt_disk.specs.declared.name.FileName.{FileName as NameOf};
 
     type Folder = MemDisk;
 
@@ -252,13 +255,29 @@ impl Host for MemHost {
 
     ghost folder_at = { folder_standing };
 
+    ghost leaves_at = { folder_leaves };
+
     ghost has_place = { has_place };
 
-    ghost keeps_model = { λ _. true };
+    ghost keeps_model = { keeps_model };
 
     ghost faults = { λ h. plus_faults h.given_back h.starved };
 
-    fn open_folder(&mut self, path: &Text, make: bool) -> Result<Option<MemDisk>, Failed> {
+    /// Fails only for want of memory, of which a folder that stands there needs none.
+    fn open_folder(&mut self, path: &Text, make: bool) -> Result<Option<MemDisk>, Failed>
+        ensures opens { OpensFolder (⟦<MemDisk as Disk>⟧.is_told) (⟦<MemDisk as Disk>⟧.faults) (⟦<MemDisk as Disk>⟧.stands) (folder_standing self.old) (folder_standing self.new) path.now make result }
+        ensures clean { IfSome (opened result) (λ d. (n : NameOf) (c : Image) → ⟦<MemDisk as Disk>⟧.may_leave d n c → c ≡ ⟦<MemDisk as Disk>⟧.stands d n) }
+        ensures place { OnSome (opened result) (IsTrue (has_place self.new path.now)) }
+        ensures folder_model { IfSome (opened result) (λ d. ⟦<MemDisk as Disk>⟧.keeps_model d ≡ keeps_model self.old) }
+        ensures leaves { LeavesNoMoreBut path.now (folder_leaves self.old) (folder_leaves self.new) }
+        ensures sources { (p : List ℕ) → source_standing self.new p ≡ source_standing self.old p }
+        ensures places { (p : List ℕ) → IsTrue (has_place self.old p) → IsTrue (has_place self.new p) }
+        ensures model { keeps_model self.new ≡ keeps_model self.old }
+        ensures cause { HasCause (plus_faults (given_back_to self.old) (starved_in self.old)) (plus_faults (given_back_to self.new) (starved_in self.new)) result }
+
+        ensures given_back { given_back_to self.new ≡ given_back_to self.old }
+        ensures starved { starved_in self.new ≡ (if is_err result then plus_faults (starved_in self.old) 1 else starved_in self.old) }
+    {
         match kind_at(&self.places, path) {
             Kind::Folder => Ok(take_folder(&mut self.places, path)),
             _ if !make => Ok(None),
@@ -272,7 +291,20 @@ impl Host for MemHost {
         }
     }
 
-    fn close_folder(&mut self, path: &Text, folder: MemDisk) {
+    fn close_folder(&mut self, path: &Text, folder: MemDisk)
+        ensures stands { IsTrue (has_place self.old path.now) → IsTrue (⟦<MemDisk as Disk>⟧.is_told folder) → IsSome (folder_standing self.old path.now) → folder_standing self.new path.now ≡ Some (Some (⟦<MemDisk as Disk>⟧.stands folder)) }
+        ensures crash { IsTrue (has_place self.old path.now) → (n : NameOf) → NoMore (⟦<MemDisk as Disk>⟧.may_leave folder n) (folder_leaves self.new path.now n) }
+        ensures others { KeepsFoldersBut path.now (folder_standing self.old) (folder_standing self.new) }
+        ensures leaves { LeavesNoMoreBut path.now (folder_leaves self.old) (folder_leaves self.new) }
+        ensures sources { StaysBut path.now (source_standing self.old) (source_standing self.new) }
+        ensures places { (p : List ℕ) → IsTrue (has_place self.old p) → IsTrue (has_place self.new p) }
+        ensures model { keeps_model self.new ≡ keeps_model self.old }
+        ensures faults { plus_faults (given_back_to self.new) (starved_in self.new) ≡ plus_faults (plus_faults (given_back_to self.old) (starved_in self.old)) (⟦<MemDisk as Disk>⟧.faults folder) }
+        ensures later { plus_faults (given_back_to self.old) (starved_in self.old) ≤ plus_faults (given_back_to self.new) (starved_in self.new) }
+
+        ensures given_back { given_back_to self.new ≡ plus_faults (given_back_to self.old) (⟦<MemDisk as Disk>⟧.faults folder) }
+        ensures starved { starved_in self.new ≡ starved_in self.old }
+    {
         self.given_back = self.given_back.saturating_add(folder.faults());
         put_back(&mut self.places, path, folder);
     }
@@ -281,8 +313,9 @@ impl Host for MemHost {
     fn open_source(&mut self, path: &Text) -> Result<Option<MemSource>, Failed>
         ensures opens { Opens (λ s. Some s.left) (source_standing self.old) (source_standing self.new) path.now result }
         ensures folders { KeepsFolders (folder_standing self.old) (folder_standing self.new) }
+        ensures leaves { LeavesNoMoreBut path.now (folder_leaves self.old) (folder_leaves self.new) }
         ensures places { (p : List ℕ) → IsTrue (has_place self.old p) → IsTrue (has_place self.new p) }
-        ensures model { true ≡ true }
+        ensures model { keeps_model self.new ≡ keeps_model self.old }
         ensures cause { HasCause (plus_faults (given_back_to self.old) (starved_in self.old)) (plus_faults (given_back_to self.new) (starved_in self.new)) result }
 
         ensures source { result ≡ Ok (source_at self.old path.now) }
@@ -303,8 +336,9 @@ impl Host for MemHost {
     fn close_source(&mut self, input: MemSource)
         ensures stays { (path : List ℕ) → source_standing self.new path ≡ source_standing self.old path }
         ensures folders { KeepsFolders (folder_standing self.old) (folder_standing self.new) }
+        ensures leaves { LeavesNoMore (folder_leaves self.old) (folder_leaves self.new) }
         ensures places { (p : List ℕ) → IsTrue (has_place self.old p) → IsTrue (has_place self.new p) }
-        ensures model { true ≡ true }
+        ensures model { keeps_model self.new ≡ keeps_model self.old }
         ensures faults { plus_faults (given_back_to self.new) (starved_in self.new) ≡ plus_faults (plus_faults (given_back_to self.old) (starved_in self.old)) input.faults }
         ensures later { plus_faults (given_back_to self.old) (starved_in self.old) ≤ plus_faults (given_back_to self.new) (starved_in self.new) }
 

@@ -14,3 +14,21 @@ pub enum FileName {
     /// `N.table`, of the table with this number.
     Table(u64),
 }
+
+impl FileName {
+    ghost use Rattle.std.specs.Prelude.{◌≡◌};
+    ghost use Rattle.udt_disk.specs.Names.{number_of};
+
+    /// The number by which the name is looked up. Few names share one.
+    pub(crate) fn number(self) -> u64
+        ensures { result ≡ number_of self }
+    {
+        match self {
+            FileName::Manifest0 => 0,
+            FileName::Manifest1 => 1,
+            FileName::Current => 2,
+            FileName::Made => 3,
+            FileName::Log(number) | FileName::Table(number) => number,
+        }
+    }
+}

@@ -134,6 +134,7 @@ fn take_steps(disk: &mut MemDisk, steps: &[Step]) -> Result<(), Failed> {
 #[test]
 fn crashes_leave_what_was_synced(rt: HostRuntime) -> Result<(), AllocError> {
     let synced = [Step::Create, Step::Write("abc"), Step::Sync];
+    let created = [Step::Create];
     let unsynced = [Step::Create, Step::Write("abc")];
     let rewritten = [
         Step::Create,
@@ -142,12 +143,22 @@ fn crashes_leave_what_was_synced(rt: HostRuntime) -> Result<(), AllocError> {
         Step::Write("xy"),
     ];
     let emptied = [Step::Create, Step::Write("abc"), Step::Sync, Step::Create];
+    let refilled = [
+        Step::Create,
+        Step::Write("abc"),
+        Step::Sync,
+        Step::Create,
+        Step::Write("xy"),
+    ];
     let removed = [Step::Create, Step::Write("abc"), Step::Sync, Step::Remove];
     let spoilt = Some(b"\xA5\xA5c".as_slice());
-    let table: [(&[Step], Outcome, Option<&[u8]>); 15] = [
+    let table: [(&[Step], Outcome, Option<&[u8]>); 21] = [
         (&synced, Outcome::Lost, Some(b"abc")),
         (&synced, Outcome::Kept, Some(b"abc")),
         (&synced, Outcome::Hostile, Some(b"abc")),
+        (&created, Outcome::Lost, None),
+        (&created, Outcome::Kept, Some(b"")),
+        (&created, Outcome::Hostile, Some(b"")),
         (&unsynced, Outcome::Lost, None),
         (&unsynced, Outcome::Kept, Some(b"abc")),
         (&unsynced, Outcome::Hostile, Some(b"\xA5\xA5\xA5")),
@@ -156,7 +167,10 @@ fn crashes_leave_what_was_synced(rt: HostRuntime) -> Result<(), AllocError> {
         (&rewritten, Outcome::Hostile, spoilt),
         (&emptied, Outcome::Lost, Some(b"abc")),
         (&emptied, Outcome::Kept, Some(b"")),
-        (&emptied, Outcome::Hostile, Some(b"")),
+        (&emptied, Outcome::Hostile, Some(b"\xA5\xA5\xA5")),
+        (&refilled, Outcome::Lost, Some(b"abc")),
+        (&refilled, Outcome::Kept, Some(b"xy")),
+        (&refilled, Outcome::Hostile, Some(b"\xA5\xA5\xA5")),
         (&removed, Outcome::Lost, Some(b"abc")),
         (&removed, Outcome::Kept, None),
         (&removed, Outcome::Hostile, Some(b"abc")),
@@ -223,6 +237,26 @@ fn a_trouble_counts_the_calls_of_the_file(rt: HostRuntime) -> Result<(), AllocEr
     assert!(rt; disk.contents(FileName::Log(1)) == Some(b"ab".as_slice()));
     assert_eq!(rt; disk.remove(FileName::Log(1)), Ok(()));
     assert!(rt; disk.contents(FileName::Log(1)).is_none());
+    Ok(())
+}
+
+#[test]
+fn giving_a_file_back_has_no_number(rt: HostRuntime) -> Result<(), AllocError> {
+    let trouble = Trouble {
+        name: FileName::Current,
+        call: 3,
+        lasting: true,
+    };
+    let mut disk = MemDisk::new(rt.alloc(), Vec::from_slice(rt.alloc(), &[trouble])?)?;
+    assert_eq!(rt;
+        take_steps(&mut disk, &[Step::Create, Step::Create]),
+        Ok(())
+    );
+    for step in [Step::Create, Step::Remove, Step::Sync] {
+        assert_eq!(rt; take_step(&mut disk, step), Err(Failed), "{step:?}");
+    }
+    assert!(rt; disk.contents(FileName::Current) == Some(b"".as_slice()));
+    assert_eq!(rt; disk.starved(), 0);
     Ok(())
 }
 

@@ -4,9 +4,9 @@ ghost use Rattle.std.specs.Io.KnownBytes.{ReadConsumes, WriteAppends};
 ghost use Rattle.udt_disk.specs.Causes.{HasCause, plus_faults};
 ghost use Rattle.udt_disk.specs.Flows.{TakesSome};
 ghost use Rattle.udt_disk.specs.Opens.{Standing, Opens, StaysBut};
-ghost use Rattle.udt_disk.specs.OpensFolder.{Holding, OpensFolder, KeepsFolders, KeepsFoldersBut};
+ghost use Rattle.udt_disk.specs.OpensFolder.{Holding, OpensFolder, KeepsFolders, KeepsFoldersBut, LeavesNoMore, LeavesNoMoreBut};
 ghost use Rattle.udt_disk.specs.Folder.{opened};
-ghost use Rattle.udt_disk.specs.Crash.{Image};
+ghost use Rattle.udt_disk.specs.Crash.{Image, NoMore};
 ghost use Rattle.udt_disk.specs.declared.name.FileName.{FileName as NameOf};
 
 use crate::{Disk, Text};
@@ -61,6 +61,10 @@ pub trait Host {
     /// What folder stands under a path, where it is told.
     ghost folder_at: { Self → List ℕ → Holding };
 
+    /// What a crash at this moment may leave under the names of the folder that stands under a path. A host whose folders
+    /// don't keep the model of crashes names nothing.
+    ghost leaves_at: { Self → List ℕ → NameOf → Image → Type 0 };
+
     /// A folder was asked for by this path, so one can be put there.
     ghost has_place: { Self → List ℕ → Bool };
 
@@ -78,6 +82,7 @@ pub trait Host {
         ensures clean { IfSome (opened result) (λ d. (n : NameOf) (c : Image) → Self.Folder.may_leave d n c → c ≡ Self.Folder.stands d n) }
         ensures place { OnSome (opened result) (IsTrue (has_place self.new path.now)) }
         ensures folder_model { IfSome (opened result) (λ d. Self.Folder.keeps_model d ≡ keeps_model self.old) }
+        ensures leaves { LeavesNoMoreBut path.now (leaves_at self.old) (leaves_at self.new) }
         ensures sources { (p : List ℕ) → standing self.new p ≡ standing self.old p }
         ensures places { (p : List ℕ) → IsTrue (has_place self.old p) → IsTrue (has_place self.new p) }
         ensures model { keeps_model self.new ≡ keeps_model self.old }
@@ -87,7 +92,9 @@ pub trait Host {
     /// to the host's.
     fn close_folder(&mut self, path: &Text, folder: Self::Folder)
         ensures stands { IsTrue (has_place self.old path.now) → IsTrue (Self.Folder.is_told folder) → IsSome (folder_at self.old path.now) → folder_at self.new path.now ≡ Some (Some (Self.Folder.stands folder)) }
+        ensures crash { IsTrue (has_place self.old path.now) → (n : NameOf) → NoMore (Self.Folder.may_leave folder n) (leaves_at self.new path.now n) }
         ensures others { KeepsFoldersBut path.now (folder_at self.old) (folder_at self.new) }
+        ensures leaves { LeavesNoMoreBut path.now (leaves_at self.old) (leaves_at self.new) }
         ensures sources { StaysBut path.now (standing self.old) (standing self.new) }
         ensures places { (p : List ℕ) → IsTrue (has_place self.old p) → IsTrue (has_place self.new p) }
         ensures model { keeps_model self.new ≡ keeps_model self.old }
@@ -99,6 +106,7 @@ pub trait Host {
     fn open_source(&mut self, path: &Text) -> Result<Option<Self::Input>, Failed>
         ensures opens { Opens (Self.Input.left) (standing self.old) (standing self.new) path.now result }
         ensures folders { KeepsFolders (folder_at self.old) (folder_at self.new) }
+        ensures leaves { LeavesNoMoreBut path.now (leaves_at self.old) (leaves_at self.new) }
         ensures places { (p : List ℕ) → IsTrue (has_place self.old p) → IsTrue (has_place self.new p) }
         ensures model { keeps_model self.new ≡ keeps_model self.old }
         ensures cause { HasCause (faults self.old) (faults self.new) result };
@@ -107,6 +115,7 @@ pub trait Host {
     fn close_source(&mut self, input: Self::Input)
         ensures stays { (path : List ℕ) → standing self.new path ≡ standing self.old path }
         ensures folders { KeepsFolders (folder_at self.old) (folder_at self.new) }
+        ensures leaves { LeavesNoMore (leaves_at self.old) (leaves_at self.new) }
         ensures places { (p : List ℕ) → IsTrue (has_place self.old p) → IsTrue (has_place self.new p) }
         ensures model { keeps_model self.new ≡ keeps_model self.old }
         ensures faults { faults self.new ≡ plus_faults (faults self.old) (Self.Input.faults input) }

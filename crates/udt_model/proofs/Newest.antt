@@ -1,9 +1,9 @@
 -- Going through a list from its front finds the newest.
-use Rattle.std.proofs.Common.{◌≡◌, ℕ, ◌+◌, ◌<◌, ◌≤◌, Bool, true, false, List, [], ◌∷◌, Option, Some, None, refl, sym, ap, ◌∙◌, arith, inl, inr}
+use Rattle.std.proofs.Common.{◌≡◌, true, false, Option, Some, None, refl, arith, inl, inr}
 use Rattle.std.proofs.lemmas.Bool.{cases_Bool}
 use Rattle.std.proofs.lemmas.Bool.Decides.{nat_tests}
 use Rattle.ts_key.specs.declared.version.Version.{Version}
-use Rattle.udt_model.specs.Versions.{is_newer, newer, newest_of}
+use Rattle.udt_model.specs.Versions.{is_newer, newer}
 
 up : (a b c : Version) → is_newer b a ≡ true → is_newer c b ≡ true → is_newer c a ≡ true
 up a b c x y = grind (arith, nat_tests)

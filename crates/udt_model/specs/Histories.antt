@@ -1,12 +1,11 @@
--- Legal histories, and the lines that commands give.
-use Rattle.std.specs.Prelude.{◌≡◌, ℕ, ◌+◌, ◌==◌, Bool, true, false, if◌then◌else◌, List, [], ◌∷◌, ◌++◌, filter}
-use Rattle.udt_model.specs.declared.event.Event.{Event}
+-- Legal histories.
+use Rattle.std.specs.Prelude.{◌≡◌, ℕ, ◌+◌, ◌==◌, Bool, true, false, if◌then◌else◌, List, [], ◌∷◌, filter}
 use Rattle.udt_model.specs.declared.line.Line.{Line}
 use Rattle.udt_model.specs.declared.line.Mark.{Mark}
 use Rattle.udt_model.specs.declared.line.Who.{Who}
 use Rattle.udt_model.specs.declared.line.Who.TheVariants.{Client, Flusher, Compactor, Runner}
 use Rattle.udt_model.specs.State.{State}
-use Rattle.udt_model.specs.Steps.{IsReply, after, is_step}
+use Rattle.udt_model.specs.Steps.{IsReply, after, is_step, says_fault}
 
 abbrev pub is_same : Who → Who → Bool
 is_same (Client m) (Client n) = m == n
@@ -37,7 +36,7 @@ pub record IsLegal (p : Point) (l : Line) : Type 0 where
 -- the point behind a line
 abbrev pub behind : Point → Line → Point
 behind p l = record {
-  state = after p.state l.event l.reply;
+  state = after p.state (p.number + 1) l.event l.reply;
   number = if is_step l.event l.reply then p.number + 1 else p.number;
   last = λ who. if is_same who l.who then l.mark else p.last who;
 }
@@ -47,26 +46,12 @@ abbrev pub Leads : Point → List Line → Point → Type 0
 Leads old [] new = new ≡ old
 Leads old (l ∷ ls) new = IsLegal old l × Leads (behind old l) ls new
 
--- ---- commands
+-- the disk didn't fail under this line
+abbrev pub IsSound : Line → Type 0
+IsSound l = says_fault l.reply ≡ false
+
+-- ---- actors
 
 -- the lines that somebody made
 abbrev pub own : Who → List Line → List Line
 own who ls = filter (λ l. is_same l.who who) ls
-
--- a command that is an event gives one line
-abbrev pub IsDone : Event → List Line → Type 0
-IsDone command [] = ⊥
-IsDone command (l ∷ []) = l.event ≡ command
-IsDone command (l ∷ more ∷ ls) = ⊥
-
--- the lines are those of the commands, each done once and in order
-abbrev pub Expand : List Event → List Line → Type 0
-Expand [] ls = ls ≡ []
-Expand (command ∷ commands) ls = (front : List Line) × (rest : List Line) × IsDone command front × Expand commands rest × (ls ≡ front ++ rest)
-
--- A legal history from the state on, whose lines are those of the commands of client 1, once and in order, and no others.
-pub record IsSoloHistory (m : State) (commands : List Event) (lines : List Line) : Type 0 where
-  pub end : Point
-  pub legal : Leads (start m) lines end
-  pub once : Expand commands (own (Client 1) lines)
-  pub alone : own (Client 1) lines ≡ lines

@@ -3,3 +3,4 @@ pub mod Reads
 pub mod State
 pub mod Steps
 pub mod Histories
+pub mod Crashes

@@ -1,8 +1,9 @@
 //! The store of one client: a plain list of every version that was written. A look-up scans the list, for now.
-ghost use Rattle.std.specs.Prelude.{◌≡◌, ◌≤◌, [], ◌∷◌, length, IfOk, OnErr, false};
-ghost use Rattle.udt_model.specs.State.{place_of, got, admitted, reply_of_read as told_reply};
-ghost use Rattle.udt_model.specs.Steps.{IsReply, after as state_after};
-ghost use Rattle.client_runner.specs.Print.{IsBuilt, IsBuiltReply};
+ghost use Rattle.std.specs.Prelude.{◌≡◌, ℕ, ◌+◌, ◌-◌, ◌^◌, ◌<◌, ◌≤◌, [], false, nat_lt, if◌then◌else◌, length, Bool, IfOk, IfSome, OnErr};
+ghost use Rattle.udt_model.specs.State.{place_of, got, admitted, synced, refusal, refused, reply_of_read as told_reply, unknown as unknown_of};
+ghost use Rattle.udt_model.specs.Steps.{IsReply, says_fault, after as state_after};
+ghost use Rattle.client_lang.specs.Print.{IsBuilt, IsBuiltReply};
+ghost use Rattle.client_runner.specs.Adding.{Grows, IsAdded, IsRefusal, after_op, refusal_of};
 ghost use Rattle.client_runner.specs.Transcripts.{fresh};
 
 use std::alloc::{AllocError, Global};
@@ -45,6 +46,17 @@ fn reply_of_read(read: ModelRead) -> Reply
     }
 }
 
+/// The reply, or that there was no memory for it.
+fn told_or_want(reply: Result<Reply, NoMemory>) -> Reply
+    ensures ok { IfOk reply (λ told. result ≡ told) }
+    ensures err { OnErr reply (result ≡ Reply.NoMemory) }
+{
+    match reply {
+        Ok(told) => told,
+        Err(_) => Reply::NoMemory,
+    }
+}
+
 /// The families, each version that was written in order, and the last sequence.
 #[derive(Drop)]
 pub struct PlainStore {
@@ -54,12 +66,12 @@ pub struct PlainStore {
 }
 
 impl Model for PlainStore {
-    ghost use Rattle.std.specs.Prelude.{◌<◌, ◌≤◌, ◌^◌, length};
+    ghost use Rattle.std.specs.Prelude.{◌<◌, ◌≤◌, ◌^◌, length, None};
     ghost use Rattle.udt_model.specs.State.{State};
 
     ghost Value = { State };
 
-    ghost view = { λ s. record { heads = s.heads.items; versions = s.versions.items; last = s.last } };
+    ghost view = { λ s. record { heads = s.heads.items; versions = s.versions.items; last = s.last; halted = None } };
 
     ghost invariant = { λ s. (s.last.0 < 2 ^ 56) × (length s.heads.items ≤ 16) };
 }
@@ -68,7 +80,7 @@ impl PlainStore {
     /// A store of these families, without a version.
     pub fn new(alloc: Global, heads: Vec<FamilyHead>) -> PlainStore
         requires { length heads.items ≤ 16 }
-        ensures { result ≡ record { heads = heads.items; versions = []; last = record { 0 = 0 } } }
+        ensures { result ≡ record { heads = heads.items; versions = []; last = record { 0 = 0 }; halted = None } }
     {
         PlainStore {
             heads,
@@ -81,61 +93,158 @@ impl PlainStore {
     pub fn step(&mut self, event: &Event) -> Reply
         requires { IsBuilt event.now }
         ensures legal { IsReply self.old event.now result }
-        ensures after { self.new ≡ state_after self.old event.now result }
+        ensures after { (number : ℕ) → self.new ≡ state_after self.old number event.now result }
+        ensures sound { says_fault result ≡ false }
         ensures built { IsBuiltReply result }
     {
-        let reply = match event {
-            Event::Write { ops, sync: _ } => match ops.as_slice() {
-                [op] => self.write(op),
-                _ => unreachable!(),
-            },
+        match event {
+            Event::Sync => self.sync(),
+            Event::Write { ops, sync: _ } => told_or_want(self.write(ops.as_slice())),
             Event::Get {
                 family,
                 key,
                 t,
                 snap: _,
-            } => self.get(family, key, *t),
+            } => told_or_want(self.get(family, key, *t)),
             _ => unreachable!(),
-        };
-        match reply {
-            Ok(reply) => reply,
-            Err(_) => Reply::NoMemory,
         }
     }
 
-    fn write(&mut self, op: &NamedOp) -> Result<Reply, NoMemory>
-        ensures reply { IfOk result (λ reply. reply ≡ admitted self.old (op.now ∷ [])) }
-        ensures ok { IfOk result (λ reply. self.new ≡ state_after self.old (Event.Write (op.now ∷ []) false) reply) }
+    /// A store in memory has nothing to sync.
+    fn sync(&self) -> Reply
+        ensures reply { result ≡ synced self.now }
+        ensures sound { says_fault result ≡ false }
+        ensures built { IsBuiltReply result }
+    {
+        let _ = &self.last;
+        Reply::Done
+    }
+
+    /// Takes a write whole, or leaves the store as it was.
+    fn write(&mut self, ops: &[NamedOp]) -> Result<Reply, NoMemory>
+        requires { length ops.now ≤ 64 }
+        ensures reply { IfOk result (λ reply. reply ≡ admitted self.old ops.now) }
+        ensures ok { (sync : Bool) (number : ℕ) → IfOk result (λ reply. self.new ≡ state_after self.old number (Event.Write ops.now sync) reply) }
         ensures err { OnErr result (self.new ≡ self.old) }
+        ensures sound { IfOk result (λ reply. says_fault reply ≡ false) }
         ensures built { IfOk result IsBuiltReply }
     {
+        let count = self.versions.len();
+        match self.add(ops) {
+            Ok(None) => {
+                let number = self.last.0 + ops.len() as u64;
+                self.last = Seq(number);
+                Ok(Reply::OkAt { number })
+            }
+            Ok(Some(refusal)) => {
+                self.versions.truncate(count);
+                Ok(refusal)
+            }
+            Err(_) => {
+                self.versions.truncate(count);
+                Err(AllocError)
+            }
+        }
+    }
+
+    /// Adds the versions of a write, or finds its refusal; then some of them may have been added.
+    fn add(&mut self, ops: &[NamedOp]) -> Result<Option<Reply>, NoMemory>
+        requires { length ops.now ≤ 64 }
+        ensures refusal { IfOk result (λ found. found ≡ refusal_of self.old ops.now) }
+        ensures ok { IfOk result (λ found. IsAdded self.old ops.now found self.new) }
+        ensures err { OnErr result (Grows self.old self.new) }
+        ensures built { IfOk result (λ found. IfSome found IsRefusal) }
+        ensures room { result ≡ Ok None → self.old.last.0 + length ops.now < 2 ^ 56 }
+    {
+        if let Some(refusal) = self.unknown(ops) {
+            return Ok(Some(refusal));
+        }
+        if let Some(refusal) = self.add_each(ops)? {
+            return Ok(Some(refusal));
+        }
+        Ok(self.full(ops.len()))
+    }
+
+    /// `unknown` where one of the operations names no family.
+    fn unknown(&self, ops: &[NamedOp]) -> Option<Reply>
+        ensures unknown { result ≡ unknown_of self.now ops.now }
+        ensures built { IfSome result IsRefusal }
+    {
+        for op in ops {
+            if plain_place(&self.heads, &op.family).is_none() {
+                return Some(Reply::Unknown);
+            }
+        }
+        None
+    }
+
+    /// `full` where there are no sequences left for so many operations.
+    fn full(&self, count: usize) -> Option<Reply>
+        requires { count ≤ 64 }
+        ensures full { result ≡ (if nat_lt (2 ^ 56 - 1) (self.now.last.0 + count) then Some (Reply.Full self.now.last) else None) }
+        ensures built { IfSome result IsRefusal }
+        ensures room { result ≡ None → self.now.last.0 + count < 2 ^ 56 }
+    {
         let last = self.last;
+        if last.0 + count as u64 > LAST_SEQUENCE {
+            Some(Reply::Full { last })
+        } else {
+            None
+        }
+    }
+
+    /// Adds the version of each operation, up to the first that is refused.
+    fn add_each(&mut self, ops: &[NamedOp]) -> Result<Option<Reply>, NoMemory>
+        requires { length ops.now ≤ 64 }
+        ensures refusal { IfOk result (λ found. found ≡ refused self.old self.old.versions self.old.last.0 1 ops.now) }
+        ensures ok { IfOk result (λ found. IsAdded self.old ops.now found self.new) }
+        ensures err { OnErr result (Grows self.old self.new) }
+        ensures built { IfOk result (λ found. IfSome found IsRefusal) }
+    {
+        let last = self.last.0;
+        for (i, op) in ops.iter().enumerate() {
+            let number = i as u32 + 1;
+            if let Some(refusal) = self.add_op(op, number, last + u64::from(number))? {
+                return Ok(Some(refusal));
+            }
+        }
+        Ok(None)
+    }
+
+    /// Adds the version of the operation `number` under a sequence, or finds why it is refused.
+    fn add_op(
+        &mut self,
+        op: &NamedOp,
+        number: u32,
+        sequence: u64,
+    ) -> Result<Option<Reply>, NoMemory>
+        ensures refusal { IfOk result (λ found. found ≡ refusal self.old.versions number (place_of self.old op.now.family) op.now) }
+        ensures ok { IfOk result (λ found. self.new ≡ after_op self.old op.now sequence found) }
+        ensures err { OnErr result (self.new ≡ self.old) }
+        ensures built { IfOk result (λ found. IfSome found IsRefusal) }
+    {
         let Some(Place { family, floor }) = plain_place(&self.heads, &op.family) else {
-            return Ok(Reply::Unknown);
+            return Ok(Some(Reply::Unknown));
         };
         if op.ts.0 < floor.0 {
-            return Ok(Reply::Below { op: 1, floor });
+            return Ok(Some(Reply::Below { op: number, floor }));
         }
         if let Some(newest) = plain_newest(&self.versions, family, op.key.bytes()) {
             if op.ts.0 < newest.ts.0 {
-                return Ok(Reply::Fell {
-                    op: 1,
+                return Ok(Some(Reply::Fell {
+                    op: number,
                     newest: newest.ts,
-                });
+                }));
             }
-        }
-        if last.0 >= LAST_SEQUENCE {
-            return Ok(Reply::Full { last });
         }
         self.versions.push(Version {
             family,
             key: op.key.copy()?,
             ts: op.ts,
-            seq: Seq(last.0 + 1),
+            seq: Seq(sequence),
             op: op.op.copy()?,
         })?;
-        self.last = Seq(last.0 + 1);
-        Ok(Reply::OkAt { number: last.0 + 1 })
+        Ok(None)
     }
 
     fn get(&self, family: &Name, key: &Key, t: Ts) -> Result<Reply, NoMemory>

@@ -1,5 +1,5 @@
 use Rattle.std.proofs.lemmas.Result.{err_from_is_err_and}
-use Rattle.client_runner.specs.Print.{print_line}
+use Rattle.client_lang.specs.Print.{print_line}
 use Rattle.client_runner.proofs.OutputLemmas.{front_more}
 use Rattle.client_runner.proofs.output.write_line.Goals as goal
 

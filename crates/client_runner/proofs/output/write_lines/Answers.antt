@@ -1,7 +1,7 @@
 use Rattle.std.proofs.Common.{arith}
 use Rattle.std.proofs.lemmas.List.{take_all}
 use Rattle.std.proofs.lemmas.Result.{err_from_is_err_and}
-use Rattle.client_runner.specs.Print.{print_lines}
+use Rattle.client_lang.specs.Print.{print_lines}
 use Rattle.client_runner.proofs.OutputLemmas.{OnErr-map, lines_more, lines_stop, lines_end_stop}
 use Rattle.client_runner.proofs.output.write_lines.Goals as goal
 

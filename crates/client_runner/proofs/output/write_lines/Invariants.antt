@@ -1,6 +1,6 @@
 use Rattle.std.proofs.Common.{◌≤◌, take}
 use Rattle.client_runner.specs.Output.{Passes}
-use Rattle.client_runner.specs.Print.{print_lines}
+use Rattle.client_lang.specs.Print.{print_lines}
 use Rattle.client_runner.proofs.output.write_lines.Given as goal
 
 abbrev pub invariant-loop-line : goal.invariant-loop-line

@@ -7,6 +7,6 @@ loop-command-init c = rw c.in_ok-lines.ensures.items (none_yet c.args.store)
 pub loop-command-preserved : goal.loop-command-preserved
 loop-command-preserved c =
     let line = c.perform-line.ensures in
-    rw c.in_ok-push.ensures.items
-    (ran_more c.args.store c.loop-command.yielded c.loop-command.lines.items c.loop-command.store c.perform-line.new.store c.loop-command.last c.in-Some.command c.perform-line.result c.loop-command.invariant
-    (record { event = line.event; who = line.who; mark = line.mark; reply = line.reply; after_is = line.after; printed = line.printed }))
+    rw (c.in_ok-push.ensures.items, c.event_of.ensures)
+    (ran_more c.args.store c.loop-command.yielded c.loop-command.lines.items c.loop-command.store c.perform-line.new.store c.loop-command.last c.event_of.result c.perform-line.result c.loop-command.invariant
+    (record { event_is = line.event; who = line.who; mark = line.mark; reply = line.reply; after_is = line.after; sound = line.sound; printed = line.printed }))

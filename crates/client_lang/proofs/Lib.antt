@@ -1,0 +1,10 @@
+pub mod Pushing
+pub mod Texts
+pub mod ReadWords
+pub mod Operations
+pub mod ReadCommands
+pub mod ReadWrites
+pub mod ReadLines
+pub mod BadLines
+pub mod Spelling
+pub mod Injective

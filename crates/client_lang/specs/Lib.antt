@@ -1,0 +1,7 @@
+pub mod Print
+pub mod Words
+pub mod Pushes
+pub mod Grammar
+pub mod Faults
+pub mod Readers
+pub mod Typed

@@ -1,0 +1,6 @@
+use Rattle.std.proofs.Common.{◌≡◌, drop}
+use Rattle.udt_model.specs.State.{unknown}
+use Rattle.client_runner.proofs.solo.store.PlainStore.unknown.Given as goal
+
+abbrev pub invariant-loop-op : goal.invariant-loop-op
+invariant-loop-op l = unknown l.self (drop l.op-index l.ops) ≡ unknown l.self l.ops

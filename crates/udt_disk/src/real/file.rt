@@ -1,0 +1,77 @@
+ghost use Rattle.std.specs.Prelude.{◌≡◌, [], true, false};
+ghost use Rattle.udt_disk.specs.Real.{not_told};
+
+use super::counted;
+use crate::{DiskFile, Failed, FileName};
+use std::fs::File;
+use std::io::ErrorKind;
+use std::os::unix::fs::FileExt;
+
+/// A file of the operating system, open for reading and writing.
+#[derive(Drop)]
+pub struct HostFile {
+    pub(super) file: File,
+    pub(super) name: FileName,
+    pub(super) faults: u64,
+}
+
+impl DiskFile for HostFile {
+    ghost name = { λ f. f.name };
+
+    ghost faults = { λ f. f.faults };
+
+    ghost is_told = { λ _. false };
+
+    ghost seen = { λ _. [] };
+
+    ghost keeps_model = { λ _. false };
+
+    ghost may_leave = { λ _ _. ⊥ };
+
+    ghost moment = { λ _. 0 };
+
+    ghost left_since = { λ _ _ _. ⊥ };
+
+    ghost model_tells = { λ _ told. told };
+
+    ghost now_stays = { λ _ told. not_told told };
+
+    ghost counts_now = { λ _ _ _ _ left. left };
+
+    ghost only_now = { λ _ _ left. left };
+
+    fn len(&mut self) -> Result<u64, Failed> {
+        let metadata = counted(self.file.metadata(), &mut self.faults)?;
+        Ok(metadata.len())
+    }
+
+    /// A read that a signal interrupts is tried again.
+    fn read_at(&mut self, at: u64, into: &mut [u8]) -> Result<usize, Failed> {
+        let mut done = 0;
+        for _ in 0..u64::MAX {
+            if done == into.len() {
+                return Ok(done);
+            }
+            let from = at.saturating_add(done as u64);
+            match self.file.read_at(&mut into[done..], from) {
+                Ok(0) => return Ok(done),
+                Ok(count) => done += count,
+                Err(e) if e.kind() == ErrorKind::Interrupted => {}
+                Err(_) => break,
+            }
+        }
+        counted(Err(Failed), &mut self.faults)
+    }
+
+    fn write_at(&mut self, at: u64, bytes: &[u8]) -> Result<(), Failed> {
+        if at > u64::MAX - bytes.len() as u64 {
+            return counted(Err(Failed), &mut self.faults);
+        }
+        counted(self.file.write_all_at(bytes, at), &mut self.faults)
+    }
+
+    /// Reaches the device.
+    fn sync(&mut self) -> Result<(), Failed> {
+        counted(self.file.sync_all(), &mut self.faults)
+    }
+}
