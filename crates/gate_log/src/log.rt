@@ -1,0 +1,196 @@
+ghost use Rattle.std.specs.Prelude.{◌≡◌, ℕ, ◌+◌, ◌-◌, ◌^◌, ◌<◌, ◌≤◌, [], ◌∷◌, ◌++◌, List, length, map, IfOk, IfErr, OnOk, OnErr, IsTrue};
+ghost use Rattle.udt_disk.specs.Causes.{HasCause, Rose};
+ghost use Rattle.udt_disk.specs.Crash.{Only};
+ghost use Rattle.gate_log.specs.Faults.{IsLogCause, IsFramesCause, IsUntouched};
+ghost use Rattle.gate_log.specs.Frames.{IsBody, IsBeforeOrAfter, with_frame};
+ghost use Rattle.gate_log.specs.Reads.{body_of};
+ghost use Rattle.gate_log.specs.Tearing.{MayTear, Leaves};
+ghost use Rattle.gate_log.specs.Outcomes.{IsReading, IsFramesFault, IsOnlyPlace, IsOnlyRead, IsSameFile, WritesSynced, file_after};
+
+use crate::frame::{CLOSED, OPEN, lay_out};
+use crate::image::{frames_of, read_whole};
+use crate::{Frame, FramesFault, LogFault, NoMemory};
+use std::alloc::{AllocError, Global};
+use std::mem;
+use udt_disk::{DiskFile, Failed};
+
+/// How many bytes stand behind the gate of a frame beside its body: its length, and the next gate.
+const BESIDES_BODY: usize = 5;
+
+/// A log of frames in a file that it holds. After an `append` that answered `Failed` it only allows `into_file`. A `restart`
+/// that fails leaves it as it was.
+pub struct GateLog<F: DiskFile> {
+    file: F,
+    /// The offset of the gate behind the last frame.
+    end: u64,
+    /// The room in which the next frame is laid out.
+    room: Vec<u8>,
+    ghost fits: { end < 2 ^ 64 - 1 },
+}
+
+/// Writes what stands behind the closed gate at an offset, and syncs it.
+fn stage<F: DiskFile>(file: &mut F, gate: u64, behind: &[u8]) -> Result<(), Failed>
+    requires fits { gate < 2 ^ 64 - 1 }
+    requires within { IsTrue (F.is_told file.old) → gate + 1 ≤ length (F.seen file.old) }
+    ensures { WritesSynced F.DiskFile (gate + 1) behind.now file.old file.new result }
+{
+    file.write_at(gate + 1, behind)?;
+    file.sync()
+}
+
+/// Opens the gate at an offset, and syncs it.
+fn open_gate<F: DiskFile>(file: &mut F, gate: u64) -> Result<(), Failed>
+    requires { IsTrue (F.is_told file.old) → gate ≤ length (F.seen file.old) }
+    ensures { WritesSynced F.DiskFile gate (165 ∷ []) file.old file.new result }
+{
+    file.write_at(gate, &[OPEN])?;
+    file.sync()
+}
+
+/// Makes a log without frames of an empty file, and syncs it.
+fn close_first_gate<F: DiskFile>(file: &mut F) -> Result<(), Failed>
+    ensures { WritesSynced F.DiskFile 0 (90 ∷ []) file.old file.new result }
+{
+    file.write_at(0, &[CLOSED])?;
+    file.sync()
+}
+
+impl<F: DiskFile> GateLog<F> {
+    ghost use Rattle.gate_log.specs.GateLog.{file_of, end_of, room_of, IsLogOf, IsAtRest, IsReady};
+
+    /// A log without frames in a file that was just made, on the disk: one closed gate. The file is handed back where that
+    /// fails, as it was given where memory ran out. A crash at any moment leaves the file as it might have left it before, but
+    /// for its first byte. It takes no memory today.
+    pub fn create(alloc: Global, file: F) -> Result<GateLog<F>, (F, LogFault)>
+        requires empty { IsTrue (F.is_told file) → F.seen file ≡ [] }
+        ensures at_rest { IfOk result (λ log. IsTrue (F.is_told file) → IsAtRest F.DiskFile log []) }
+        ensures durable { IfOk result (λ log. Only (F.seen (file_of log)) (F.may_leave (file_of log))) }
+        ensures moments { Leaves F.DiskFile file (file_after file_of result) (MayTear 0 1 (F.may_leave file)) }
+        ensures same { IsSameFile F.DiskFile file (file_after file_of result) }
+        ensures kept { IfOk result (λ log. F.faults (file_of log) ≡ F.faults file) }
+        ensures cause { IfErr result (λ e. IsLogCause (F.faults file) (F.faults e.0) e.1) }
+        ensures written { IfOk result (λ log. IsTrue (F.is_told file) → F.seen (file_of log) ≡ 90 ∷ []) }
+        ensures untouched { IfErr result (λ e. IsUntouched e.1 file e.0) }
+    {
+        let mut file = file;
+        match close_first_gate(&mut file) {
+            Ok(()) => Ok(GateLog {
+                file,
+                end: 0,
+                room: Vec::new(alloc),
+            }),
+            Err(Failed) => Err((file, LogFault::DiskFault)),
+        }
+    }
+
+    /// The log in a file, and its frames. `BadFrame` comes exactly where the file is no log: where an open gate stands before a
+    /// frame that isn't whole, or at 0 where the file is empty. What stands behind a gate that isn't open is never looked
+    /// at. The file is only read, and handed back where that fails. It reads the whole file at once.
+    pub fn of(alloc: Global, file: F) -> Result<(GateLog<F>, Vec<Frame>), (F, FramesFault)>
+        ensures read { IfOk result (λ r. IsTrue (F.is_told file) → IsReading r.1.items (F.seen file)) }
+        ensures logged { IfOk result (λ r. IsTrue (F.is_told file) → IsLogOf F.DiskFile r.0 (map body_of r.1.items)) }
+        ensures at_rest { IfOk result (λ r. IsTrue (F.is_told file) → Only (F.seen file) (F.may_leave file) → IsAtRest F.DiskFile r.0 (map body_of r.1.items)) }
+        ensures refused { IfErr result (λ e. IsTrue (F.is_told file) → IsFramesFault e.1 (F.seen file)) }
+        ensures same { IsOnlyRead F.DiskFile file (file_after (λ r. file_of r.0) result) }
+        ensures kept { IfOk result (λ r. F.faults (file_of r.0) ≡ F.faults file) }
+        ensures cause { IfErr result (λ e. IsFramesCause (F.faults file) (F.faults e.0) e.1) }
+        ensures place { IfErr result (λ e. IsTrue (F.is_told file) → IsOnlyPlace e.1 (F.seen file)) }
+    {
+        let mut file = file;
+        let bytes = match read_whole(alloc, &mut file) {
+            Ok(bytes) => bytes,
+            Err(LogFault::DiskFault) => return Err((file, FramesFault::DiskFault)),
+            Err(LogFault::NoMemory) => return Err((file, FramesFault::NoMemory)),
+        };
+        match frames_of(alloc, &bytes) {
+            Ok((frames, end)) => {
+                let log = GateLog {
+                    file,
+                    end: end as u64,
+                    room: Vec::new(alloc),
+                };
+                Ok((log, frames))
+            }
+            Err(fault) => Err((file, fault)),
+        }
+    }
+
+    /// Makes room for a frame of so many bytes, by which the next `append` takes no memory. It makes no call on the file.
+    pub fn reserve(&mut self, len: usize) -> Result<(), NoMemory>
+        ensures room { OnOk result (len ≤ room_of self.new) }
+        ensures kept { room_of self.old ≤ room_of self.new }
+        ensures failed { OnErr result (room_of self.new ≡ room_of self.old) }
+        ensures file { file_of self.new ≡ file_of self.old }
+        ensures end { end_of self.new ≡ end_of self.old }
+        ensures logged { (bodies : List (List ℕ)) → IsLogOf F.DiskFile self.old bodies → IsLogOf F.DiskFile self.new bodies }
+        ensures at_rest { (bodies : List (List ℕ)) → IsAtRest F.DiskFile self.old bodies → IsAtRest F.DiskFile self.new bodies }
+    {
+        let Some(room) = len.checked_add(BESIDES_BODY) else {
+            return Err(AllocError);
+        };
+        self.room.clear();
+        self.room.reserve(room)
+    }
+
+    /// Adds a frame, written over what stands from the closed gate on. After `Ok` it is on the disk. A crash at any moment of
+    /// the call leaves the frames from before it, with the new one or without. It takes no memory.
+    pub fn append(&mut self, frame: &[u8]) -> Result<(), Failed>
+        requires size { IsBody frame.now }
+        requires room { length frame.now ≤ room_of self.old }
+        requires ready { IsReady F.DiskFile self.old }
+
+        ensures appended { (bodies : List (List ℕ)) → IsLogOf F.DiskFile self.old bodies → OnOk result (IsAtRest F.DiskFile self.new (bodies ++ frame.now ∷ [])) }
+        ensures moments { (bodies : List (List ℕ)) → IsAtRest F.DiskFile self.old bodies → Leaves F.DiskFile (file_of self.old) (file_of self.new) (IsBeforeOrAfter bodies frame.now) }
+        ensures cause { HasCause (F.faults (file_of self.old)) (F.faults (file_of self.new)) result }
+        ensures same { IsSameFile F.DiskFile (file_of self.old) (file_of self.new) }
+        ensures written { OnOk result (IsTrue (F.is_told (file_of self.old)) → F.seen (file_of self.new) ≡ with_frame (F.seen (file_of self.old)) (end_of self.old) frame.now) }
+        ensures kept { room_of self.old ≤ room_of self.new }
+    {
+        lay_out(&mut self.room, frame);
+        stage(&mut self.file, self.end, &self.room)?;
+        open_gate(&mut self.file, self.end)?;
+        self.end += frame.len() as u64 + 5;
+        Ok(())
+    }
+
+    /// Goes on with a file that was just made as a log without frames, and answers the old file. Where it fails it hands the
+    /// new file back and is as it was. A crash at any moment leaves the new file as it might have left it before, but for
+    /// its first byte. It takes no memory.
+    pub fn restart(&mut self, file: F) -> Result<F, (F, Failed)>
+        requires empty { IsTrue (F.is_told file) → F.seen file ≡ [] }
+        ensures old { IfOk result (λ old. old ≡ file_of self.old) }
+        ensures at_rest { OnOk result (IsTrue (F.is_told file) → IsAtRest F.DiskFile self.new []) }
+        ensures durable { OnOk result (Only (F.seen (file_of self.new)) (F.may_leave (file_of self.new))) }
+        ensures moments { OnOk result (Leaves F.DiskFile file (file_of self.new) (MayTear 0 1 (F.may_leave file))) }
+        ensures same { OnOk result (IsSameFile F.DiskFile file (file_of self.new)) }
+        ensures kept { OnOk result (F.faults (file_of self.new) ≡ F.faults file) }
+        ensures room { room_of self.new ≡ room_of self.old }
+        ensures written { OnOk result (IsTrue (F.is_told file) → F.seen (file_of self.new) ≡ 90 ∷ []) }
+
+        ensures err { OnErr result (self.new ≡ self.old) }
+        ensures err_moments { IfErr result (λ e. Leaves F.DiskFile file e.0 (MayTear 0 1 (F.may_leave file))) }
+        ensures err_same { IfErr result (λ e. IsSameFile F.DiskFile file e.0) }
+        ensures cause { IfErr result (λ e. Rose (F.faults file) (F.faults e.0)) }
+    {
+        let mut file = file;
+        match close_first_gate(&mut file) {
+            Ok(()) => {
+                self.end = 0;
+                Ok(mem::replace(&mut self.file, file))
+            }
+            Err(Failed) => Err((file, Failed)),
+        }
+    }
+
+    /// The file that it holds.
+    pub fn into_file(self) -> F
+        ensures { result ≡ file_of self }
+    {
+        let GateLog {
+            file,
+            end: _,
+            room: _,
+        } = self;
+        file
+    }
+}
