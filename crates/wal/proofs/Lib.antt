@@ -1,0 +1,12 @@
+pub mod Numbers
+pub mod Fronts
+pub mod Heads
+pub mod Operations
+pub mod Batches
+pub mod Writing
+pub mod Bodies
+pub mod SequenceSteps
+pub mod Logs
+pub mod Appends
+pub mod Making
+pub mod WalLemmas

@@ -1,0 +1,12 @@
+pub mod Numbers
+pub mod Sizing
+pub mod Records
+pub mod Heads
+pub mod Reading
+pub mod Writing
+pub mod Sequences
+pub mod Bodies
+pub mod Replays
+pub mod Reserving
+pub mod Making
+pub mod Wals

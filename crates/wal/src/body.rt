@@ -1,0 +1,190 @@
+ghost use Rattle.std.specs.Prelude.{◌≡◌, ℕ, ◌≤◌, List, ◌++◌, length, All, ⊤};
+ghost use Rattle.std.specs.List.{flat_map};
+ghost use Rattle.wal.specs.Numbers.{number_bytes};
+ghost use Rattle.wal.specs.Reading.{ReadsFront, StandsBehind};
+ghost use Rattle.wal.specs.Bodies.{front_bytes, AreBatches, ReadsBody};
+ghost use Rattle.wal.specs.Heads.{op_head_bytes, batch_head_bytes, IsAllowedOpHead, IsAllowedBatchHead};
+ghost use Rattle.wal.specs.Records.{kind_of, value_bytes, op_bytes, batch_bytes, IsShortValue, IsLoggedOp, IsLoggedBatch};
+
+use crate::cursor::Cursor;
+use crate::fault::BodyFault;
+use crate::head::{BATCH_HEAD_LEN, BatchHead, OP_HEAD_LEN, OpHead, u32_of};
+use crate::numbered::Numbered;
+use crate::record::put_sizes;
+use crate::sizes::Sizes;
+use std::alloc::{AllocError, Global};
+use ts_key::{Batch, Family, Key, Op, Seq, Ts, VALUE_LIMIT, Value, WriteOp};
+
+impl<'a> Cursor<'a> {
+    /// The next operation's head.
+    fn op_head(&mut self, families: usize) -> Result<OpHead, BodyFault>
+        requires { families ≤ 16 }
+        ensures { ReadsFront (λ head. head) op_head_bytes (IsAllowedOpHead families) self.old.left.now self.new.left.now result }
+    {
+        let head = OpHead::of(self.take(OP_HEAD_LEN)?);
+        if head.is_allowed(families) {
+            Ok(head)
+        } else {
+            Err(BodyFault::Bad)
+        }
+    }
+
+    /// The next `len` bytes as a key.
+    fn key(&mut self, alloc: Global, len: usize) -> Result<Key, BodyFault>
+        requires { len ≤ 1024 }
+        ensures { ReadsFront (λ key. key) (λ key. key) (λ key. length key ≡ len) self.old.left.now self.new.left.now result }
+    {
+        match Key::of(alloc, self.take(len)?) {
+            Ok(key) => Ok(key),
+            Err(_) => Err(BodyFault::NoMemory),
+        }
+    }
+
+    /// The next value, behind its length.
+    fn value(&mut self, alloc: Global) -> Result<Value, BodyFault>
+        ensures { ReadsFront (λ value. value) (λ value. number_bytes 4 (length value) ++ value) (λ value. length value ≤ VALUE_LIMIT) self.old.left.now self.new.left.now result }
+    {
+        let len = u32_of(self.take(4)?) as usize;
+        if len > VALUE_LIMIT {
+            return Err(BodyFault::Bad);
+        }
+        match Value::of(alloc, self.take(len)?) {
+            Ok(value) => Ok(value),
+            Err(_) => Err(BodyFault::NoMemory),
+        }
+    }
+
+    /// What an operation of this kind does.
+    fn change(&mut self, alloc: Global, kind: u8) -> Result<Op, BodyFault>
+        requires { kind ≤ 1 }
+        ensures { ReadsFront (λ op. op) value_bytes (λ op. (kind_of op ≡ kind) × IsShortValue op) self.old.left.now self.new.left.now result }
+    {
+        if kind == 0 {
+            return Ok(Op::Del);
+        }
+        Ok(Op::Put(self.value(alloc)?))
+    }
+
+    /// The next operation.
+    fn op(&mut self, alloc: Global, families: usize) -> Result<WriteOp, BodyFault>
+        requires { families ≤ 16 }
+        ensures { ReadsFront (λ op. op) op_bytes (IsLoggedOp families) self.old.left.now self.new.left.now result }
+    {
+        let head = self.op_head(families)?;
+        let key = self.key(alloc, head.key_len as usize)?;
+        let op = self.change(alloc, head.kind)?;
+        Ok(WriteOp {
+            family: Family(head.family),
+            key,
+            ts: Ts(head.ts),
+            op,
+        })
+    }
+
+    /// The next `count` operations.
+    fn ops(
+        &mut self,
+        alloc: Global,
+        families: usize,
+        count: usize,
+    ) -> Result<Vec<WriteOp>, BodyFault>
+        requires { families ≤ 16 }
+        ensures { ReadsFront (λ ops. ops.items) (flat_map op_bytes) (λ ops. (length ops ≡ count) × All (IsLoggedOp families) ops) self.old.left.now self.new.left.now result }
+    {
+        let mut ops = Vec::new(alloc);
+        for _ in 0..count {
+            let op = self.op(alloc, families)?;
+            ops.push(op).map_err(AllocError::from)?;
+        }
+        Ok(ops)
+    }
+
+    /// The next batch's head.
+    fn batch_head(&mut self) -> Result<BatchHead, BodyFault>
+        ensures { ReadsFront (λ head. head) batch_head_bytes IsAllowedBatchHead self.old.left.now self.new.left.now result }
+    {
+        let Some(head) = BatchHead::of(self.take(BATCH_HEAD_LEN)?) else {
+            return Err(BodyFault::Bad);
+        };
+        if head.is_allowed() {
+            Ok(head)
+        } else {
+            Err(BodyFault::Bad)
+        }
+    }
+
+    /// The next batch record.
+    fn batch(&mut self, alloc: Global, families: usize) -> Result<Numbered, BodyFault>
+        requires { families ≤ 16 }
+        ensures { ReadsFront (λ batch. batch) batch_bytes (IsLoggedBatch families) self.old.left.now self.new.left.now result }
+    {
+        let head = self.batch_head()?;
+        let ops = self.ops(alloc, families, head.count as usize)?;
+        let Ok(batch) = Batch::of(ops) else {
+            unreachable!()
+        };
+        Ok(Numbered {
+            first: Seq(head.first),
+            batch,
+        })
+    }
+}
+
+/// The batches that these bytes are records of, to their end.
+fn read_batches(alloc: Global, bytes: &[u8], families: usize) -> Result<Vec<Numbered>, BodyFault>
+    requires { families ≤ 16 }
+    ensures { AreBatches families bytes.now result }
+{
+    let mut cursor = Cursor { left: bytes };
+    let mut batches = Vec::new(alloc);
+    while !cursor.left.is_empty() {
+        let batch = cursor.batch(alloc, families)?;
+        batches.push(batch).map_err(AllocError::from)?;
+    }
+    Ok(batches)
+}
+
+/// What stands behind a front. `Bad` comes exactly where the bytes don't begin so.
+fn strip<'a>(bytes: &'a [u8], front: &[u8]) -> Result<&'a [u8], BodyFault>
+    ensures { StandsBehind front.now bytes.now result }
+{
+    match bytes.strip_prefix(front) {
+        Some(rest) => Ok(rest),
+        None => Err(BodyFault::Bad),
+    }
+}
+
+/// What stands behind the size record in the first body, and a whole body else.
+fn behind_sizes<'a>(
+    alloc: Global,
+    body: &'a [u8],
+    sizes: &Sizes,
+    is_first: bool,
+) -> Result<&'a [u8], BodyFault>
+    ensures { StandsBehind (front_bytes sizes.now is_first) body.now result }
+{
+    if !is_first {
+        return Ok(body);
+    }
+    let mut record = Vec::new(alloc);
+    put_sizes(&mut record, sizes.sizes())?;
+    strip(body, &record)
+}
+
+/// The batches that the body of a frame holds. `Bad` comes exactly where it is outside of the grammar.
+pub(crate) fn read_body(
+    alloc: Global,
+    body: &[u8],
+    sizes: &Sizes,
+    is_first: bool,
+) -> Result<Vec<Numbered>, BodyFault>
+    ensures read { ReadsBody sizes.now is_first body.now result }
+    ensures few { length sizes.now ≤ 16 }
+{
+    let families = sizes.sizes().len();
+    let records = behind_sizes(alloc, body, sizes, is_first)?;
+    if records.is_empty() {
+        return Err(BodyFault::Bad);
+    }
+    read_batches(alloc, records, families)
+}
