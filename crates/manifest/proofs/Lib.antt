@@ -1,0 +1,9 @@
+pub mod Writing
+pub mod Spellings
+pub mod FoldLemmas
+pub mod Pointwise
+pub mod Calls
+pub mod Sizes
+pub mod Makes
+pub mod Files
+pub mod Meanings

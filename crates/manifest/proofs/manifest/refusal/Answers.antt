@@ -1,0 +1,15 @@
+use Rattle.std.proofs.Common.{List, Ok, Err, subst}
+use Rattle.gate_log.specs.Placed.{Placed}
+use Rattle.manifest.specs.Answers.{Folds}
+use Rattle.manifest.proofs.FoldLemmas.{torn_there, outside_before}
+use Rattle.manifest.proofs.manifest.refusal.Goals as goal
+
+pub returns-in-Ok-clause-refusal : goal.returns-in-Ok-clause-refusal
+returns-in-Ok-clause-refusal c bytes bad =
+    let b = c.in-BadFrame in
+    torn_there c.args.fault b.at b.before c.in-Ok.field-0 bytes b.is (subst (λ (l : List Placed). Folds l (Ok c.in-Ok.field-0)) c.deref.ensures.value c.in-Ok.ensures) bad
+
+pub returns-in-BadFrame-clause-refusal : goal.returns-in-BadFrame-clause-refusal
+returns-in-BadFrame-clause-refusal c bytes bad =
+    let b = c.in-BadFrame in
+    outside_before c.args.fault b.at b.before c.in-Err.fault bytes b.is (subst (λ (l : List Placed). Folds l (Err c.in-Err.fault)) c.deref.ensures.value c.in-Err.ensures) bad

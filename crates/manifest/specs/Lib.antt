@@ -1,0 +1,10 @@
+pub mod Heads
+pub mod Folds
+pub mod Reading
+pub mod Files
+pub mod Folders
+pub mod Answers
+pub mod Moments
+pub mod Logs
+pub mod Manifest
+pub mod Making
