@@ -6,5 +6,6 @@ pub mod ReadCommands
 pub mod ReadWrites
 pub mod ReadLines
 pub mod BadLines
+pub mod Stamped
 pub mod Spelling
 pub mod Injective

@@ -1,4 +1,4 @@
-ghost use Rattle.std.specs.Prelude.{◌≡◌, ◌⊎◌, ◌∷◌, ◌++◌, [], ℕ, List, map, None, Some, IfOk, IfErr, IfSome, OnOk, OnErr, IsTrue};
+ghost use Rattle.std.specs.Prelude.{◌≡◌, ◌⊎◌, ◌∷◌, ◌++◌, ◌≤◌, [], ℕ, List, map, None, Some, IfOk, IfErr, IfSome, OnOk, OnErr, IsTrue};
 ghost use Rattle.udt_disk.specs.Causes.{HasCause};
 ghost use Rattle.udt_disk.specs.Crash.{Image, Only};
 ghost use Rattle.udt_disk.specs.Joint.{Folder, Ran, Stands};
@@ -105,6 +105,7 @@ impl<F: DiskFile> Manifest<F> {
         ensures touches { Touches D.Disk IsReadName disk.old disk.new }
         ensures kept { OnOk result (D.faults disk.new ≡ D.faults disk.old) }
         ensures cause { IfErr result (IsManifestCause (D.faults disk.old) (D.faults disk.new)) }
+        ensures later { D.faults disk.old ≤ D.faults disk.new }
     {
         if !is_there(disk, FileName::Made)? {
             return Ok(None);

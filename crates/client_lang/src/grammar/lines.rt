@@ -4,6 +4,7 @@ ghost use Rattle.client_lang.specs.declared.command.Command.{Command};
 ghost use Rattle.client_lang.specs.Faults.{IsReadFault, Refuses};
 ghost use Rattle.client_lang.specs.Grammar.{Reads, IsEvent, IsFile, file_limit, words_of, is_kept as kept};
 ghost use Rattle.client_lang.specs.Print.{IsBuiltCommand};
+ghost use Rattle.client_lang.specs.Stamps.{IsStampedCommand};
 ghost use Rattle.client_lang.specs.declared.grammar.lines.ReadFault.{ReadFault};
 
 use crate::command::Command;
@@ -60,6 +61,7 @@ pub fn read_client(alloc: Global, bytes: &[u8]) -> Result<Vec<Command>, ReadFaul
     ensures read { IfOk result (λ commands. IsFile bytes.now commands.items) }
     ensures only { IfOk result (λ commands. (other : List Command) → IsFile bytes.now other → other ≡ commands.items) }
     ensures built { IfOk result (λ commands. All IsBuiltCommand commands.items) }
+    ensures stamped { IfOk result (λ commands. All IsStampedCommand commands.items) }
 
     ensures refused { IfErr result (IsReadFault bytes.now) }
     ensures accepted { (commands : List Command) → IsFile bytes.now commands → IfErr result (λ fault. fault ≡ ReadFault.NoMemory) }

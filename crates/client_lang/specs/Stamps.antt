@@ -1,0 +1,14 @@
+-- Commands whose timestamps are a version's.
+use Rattle.std.specs.Prelude.{◌-◌, ◌^◌, ◌≤◌, All}
+use Rattle.udt_model.specs.declared.event.Event.{Event}
+use Rattle.udt_model.specs.declared.event.Event.TheVariants.{Write}
+use Rattle.client_lang.specs.declared.command.Command.{Command}
+use Rattle.client_lang.specs.declared.command.Command.TheVariants as commands
+
+-- no operation of a write has the greatest number for its timestamp
+abbrev pub IsStampedEvent : Event → Type 0
+IsStampedEvent (Write os sync) = All (λ o. o.ts.0 ≤ 2 ^ 64 - 2) os
+IsStampedEvent event = Unit {0}
+
+abbrev pub IsStampedCommand : Command → Type 0
+IsStampedCommand (commands.Line event) = IsStampedEvent event
