@@ -167,3 +167,7 @@ pub written : {E : Type 0} (m new : State) (number : ℕ) (os : List NamedOp) (s
     → IfOk r (λ x. reply ≡ x) → OnErr r (reply ≡ NoMemory) → IsWritten m number os sync new reply
 written m new number os sync (Ok x) reply a b c d e f = record { legal = inl (e ∙ a); after_is = b sync number ∙ ap (after m number (Write os sync)) (sym e); built = subst IsBuiltReply (sym e) d }
 written m new number os sync (Err x) reply a b c d e f = record { legal = inr (inl (f, refl)); after_is = c ∙ ap (after m number (Write os sync)) (sym f); built = subst IsBuiltReply (sym f) tt }
+
+-- the reply to a write, by what admitting it found
+pub reply_found : (m : State) (os : List NamedOp) (found : Option Reply) → m.halted ≡ None → found ≡ refusal_of m os → accepted_unless (m.last.0 + length os) found ≡ admitted m os
+reply_found m os found works is = ap (accepted_unless (m.last.0 + length os)) is ∙ admitted_by m os works

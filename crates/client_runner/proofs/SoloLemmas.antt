@@ -1,22 +1,25 @@
--- The history of one client, one command after another.
-use Rattle.std.proofs.Common.{◌≡◌, ℕ, ◌+◌, ◌≤◌, List, [], ◌∷◌, ◌++◌, length, refl, sym, ap, subst, ◌∙◌, append_assoc, inl, inr, arith}
+-- The history of one client, one command after another, and of the runner behind it.
+use Rattle.std.proofs.Common.{◌≡◌, ℕ, ◌+◌, ◌≤◌, true, List, [], ◌∷◌, ◌++◌, length, append-nil, refl, sym, ap, subst, ◌∙◌, append_assoc, inl, inr, arith}
 use Rattle.std.specs.Prelude.{All}
 use Rattle.std.proofs.lemmas.Bool.{cases_Bool}
 use Rattle.std.proofs.lemmas.List.{length_push}
 use Rattle.std.proofs.lemmas.List.Elements.{All-nil, All-push}
+use Rattle.udt_disk.specs.Causes.{Rose}
 use Rattle.client_lang.specs.declared.command.Command.{Command}
 use Rattle.udt_model.specs.declared.line.Line.{Line}
 use Rattle.udt_model.specs.declared.line.Mark.{Mark}
 use Rattle.udt_model.specs.declared.line.Who.{Who}
-use Rattle.udt_model.specs.declared.line.Who.TheVariants.{Client}
+use Rattle.udt_model.specs.declared.line.Who.TheVariants.{Client, Runner}
 use Rattle.udt_model.specs.State.{State}
-use Rattle.udt_model.specs.Steps.{IsReply, after, is_step}
+use Rattle.udt_model.specs.Steps.{IsReply, after, is_step, says_fault}
 use Rattle.udt_model.specs.Histories.{Point, start, IsLegal, IsSound, next_mark, behind, Leads, is_same, own}
+use Rattle.udt_model.specs.Crashes.{Course, course_after, course_behind}
 use Rattle.client_lang.specs.declared.command.Command.TheVariants as kinds
 use Rattle.udt_model.specs.declared.event.Event.{Event}
+use Rattle.udt_model.specs.declared.event.Event.TheVariants.{Sync}
 use Rattle.client_runner.specs.Expand.{Expand, IsSoloHistory}
 use Rattle.client_lang.specs.Print.{IsBuiltLine}
-use Rattle.client_runner.specs.Solo.{mark_behind}
+use Rattle.client_runner.specs.Solo.{mark_behind, no_mark, HasRun, HasSynced, AreSoundUnless}
 
 pub Leads-append : (a b c : Point) (xs ys : List Line) → Leads a xs b → Leads b ys c → Leads a (xs ++ ys) c
 Leads-append a b c [] ys p q = subst (λ (s : Point). Leads s ys c) p q
@@ -34,40 +37,26 @@ own-append who (x ∷ xs) ys =
       | inr e ↦ rw (e, own-append who xs ys) refl
     ]
 
--- The lines are the history of these commands so far; the store and the last mark are those of its end.
-pub record RanSoFar (m : State) (commands : List Command) (lines : List Line) (store : State) (last : Mark) : Type 0 where
-  pub end : Point
-  pub legal : Leads (start m) lines end
-  pub once : Expand commands (own (Client 1) lines)
-  pub alone : own (Client 1) lines ≡ lines
-  pub state_is : end.state ≡ store
-  pub number_is : end.number ≡ last.number
-  pub last_is : end.last (Client 1) ≡ last
-  pub count : last.number + last.sub ≤ length commands
-  pub sound : All IsSound lines
-  pub printed : All IsBuiltLine lines
+pub none_yet : (m : State) (lines : List Line) → lines ≡ [] → HasRun m [] lines m no_mark
+none_yet m lines e = subst (λ (ls : List Line). HasRun m [] ls m no_mark) (sym e)
+    (record { end = start m; run = record { legal = refl; once = refl; alone = refl }; state_is = refl; number_is = refl; last_is = refl; runner_is = refl; count = omega arith; printed = All-nil IsBuiltLine })
 
-pub none_yet : (m : State) → RanSoFar m [] [] m (record { number = 0; sub = 0 })
-none_yet m = record { end = start m; legal = refl; once = refl; alone = refl; state_is = refl; number_is = refl; last_is = refl; count = omega arith; sound = All-nil IsSound; printed = All-nil IsBuiltLine }
-
--- what a line of the client says
-pub record IsNext (store : State) (last : Mark) (event : Event) (line : Line) (new : State) : Type 0 where
+-- what a line says that was made behind the step of this number
+pub record IsNext (store : State) (who : Who) (number : ℕ) (last : Mark) (event : Event) (line : Line) (new : State) : Type 0 where
   pub event_is : line.event ≡ event
-  pub who : line.who ≡ Client 1
-  pub mark : line.mark ≡ mark_behind last line.event line.reply
+  pub who_is : line.who ≡ who
+  pub mark : line.mark ≡ mark_behind number last line.event line.reply
   pub reply : IsReply store line.event line.reply
-  pub after_is : new ≡ after store (last.number + 1) line.event line.reply
-  pub sound : IsSound line
+  pub after_is : new ≡ after store (number + 1) line.event line.reply
   pub printed : IsBuiltLine line
 
 own_line : (line : Line) → line.who ≡ Client 1 → own (Client 1) (line ∷ []) ≡ line ∷ []
 own_line line e = rw e refl
 
-mark_is : (p : Point) (last : Mark) (line : Line) → p.number ≡ last.number → p.last (Client 1) ≡ last → line.who ≡ Client 1
-    → mark_behind last line.event line.reply ≡ next_mark p line
-mark_is p last line n l w = rw (w, l, n) refl
+mark_is : (p : Point) (who : Who) (number : ℕ) (last : Mark) (line : Line) → p.number ≡ number → p.last who ≡ last → line.who ≡ who → mark_behind number last line.event line.reply ≡ next_mark p line
+mark_is p who number last line n l w = rw (w, l, n) refl
 
-number_behind : (p : Point) (last : Mark) (line : Line) → p.number ≡ last.number → (behind p line).number ≡ (mark_behind last line.event line.reply).number
+number_behind : (p : Point) (last : Mark) (line : Line) → p.number ≡ last.number → (behind p line).number ≡ (mark_behind last.number last line.event line.reply).number
 number_behind p last line n =
     elim (cases_Bool (is_step line.event line.reply)) [
       | inl e ↦ rw (e, n) refl
@@ -77,38 +66,133 @@ number_behind p last line n =
 last_behind : (p : Point) (line : Line) → line.who ≡ Client 1 → (behind p line).last (Client 1) ≡ line.mark
 last_behind p line w = rw w refl
 
-count_behind : (last : Mark) (line : Line) (n : ℕ) → last.number + last.sub ≤ n → (mark_behind last line.event line.reply).number + (mark_behind last line.event line.reply).sub ≤ n + 1
+runner_behind : (p : Point) (line : Line) → line.who ≡ Client 1 → (behind p line).last Runner ≡ p.last Runner
+runner_behind p line w = rw w refl
+
+count_behind : (last : Mark) (line : Line) (n : ℕ) → last.number + last.sub ≤ n → (mark_behind last.number last line.event line.reply).number + (mark_behind last.number last line.event line.reply).sub ≤ n + 1
 count_behind last line n le =
     elim (cases_Bool (is_step line.event line.reply)) [
       | inl e ↦ rw e (omega arith)
       | inr e ↦ rw e (omega arith)
     ]
 
+legal_next : (p : Point) (who : Who) (number : ℕ) (last : Mark) (store new : State) (event : Event) (line : Line) → p.state ≡ store → p.number ≡ number → p.last who ≡ last → IsNext store who number last event line new → IsLegal p line
+legal_next p who number last store new event line s n l next = record {
+  mark = next.mark ∙ mark_is p who number last line n l next.who_is;
+  reply = subst (λ (x : State). IsReply x line.event line.reply) (sym s) next.reply;
+}
+
+state_next : (p : Point) (who : Who) (number : ℕ) (last : Mark) (store new : State) (event : Event) (line : Line) → p.state ≡ store → p.number ≡ number → IsNext store who number last event line new → (behind p line).state ≡ new
+state_next p who number last store new event line s n next =
+    ap (λ (k : ℕ). after p.state (k + 1) line.event line.reply) n ∙ ap (λ (x : State). after x (number + 1) line.event line.reply) s ∙ sym next.after_is
+
 pub ran_more : (m : State) (commands : List Command) (lines : List Line) (store new : State) (last : Mark) (event : Event) (line : Line)
-    → RanSoFar m commands lines store last → IsNext store last event line new → RanSoFar m (commands ++ kinds.Line event ∷ []) (lines ++ line ∷ []) new line.mark
+    → HasRun m commands lines store last → IsNext store (Client 1) last.number last event line new → HasRun m (commands ++ kinds.Line event ∷ []) (lines ++ line ∷ []) new line.mark
 ran_more m cs lines store new last event line r n =
-    let legal_line : IsLegal r.end line = record {
-      mark = n.mark ∙ mark_is r.end last line r.number_is r.last_is n.who;
-      reply = subst (λ (s : State). IsReply s line.event line.reply) (sym r.state_is) n.reply;
-    } in
-    let own_new : own (Client 1) (line ∷ []) ≡ line ∷ [] = own_line line n.who in
+    let legal_line = legal_next r.end (Client 1) last.number last store new event line r.state_is r.number_is r.last_is n in
+    let own_new : own (Client 1) (line ∷ []) ≡ line ∷ [] = own_line line n.who_is in
     record {
       end = behind r.end line;
-      legal = Leads-append (start m) r.end (behind r.end line) lines (line ∷ []) r.legal (legal_line, refl);
-      once = rw (own-append (Client 1) lines (line ∷ []), own_new) (Expand-append cs (kinds.Line event ∷ []) (own (Client 1) lines) (line ∷ []) r.once (line ∷ [], [], n.event_is, refl, refl));
-      alone = own-append (Client 1) lines (line ∷ []) ∙ ap (λ (ls : List Line). ls ++ own (Client 1) (line ∷ [])) r.alone ∙ ap (λ (ls : List Line). lines ++ ls) own_new;
-      state_is = ap (λ (k : ℕ). after r.end.state (k + 1) line.event line.reply) r.number_is ∙ ap (λ (s : State). after s (last.number + 1) line.event line.reply) r.state_is ∙ sym n.after_is;
+      run = record {
+        legal = Leads-append (start m) r.end (behind r.end line) lines (line ∷ []) r.run.legal (legal_line, refl);
+        once = rw (own-append (Client 1) lines (line ∷ []), own_new) (Expand-append cs (kinds.Line event ∷ []) (own (Client 1) lines) (line ∷ []) r.run.once (line ∷ [], [], n.event_is, refl, refl));
+        alone = own-append (Client 1) lines (line ∷ []) ∙ ap (λ (ls : List Line). ls ++ own (Client 1) (line ∷ [])) r.run.alone ∙ ap (λ (ls : List Line). lines ++ ls) own_new;
+      };
+      state_is = state_next r.end (Client 1) last.number last store new event line r.state_is r.number_is n;
       number_is = number_behind r.end last line r.number_is ∙ ap (λ (k : Mark). k.number) (sym n.mark);
-      last_is = last_behind r.end line n.who;
+      last_is = last_behind r.end line n.who_is;
+      runner_is = runner_behind r.end line n.who_is ∙ r.runner_is;
       count =
           let le = count_behind last line (length cs) r.count in
-          let number : line.mark.number ≡ (mark_behind last line.event line.reply).number = ap (λ (k : Mark). k.number) n.mark in
-          let sub : line.mark.sub ≡ (mark_behind last line.event line.reply).sub = ap (λ (k : Mark). k.sub) n.mark in
+          let number : line.mark.number ≡ (mark_behind last.number last line.event line.reply).number = ap (λ (k : Mark). k.number) n.mark in
+          let sub : line.mark.sub ≡ (mark_behind last.number last line.event line.reply).sub = ap (λ (k : Mark). k.sub) n.mark in
           let one = length_push cs (kinds.Line event) in
           omega arith;
-      sound = All-push IsSound lines line r.sound n.sound;
       printed = All-push IsBuiltLine lines line r.printed n.printed;
     }
 
-pub whole_history : (m : State) (commands taken : List Command) (lines : List Line) (store : State) (last : Mark) → taken ≡ commands → RanSoFar m taken lines store last → IsSoloHistory m commands lines
-whole_history m commands taken lines store last e r = subst (λ (cs : List Command). IsSoloHistory m cs lines) e (record { end = r.end; legal = r.legal; once = r.once; alone = r.alone })
+pub run_of : (m : State) (commands taken : List Command) (lines : List Line) (store : State) (last : Mark) → taken ≡ commands → HasRun m taken lines store last → HasRun m commands lines store last
+run_of m commands taken lines store last e r = subst (λ (cs : List Command). HasRun m cs lines store last) e r
+
+pub whole_history : (m : State) (commands : List Command) (lines : List Line) (store : State) (last : Mark) → HasRun m commands lines store last → IsSoloHistory m commands lines
+whole_history m commands lines store last r = record { end = r.end; run = r.run }
+
+-- ---- the runner's sync
+
+not_own : (line : Line) → line.who ≡ Runner → own (Client 1) (line ∷ []) ≡ []
+not_own line e = rw e refl
+
+pub synced_last : (m : State) (commands : List Command) (lines : List Line) (store new : State) (last : Mark) (line : Line)
+    → HasRun m commands lines store last → IsNext store Runner last.number no_mark Sync line new → HasSynced m commands (lines ++ line ∷ []) new
+synced_last m cs lines store new last line r n =
+    let legal_line = legal_next r.end Runner last.number no_mark store new Sync line r.state_is r.number_is r.runner_is n in
+    let mine : own (Client 1) (lines ++ line ∷ []) ≡ lines =
+    own-append (Client 1) lines (line ∷ []) ∙ ap (λ (ls : List Line). own (Client 1) lines ++ ls) (not_own line n.who_is) ∙ append-nil (own (Client 1) lines) ∙ r.run.alone in
+    record {
+      end = behind r.end line;
+      history = record {
+        legal = Leads-append (start m) r.end (behind r.end line) lines (line ∷ []) r.run.legal (legal_line, refl);
+        once = subst (λ (ls : List Line). Expand cs ls) (r.run.alone ∙ sym mine) r.run.once;
+        sync = line;
+        is_sync = n.event_is;
+        is_runner = n.who_is;
+        rest = ap (λ (ls : List Line). ls ++ line ∷ []) (sym mine);
+      };
+      state_is = state_next r.end Runner last.number no_mark store new Sync line r.state_is r.number_is n;
+    }
+
+-- ---- courses
+
+pub course_push : (p end : Point) (c : Course) (lines : List Line) (line : Line) → Leads p lines end → course_behind p c (lines ++ line ∷ []) ≡ course_after end.state (course_behind p c lines) line.event line.reply
+course_push p end c [] line e = ap (λ (q : Point). course_after q.state c line.event line.reply) (sym e)
+course_push p end c (l ∷ lines) line h = course_push (behind p l) end (course_after p.state c l.event l.reply) lines line h.1
+
+-- what is kept before a line is kept behind it
+pub keeps_more : (Keeps : Course → Type 0) (m store : State) (commands : List Command) (last : Mark) (c : Course) (lines : List Line) (line : Line) → HasRun m commands lines store last
+    → Keeps (course_after store (course_behind (start m) c lines) line.event line.reply) → Keeps (course_behind (start m) c (lines ++ line ∷ []))
+keeps_more Keeps m store commands last c lines line r k =
+    subst Keeps (sym (course_push (start m) r.end c lines line r.run.legal ∙ ap (λ (s : State). course_after s (course_behind (start m) c lines) line.event line.reply) r.state_is)) k
+
+-- ---- faults
+
+pub rose_later : (a b c : ℕ) → Rose a b → b ≤ c → Rose a c
+rose_later a b c rose le = omega (arith, rose, le)
+
+pub rose_earlier : (a b c : ℕ) → a ≤ b → Rose b c → Rose a c
+rose_earlier a b c le rose = grind arith
+
+pub sound_none : (count : ℕ) (lines : List Line) → lines ≡ [] → AreSoundUnless count count lines
+sound_none count lines e = inl (subst (All IsSound) (sym e) (All-nil IsSound))
+
+pub sound_more : (a b c : ℕ) (lines : List Line) (line : Line) → a ≤ b → b ≤ c → AreSoundUnless a b lines → (says_fault line.reply ≡ true → Rose b c) → AreSoundUnless a c (lines ++ line ∷ [])
+sound_more a b c lines line early late (inr rose) cause = inr (rose_later a b c rose late)
+sound_more a b c lines line early late (inl sound) cause =
+    elim (cases_Bool (says_fault line.reply)) [
+      | inl e ↦ inr (rose_earlier a b c early (cause e))
+      | inr e ↦ inl (All-push IsSound lines line sound e)
+    ]
+
+-- ---- the loop over a store in memory
+
+-- client 1 has made these commands, and no disk failed
+pub record RanSoFar (first store : State) (commands : List Command) (lines : List Line) (last : Mark) : Type 0 where
+  pub run : HasRun first commands lines store last
+  pub sound : All IsSound lines
+  pub counted : length lines ≡ length commands
+
+pub none_ran : (m : State) (lines : List Line) → lines ≡ [] → RanSoFar m m [] lines no_mark
+none_ran m lines e = record { run = none_yet m lines e; sound = subst (All IsSound) (sym e) (All-nil IsSound); counted = ap length e }
+
+pub counted_more : (commands : List Command) (lines : List Line) (event : Event) (line : Line) → length lines ≡ length commands → length (lines ++ line ∷ []) ≡ length (commands ++ kinds.Line event ∷ [])
+counted_more commands lines event line e =
+    let a = length_push lines line in
+    let b = length_push commands (kinds.Line event) in
+    omega (arith, e)
+
+pub ran_one_more : (first store new : State) (commands : List Command) (lines : List Line) (last : Mark) (event : Event) (line : Line) → RanSoFar first store commands lines last
+    → IsNext store (Client 1) last.number last event line new → IsSound line → RanSoFar first new (commands ++ kinds.Line event ∷ []) (lines ++ line ∷ []) line.mark
+ran_one_more first store new commands lines last event line r n sound = record {
+  run = ran_more first commands lines store new last event line r.run n;
+  sound = All-push IsSound lines line r.sound sound;
+  counted = counted_more commands lines event line r.counted;
+}

@@ -3,6 +3,7 @@ use Rattle.std.specs.Prelude.{◌≡◌, ℕ, List, [], ◌∷◌, ◌++◌, Opt
 use Rattle.udt_model.specs.declared.event.NamedOp.{NamedOp}
 use Rattle.udt_model.specs.declared.reply.Reply.{Reply}
 use Rattle.udt_model.specs.declared.reply.Reply.TheVariants.{OkAt, Fault}
+use Rattle.ts_key.specs.declared.batch.WriteOp.{WriteOp}
 use Rattle.ts_key.specs.declared.version.Version.{Version}
 use Rattle.client_lang.specs.Print.{IsBuiltReply}
 use Rattle.udt_model.specs.State.{State, family_of, full, made, refused, unknown, version_of, ◌or_else◌}
@@ -28,6 +29,15 @@ Grows old new = (more : List Version) × (new ≡ with_versions old (old.version
 abbrev pub IsAdded : State → List NamedOp → Option Reply → State → Type 0
 IsAdded old os None new = new ≡ with_versions old (old.versions ++ made old old.last.0 os)
 IsAdded old os (Some refusal) new = Grows old new
+
+-- the versions of all operations were added, or nothing where one is refused
+abbrev pub IsAdmitted : State → List NamedOp → Option Reply → State → Type 0
+IsAdmitted old os None new = new ≡ with_versions old (old.versions ++ made old old.last.0 os)
+IsAdmitted old os (Some refusal) new = new ≡ old
+
+-- the operation of a batch that makes a version
+abbrev pub op_of : Version → WriteOp
+op_of v = record { family = v.family; key = v.key; ts = v.ts; op = v.op }
 
 -- a reply that refuses a write, of those that are built
 abbrev pub IsRefusal : Reply → Type 0

@@ -1,8 +1,10 @@
 -- The words of a command line.
-use Rattle.std.specs.Prelude.{◌≡◌, ℕ, List, [], ◌∷◌, codes, Option, Some, None}
+use Rattle.std.specs.Prelude.{◌≡◌, ℕ, List, [], ◌∷◌, ◌++◌, All, map, codes, Option, Some, None}
 use Rattle.std.specs.Str.{IsUtf8}
+use Rattle.udt_model.specs.declared.line.FamilyHead.{FamilyHead}
+use Rattle.manifest.specs.Heads.{AreNew, IsNew, IsNamed}
 use Rattle.client_runner.specs.declared.words.Command.{Command}
-use Rattle.client_runner.specs.declared.words.Command.TheVariants.{Help, Version, Try}
+use Rattle.client_runner.specs.declared.words.Command.TheVariants.{Help, Version, Try, Init, Run}
 
 abbrev pub IsHelp : List (List ℕ) → Type 0
 IsHelp words = words ≡ codes "--help" ∷ []
@@ -14,11 +16,28 @@ IsVersion words = words ≡ codes "--version" ∷ []
 abbrev pub IsTry : List (List ℕ) → List ℕ → Type 0
 IsTry words file = (words ≡ codes "try" ∷ file ∷ []) × IsUtf8 file
 
+-- the word of a family: its name, a colon and its form
+abbrev pub family_word : FamilyHead → List ℕ
+family_word f = f.name ++ codes ":persist"
+
+-- init FOLDER NAME:persist .., for these families, where FOLDER is text
+pub record IsInit (words : List (List ℕ)) (folder : List ℕ) (families : List FamilyHead) : Type 0 where
+  pub is : words ≡ codes "init" ∷ folder ∷ map family_word families
+  pub text : IsUtf8 folder
+  pub new : AreNew families
+  pub named : All IsNamed families
+
+-- run FOLDER FILE, where both are text
+abbrev pub IsRun : List (List ℕ) → List ℕ → List ℕ → Type 0
+IsRun words folder file = (words ≡ codes "run" ∷ folder ∷ file ∷ []) × IsUtf8 folder × IsUtf8 file
+
 -- the words are no command
 pub record IsNoCommand (words : List (List ℕ)) : Type 0 where
   pub no_help : IsHelp words → ⊥
   pub no_version : IsVersion words → ⊥
   pub no_try : (file : List ℕ) → IsTry words file → ⊥
+  pub no_init : (folder : List ℕ) (families : List FamilyHead) → IsInit words folder families → ⊥
+  pub no_run : (folder file : List ℕ) → IsRun words folder file → ⊥
 
 -- these words are this command
 abbrev pub IsCommandOf : List (List ℕ) → Option Command → Type 0
@@ -26,7 +45,33 @@ IsCommandOf words None = IsNoCommand words
 IsCommandOf words (Some Help) = IsHelp words
 IsCommandOf words (Some Version) = IsVersion words
 IsCommandOf words (Some (Try file)) = IsTry words file.now
+IsCommandOf words (Some (Init folder head)) = IsInit words folder.now head.families
+IsCommandOf words (Some (Run folder file)) = IsRun words folder.now file.now
 
--- the same for one word
-abbrev pub IsLoneCommandOf : List ℕ → Option Command → Type 0
-IsLoneCommandOf word command = IsCommandOf (word ∷ []) command
+-- the first word is init
+abbrev pub IsInitWord : List (List ℕ) → Type 0
+IsInitWord words = (rest : List (List ℕ)) × (words ≡ codes "init" ∷ rest)
+
+-- ---- the words of families
+
+-- the word is this name before :persist
+abbrev pub IsNamePart : List ℕ → List ℕ → Type 0
+IsNamePart word name = word ≡ name ++ codes ":persist"
+
+-- the word spells this family
+pub record IsFamilyWord (word : List ℕ) (f : FamilyHead) : Type 0 where
+  pub is : word ≡ family_word f
+  pub new : IsNew f
+  pub named : IsNamed f
+
+-- the words spell these families
+pub record AreFamilyWords (words : List (List ℕ)) (families : List FamilyHead) : Type 0 where
+  pub is : words ≡ map family_word families
+  pub each : All IsNew families
+  pub named : All IsNamed families
+
+-- the words spell the families of a head
+pub record AreHeadWords (words : List (List ℕ)) (families : List FamilyHead) : Type 0 where
+  pub is : words ≡ map family_word families
+  pub new : AreNew families
+  pub named : All IsNamed families

@@ -19,15 +19,19 @@ abbrev pub Expand : List Command → List Line → Type 0
 Expand [] ls = ls ≡ []
 Expand (command ∷ commands) ls = (front : List Line) × (rest : List Line) × IsDone command front × Expand commands rest × (ls ≡ front ++ rest)
 
--- A legal history from the state on, whose lines are those of the commands of client 1, once and in order, and no others.
-pub record IsSoloHistory (m : State) (commands : List Command) (lines : List Line) : Type 0 where
-  pub end : Point
+-- The lines lead from the state to this end, and are those of the commands of client 1, once and in order, and no others.
+pub record IsSoloRun (m : State) (commands : List Command) (lines : List Line) (end : Point) : Type 0 where
   pub legal : Leads (start m) lines end
   pub once : Expand commands (own (Client 1) lines)
   pub alone : own (Client 1) lines ≡ lines
 
--- A legal history from the state on, whose lines are those of the commands of client 1, once and in order, and then one
--- sync of the runner.
+-- A legal history from the state on, whose lines are those of the commands of client 1, once and in order, and no others.
+pub record IsSoloHistory (m : State) (commands : List Command) (lines : List Line) : Type 0 where
+  pub end : Point
+  pub run : IsSoloRun m commands lines end
+
+-- A legal history from the state on to this end, whose lines are those of the commands of client 1, once and in order, and
+-- then one sync of the runner.
 pub record IsRunHistory (m : State) (commands : List Command) (lines : List Line) (end : Point) : Type 0 where
   pub legal : Leads (start m) lines end
   pub once : Expand commands (own (Client 1) lines)

@@ -1,3 +1,10 @@
+pub mod Stores
+pub mod Openings
+pub mod Opened
+pub mod MakingStores
+pub mod Keeping
+pub mod Logging
+pub mod LoggedStores
 pub mod Expand
 pub mod Adding
 pub mod Transcripts
@@ -6,7 +13,12 @@ pub mod Output
 pub mod Solo
 pub mod Commands
 pub mod Statuses
+pub mod Sessions
+pub mod Left
 pub mod Stops
+pub mod Inits
 pub mod Hosts
 pub mod Ready
+pub mod Runs
+pub mod HostRuns
 pub mod Ends

@@ -1,5 +1,5 @@
 -- Transcripts that wait to be written, and why there is none.
-use Rattle.std.specs.Prelude.{◌≡◌, ◌⊎◌, ℕ, List, ◌++◌, All, Some}
+use Rattle.std.specs.Prelude.{◌≡◌, ◌⊎◌, ℕ, ◌≤◌, List, ◌++◌, length, All, Some}
 use Rattle.udt_disk.specs.Opens.{Standing, Stands}
 use Rattle.client_lang.specs.declared.command.Command.{Command}
 use Rattle.udt_model.specs.Histories.{IsSound}
@@ -8,13 +8,25 @@ use Rattle.client_lang.specs.declared.grammar.lines.ReadFault.{ReadFault}
 use Rattle.client_lang.specs.declared.grammar.lines.ReadFault.TheVariants as faults
 use Rattle.client_lang.specs.Faults.{Refuses}
 use Rattle.client_runner.specs.Output.{HasRoom}
-use Rattle.client_lang.specs.Print.{IsBuiltLine, print_header, print_lines}
+use Rattle.client_lang.specs.Grammar.{IsFile, command_limit}
+use Rattle.client_lang.specs.Print.{IsBuiltCommand, IsBuiltLine, print_header, print_lines}
+use Rattle.client_lang.specs.Stamps.{IsStampedCommand}
 use Rattle.client_runner.specs.Stops.{message, status_of}
 use Rattle.client_runner.specs.Transcripts.{IsTranscript, fresh}
-use Rattle.client_runner.specs.declared.top.Ready.{Ready}
+use Rattle.client_runner.specs.declared.output.Ready.{Ready}
 use Rattle.client_runner.specs.declared.status.Status.{Status}
 use Rattle.client_runner.specs.declared.status.Stop.{Stop}
-use Rattle.client_runner.specs.declared.status.Stop.TheVariants.{BadWords, NoFile, TooLong, TooMany, BadLine, SourceFault, NoMemory}
+use Rattle.client_runner.specs.declared.status.Stop.TheVariants.{TooLong, TooMany, BadLine, NoMemory}
+
+-- the commands of the file that stands there
+pub record IsReadAs (standing : Standing) (commands : List Command) : Type 0 where
+  pub bytes : List ℕ
+  pub stands : Stands standing (Some bytes)
+  pub spelled : IsFile bytes commands
+  pub only : (other : List Command) → IsFile bytes other → other ≡ commands
+  pub built : All IsBuiltCommand commands
+  pub stamped : All IsStampedCommand commands
+  pub few : length commands ≤ command_limit
 
 -- the whole text
 abbrev pub text_of : Ready → List ℕ
@@ -53,9 +65,7 @@ IsReadyStop bytes TooLong = Refuses bytes faults.TooLong
 IsReadyStop bytes (TooMany n) = Refuses bytes (faults.TooMany n)
 IsReadyStop bytes (BadLine n) = Refuses bytes (faults.BadLine n)
 IsReadyStop bytes NoMemory = Unit {0}
-IsReadyStop bytes BadWords = ⊥
-IsReadyStop bytes NoFile = ⊥
-IsReadyStop bytes SourceFault = ⊥
+IsReadyStop bytes stop = ⊥
 
 -- the status and the message of a stop, or of want of memory in its place
 abbrev pub IsMessage : List ℕ → Stop → Status → List ℕ → Type 0

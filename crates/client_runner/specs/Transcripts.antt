@@ -4,8 +4,8 @@ use Rattle.ts_key.specs.declared.version.Form.TheVariants.{Persist}
 use Rattle.client_lang.specs.declared.command.Command.{Command}
 use Rattle.udt_model.specs.declared.line.Line.{Line}
 use Rattle.udt_model.specs.State.{State}
-use Rattle.udt_model.specs.Histories.{IsSound}
-use Rattle.client_runner.specs.Expand.{IsSoloHistory}
+use Rattle.udt_model.specs.Histories.{IsSound, Point}
+use Rattle.client_runner.specs.Expand.{IsSoloHistory, IsRunHistory}
 use Rattle.client_lang.specs.Print.{print_header, print_lines}
 use Rattle.client_lang.specs.Grammar.{IsFile}
 
@@ -23,3 +23,12 @@ pub record IsTranscript (file text : List ℕ) : Type 0 where
   pub history : IsSoloHistory fresh commands lines
   pub sound : All IsSound lines
   pub printed : text ≡ print_header 0 fresh.heads ++ print_lines lines
+
+-- The file spells these commands and no others, and the text is the header and the printed lines of a legal history of them from
+-- the state m to this end, with the runner's sync last.
+pub record IsRunTranscript (file text : List ℕ) (m : State) (lines : List Line) (end : Point) : Type 0 where
+  pub commands : List Command
+  pub spelled : IsFile file commands
+  pub only : (other : List Command) → IsFile file other → other ≡ commands
+  pub history : IsRunHistory m commands lines end
+  pub printed : text ≡ print_header m.last.0 m.heads ++ print_lines lines

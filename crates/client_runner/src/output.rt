@@ -16,6 +16,13 @@ use udt_model::{FamilyHead, Line};
 /// So many bytes of lines are gathered before they are written.
 const CHUNK: usize = 65_536;
 
+/// A transcript that waits to be written: the header in a buffer that has the room for the lines.
+#[derive(Drop)]
+pub struct Ready {
+    pub buffer: Vec<u8>,
+    pub lines: Vec<Line>,
+}
+
 /// How many bytes the longest line has in print. Each line is printed for it, and once more to be written.
 fn longest_line(alloc: Global, lines: &[Line]) -> Result<usize, NoMemory>
     requires { All IsBuiltLine lines.now }
@@ -31,23 +38,27 @@ fn longest_line(alloc: Global, lines: &[Line]) -> Result<usize, NoMemory>
     Ok(longest)
 }
 
-/// A buffer with the header of a store without a write, and room for the lines: writing them needs no memory.
-pub fn header_with_room(
-    alloc: Global,
-    heads: &[FamilyHead],
-    lines: &[Line],
-) -> Result<Vec<u8>, NoMemory>
-    requires { All IsBuiltLine lines.now }
-    ensures header { IfOk result (λ buffer. buffer.items ≡ header_text 0 heads.now) }
-    ensures room { IfOk result (λ buffer. HasRoom buffer lines.now) }
+/// The header of a store that was opened at the sequence `last`.
+pub fn header_of(alloc: Global, last: u64, heads: &[FamilyHead]) -> Result<Vec<u8>, NoMemory>
+    ensures { IfOk result (λ buffer. buffer.items ≡ header_text last heads.now) }
 {
-    let Some(room) = longest_line(alloc, lines)?.checked_add(CHUNK) else {
+    let mut buffer = Vec::new(alloc);
+    print_header(last, heads, &mut buffer)?;
+    Ok(buffer)
+}
+
+/// The transcript of these lines behind a header. Writing it needs no memory.
+pub fn ready_of(alloc: Global, mut buffer: Vec<u8>, lines: Vec<Line>) -> Result<Ready, NoMemory>
+    requires { All IsBuiltLine lines.items }
+    ensures header { IfOk result (λ ready. ready.buffer.items ≡ buffer.items) }
+    ensures lines { IfOk result (λ ready. ready.lines.items ≡ lines.items) }
+    ensures room { IfOk result (λ ready. HasRoom ready.buffer lines.items) }
+{
+    let Some(room) = longest_line(alloc, &lines)?.checked_add(CHUNK) else {
         return Err(AllocError);
     };
-    let mut buffer = Vec::new(alloc);
-    print_header(0, heads, &mut buffer)?;
     buffer.reserve(room)?;
-    Ok(buffer)
+    Ok(Ready { buffer, lines })
 }
 
 /// Writes the buffer where it has a chunk of bytes.

@@ -1,29 +1,35 @@
-//! One client over a plain store: the lines of its commands.
-ghost use Rattle.std.specs.Prelude.{◌≡◌, ◌+◌, ◌-◌, ◌^◌, ◌<◌, All, length, IfOk};
-ghost use Rattle.client_runner.specs.Expand.{IsSoloHistory};
+//! One client over a store: the lines of its commands.
+ghost use Rattle.std.specs.Prelude.{◌≡◌, ◌+◌, ◌-◌, ◌^◌, ◌<◌, ◌≤◌, [], ◌∷◌, ◌++◌, All, length, vec_len, vec_capacity};
 ghost use Rattle.udt_model.specs.Histories.{IsSound};
-ghost use Rattle.udt_model.specs.Steps.{IsReply, after as state_after};
-ghost use Rattle.udt_model.specs.declared.line.Who.TheVariants.{Client};
-ghost use Rattle.client_lang.specs.Print.{IsBuilt, IsBuiltCommand, IsBuiltLine};
-ghost use Rattle.client_runner.specs.Solo.{mark_behind};
+ghost use Rattle.client_lang.specs.Print.{IsBuilt, IsBuiltCommand, IsBuiltLine, IsBuiltReply};
+ghost use Rattle.client_runner.specs.Solo.{mark_behind, HasRun};
 
+mod logged;
+mod session;
 mod store;
 
 use client_lang::Command;
-use std::alloc::Global;
+pub use logged::LoggedStore;
+pub use session::run_and_sync;
 pub use store::{PlainStore, fresh_heads};
-use ts_key::NoMemory;
 use udt_model::{Event, Line, Mark, Reply, Who, is_step};
 
-/// The mark behind `last` of a line of the only client.
-fn mark_of(last: Mark, event: &Event, reply: &Reply) -> Mark
-    requires number { last.number + 1 < 2 ^ 64 }
+/// The lines of a client's commands, and the mark of the last.
+#[derive(Drop)]
+pub struct Ran {
+    pub lines: Vec<Line>,
+    pub last: Mark,
+}
+
+/// The mark of a line behind the step `number`, where the last line of its actor has the mark `last`.
+fn mark_of(number: u64, last: Mark, event: &Event, reply: &Reply) -> Mark
+    requires number { number + 1 < 2 ^ 64 }
     requires sub { last.sub + 1 < 2 ^ 32 }
-    ensures { result ≡ mark_behind last event.now reply.now }
+    ensures { result ≡ mark_behind number last event.now reply.now }
 {
     if is_step(event, reply) {
         Mark {
-            number: last.number + 1,
+            number: number + 1,
             sub: 0,
         }
     } else {
@@ -34,24 +40,22 @@ fn mark_of(last: Mark, event: &Event, reply: &Reply) -> Mark
     }
 }
 
-/// Makes an event of client 1, whose last line has the mark `last`, and tells its line.
-fn perform(store: &mut PlainStore, last: Mark, event: Event) -> Line
-    requires built { IsBuilt event }
-    requires number { last.number + 1 < 2 ^ 64 }
+/// The line of an event with its reply behind the step `number`, where the last line of its actor has the mark `last`.
+fn line_of(who: Who, number: u64, last: Mark, event: Event, reply: Reply) -> Line
+    requires event { IsBuilt event }
+    requires reply { IsBuiltReply reply }
+    requires number { number + 1 < 2 ^ 64 }
     requires sub { last.sub + 1 < 2 ^ 32 }
     ensures event { result.event ≡ event }
-    ensures who { result.who ≡ Client 1 }
-    ensures mark { result.mark ≡ mark_behind last result.event result.reply }
-    ensures reply { IsReply store.old result.event result.reply }
-    ensures after { store.new ≡ state_after store.old (last.number + 1) result.event result.reply }
-    ensures sound { IsSound result }
+    ensures reply { result.reply ≡ reply }
+    ensures who { result.who ≡ who }
+    ensures mark { result.mark ≡ mark_behind number last event reply }
     ensures printed { IsBuiltLine result }
 {
-    let reply = store.step(&event);
-    let mark = mark_of(last, &event, &reply);
+    let mark = mark_of(number, last, &event, &reply);
     Line {
         mark,
-        who: Who::Client(1),
+        who,
         event,
         reply,
     }
@@ -65,25 +69,35 @@ fn event_of(command: Command) -> Event
     }
 }
 
-/// The lines of the commands of client 1 over a store, numbered from 1. A read or a write that finds no memory says so
-/// in its line.
-pub fn run(
-    alloc: Global,
-    mut store: PlainStore,
-    commands: Vec<Command>,
-) -> Result<Vec<Line>, NoMemory>
+/// Adds a line where there is room for one.
+fn add_line(lines: &mut Vec<Line>, line: Line)
+    requires { vec_len lines.old < vec_capacity lines.old }
+    ensures items { lines.new.items ≡ lines.old.items ++ line ∷ [] }
+    ensures room { vec_capacity lines.old ≤ vec_capacity lines.new }
+{
+    match lines.push(line) {
+        Ok(()) => {}
+        Err(_) => unreachable!(),
+    }
+}
+
+/// Makes the commands of client 1 over a store in memory, and tells their lines, numbered from 1. A read or a write that finds no
+/// memory says so in its line. The list of lines is given, and has the room for them.
+pub fn run(store: &mut PlainStore, commands: Vec<Command>, mut lines: Vec<Line>) -> Ran
     requires built { All IsBuiltCommand commands.items }
     requires few { length commands.items < 2 ^ 32 - 1 }
-    ensures history { IfOk result (λ lines. IsSoloHistory store commands.items lines.items) }
-    ensures sound { IfOk result (λ lines. All IsSound lines.items) }
-    ensures printed { IfOk result (λ lines. All IsBuiltLine lines.items) }
+    requires empty { lines.items ≡ [] }
+    requires room { length commands.items ≤ vec_capacity lines }
+    ensures run { HasRun store.old commands.items result.lines.items store.new result.last }
+    ensures sound { All IsSound result.lines.items }
 {
-    let mut lines = Vec::with_capacity(alloc, commands.len())?;
     let mut last = Mark { number: 0, sub: 0 };
     for command in commands {
-        let line = perform(&mut store, last, event_of(command));
+        let event = event_of(command);
+        let reply = store.step(&event);
+        let line = line_of(Who::Client(1), last.number, last, event, reply);
         last = line.mark;
-        lines.push(line)?;
+        add_line(&mut lines, line);
     }
-    Ok(lines)
+    Ran { lines, last }
 }

@@ -54,6 +54,16 @@ pub enum Stop {
     BadLine { line: u64 },
     /// The file couldn't be read.
     SourceFault,
+    /// The folder has a store already.
+    StoreExists,
+    /// The folder isn't there, or has no store.
+    NoStore,
+    /// The folder's manifest is missing or outside its grammar. Its first frame that is stands at the offset `at`.
+    BadManifest { at: u64 },
+    /// The folder's live log `number` is missing or outside its grammar. Its first frame that is stands at the offset `at`.
+    BadLog { number: u64, at: u64 },
+    /// The folder's disk failed, or the host where the folder was asked for.
+    DiskFault,
     /// There was no memory.
     NoMemory,
 }

@@ -1,94 +1,46 @@
 //! The top call.
-ghost use Rattle.std.specs.Prelude.{◌≡◌, ℕ, List, ◌-◌, ◌^◌, ◌<◌, ◌≤◌, ◌++◌, [], All, length, Some, IfOk, IfErr, OnOk};
+ghost use Rattle.std.specs.Prelude.{◌≡◌, ℕ, List, ◌-◌, ◌^◌, ◌<◌, ◌≤◌, ◌++◌, [], All, length, IfOk, IfErr, OnOk};
 ghost use Rattle.udt_disk.specs.Causes.{Rose};
-ghost use Rattle.udt_disk.specs.Opens.{Stands, StaysBut};
-ghost use Rattle.client_runner.specs.Commands.{IsTry};
-ghost use Rattle.client_runner.specs.Ends.{IsAnswered, IsComplete, IsEnd, IsFileWork, IsPrinted, IsRefused, IsStopped, IsWork};
-ghost use Rattle.client_runner.specs.Output.{HasRoom};
+ghost use Rattle.udt_disk.specs.Crash.{NoMore};
+ghost use Rattle.udt_disk.specs.Opens.{StaysBut};
+ghost use Rattle.udt_disk.specs.OpensFolder.{KeepsFolders, KeepsFoldersBut, LeavesNoMoreBut};
+ghost use Rattle.udt_disk.specs.declared.name.FileName.{FileName as NameOf};
+ghost use Rattle.manifest.specs.Heads.{AreNew};
 ghost use Rattle.client_lang.specs.Print.{IsBuiltCommand, IsBuiltLine};
-ghost use Rattle.client_runner.specs.Hosts.{StaysOrGoes};
-ghost use Rattle.client_runner.specs.Ready.{IsMessage, IsTranscribed, IsReady, IsReadyStop, IsTried, stop_of_read, text_of};
+ghost use Rattle.client_lang.specs.Stamps.{IsStampedCommand};
+ghost use Rattle.client_runner.specs.Ends.{IsAnswered, IsComplete, IsEnd, IsFileWork, IsInitComplete, IsInitRefused, IsInitWork, IsOpenRefused, IsPrinted, IsRefused, IsRunComplete, IsRunWork, IsStopped, IsWork};
+ghost use Rattle.client_runner.specs.Hosts.{IsFileOf, IsFolderOf, StaysElsewhere, FileStaysOrGoes, LeavesNoMoreElsewhere, StaysOrGoes};
+ghost use Rattle.client_runner.specs.Output.{HasRoom};
+ghost use Rattle.client_runner.specs.Ready.{IsMessage, IsTranscribed, IsTried, text_of};
 ghost use Rattle.client_runner.specs.Stops.{IsFileStop, message, status_of as status_of_stop};
 
-use crate::flow::{FlowFault, read_whole, write_whole};
-use crate::output::{header_with_room, write_lines};
-use crate::solo::{PlainStore, fresh_heads, run};
+use crate::flow::write_whole;
+use crate::init::init_folder;
+use crate::output::{Ready, header_of, ready_of, write_lines};
+use crate::reading::read_commands;
+use crate::run::{run_path, status_of_lines};
+use crate::solo::{PlainStore, Ran, fresh_heads, run};
 use crate::status::{Status, Stop};
 use crate::words::{Command, HELP, VERSION, command_of};
-use client_lang::{ReadFault, Word, push_line, read_client};
+use client_lang::{Word, push_line};
+use manifest::Head;
 use std::alloc::Global;
 use ts_key::NoMemory;
 use udt_disk::{Host, Sink, Text};
-use udt_model::Line;
-
-/// A transcript that waits to be written: the header in a buffer that has the room for the lines.
-#[derive(Drop)]
-struct Ready {
-    buffer: Vec<u8>,
-    lines: Vec<Line>,
-}
-
-/// The bytes of the file under a path.
-fn read_file<H: Host>(alloc: Global, path: &Text, host: &mut H) -> Result<Vec<u8>, Stop>
-    ensures ok { IfOk result (λ bytes. Stands (H.standing host.old path.now) (Some bytes.items)) }
-    ensures stopped { IfErr result (IsFileStop (H.standing host.old path.now) (H.faults host.old) (H.faults host.new)) }
-    ensures others { StaysBut path.now (H.standing host.old) (H.standing host.new) }
-    ensures taken { StaysOrGoes (H.standing host.old path.now) (H.standing host.new path.now) }
-    ensures later { H.faults host.old ≤ H.faults host.new }
-{
-    let Ok(opened) = host.open_source(path) else {
-        return Err(Stop::SourceFault);
-    };
-    let Some(mut input) = opened else {
-        return Err(Stop::NoFile);
-    };
-    let read = read_whole(alloc, &mut input);
-    host.close_source(input);
-    match read {
-        Ok(bytes) => Ok(bytes),
-        Err(FlowFault::Failed) => Err(Stop::SourceFault),
-        Err(FlowFault::TooLong) => Err(Stop::TooLong),
-        Err(FlowFault::NoMemory) => Err(Stop::NoMemory),
-    }
-}
 
 /// The transcript of commands over a store in memory, ready to be written.
 fn transcribe(alloc: Global, commands: Vec<client_lang::Command>) -> Result<Ready, NoMemory>
     requires built { All IsBuiltCommand commands.items }
+    requires stamped { All IsStampedCommand commands.items }
     requires few { length commands.items < 2 ^ 32 - 1 }
     ensures { IfOk result (IsTranscribed commands.items) }
 {
-    let store = PlainStore::new(alloc, fresh_heads(alloc)?);
-    let lines = run(alloc, store, commands)?;
+    let mut store = PlainStore::new(alloc, fresh_heads(alloc)?);
+    let lines = Vec::with_capacity(alloc, commands.len())?;
+    let Ran { lines, last: _ } = run(&mut store, commands, lines);
     let heads = fresh_heads(alloc)?;
-    let buffer = header_with_room(alloc, &heads, &lines)?;
-    Ok(Ready { buffer, lines })
-}
-
-fn stop_of_fault(fault: ReadFault) -> Stop
-    ensures { result ≡ stop_of_read fault }
-{
-    match fault {
-        ReadFault::BadLine { line } => Stop::BadLine { line },
-        ReadFault::TooMany { line } => Stop::TooMany { line },
-        ReadFault::TooLong => Stop::TooLong,
-        ReadFault::NoMemory => Stop::NoMemory,
-    }
-}
-
-/// The transcript of a command file, ready to be written.
-fn prepare(alloc: Global, bytes: &[u8]) -> Result<Ready, Stop>
-    ensures ready { IfOk result (IsReady bytes.now) }
-    ensures stopped { IfErr result (IsReadyStop bytes.now) }
-{
-    let commands = match read_client(alloc, bytes) {
-        Ok(commands) => commands,
-        Err(fault) => return Err(stop_of_fault(fault)),
-    };
-    match transcribe(alloc, commands) {
-        Ok(ready) => Ok(ready),
-        Err(_) => Err(Stop::NoMemory),
-    }
+    let header = header_of(alloc, 0, &heads)?;
+    ready_of(alloc, header, lines)
 }
 
 /// The transcript of the file under a path, ready to be written.
@@ -97,13 +49,18 @@ fn try_path<H: Host>(alloc: Global, path: &Text, host: &mut H) -> Result<Ready, 
     ensures stopped { IfErr result (IsFileStop (H.standing host.old path.now) (H.faults host.old) (H.faults host.new)) }
     ensures others { StaysBut path.now (H.standing host.old) (H.standing host.new) }
     ensures taken { StaysOrGoes (H.standing host.old path.now) (H.standing host.new path.now) }
+    ensures folders { KeepsFolders (H.folder_at host.old) (H.folder_at host.new) }
+    ensures leaves { LeavesNoMoreBut path.now (H.leaves_at host.old) (H.leaves_at host.new) }
     ensures later { H.faults host.old ≤ H.faults host.new }
 {
-    let bytes = match read_file(alloc, path, host) {
-        Ok(bytes) => bytes,
+    let commands = match read_commands(alloc, path, host) {
+        Ok(commands) => commands,
         Err(stop) => return Err(stop),
     };
-    prepare(alloc, &bytes)
+    match transcribe(alloc, commands) {
+        Ok(ready) => Ok(ready),
+        Err(_) => Err(Stop::NoMemory),
+    }
 }
 
 fn status_of(stop: Stop) -> Status
@@ -111,7 +68,10 @@ fn status_of(stop: Stop) -> Status
 {
     match stop {
         Stop::SourceFault => Status::SourceFault,
+        Stop::DiskFault => Status::DiskFault,
         Stop::NoMemory => Status::NoMemory,
+        Stop::StoreExists | Stop::NoStore | Stop::BadManifest { .. } | Stop::BadLog { .. } =>
+            Status::Folder,
         Stop::BadWords
         | Stop::NoFile
         | Stop::TooLong
@@ -145,6 +105,20 @@ fn push_message(text: &mut Vec<u8>, path: &[u8], stop: Stop) -> Result<(), NoMem
             ],
         ),
         Stop::SourceFault => push_line(text, &[Word::Text(b"source fault")]),
+        Stop::StoreExists => push_line(text, &[Word::Text(b"store exists")]),
+        Stop::NoStore => push_line(text, &[Word::Text(b"no store")]),
+        Stop::BadManifest { at } => {
+            push_line(text, &[Word::Text(b"bad manifest"), Word::Number(at)])
+        }
+        Stop::BadLog { number, at } => push_line(
+            text,
+            &[
+                Word::Text(b"bad log"),
+                Word::Number(number),
+                Word::Number(at),
+            ],
+        ),
+        Stop::DiskFault => push_line(text, &[Word::Text(b"disk fault")]),
         Stop::NoMemory => Ok(()),
     }
 }
@@ -177,14 +151,14 @@ fn say_stop<K: Sink>(alloc: Global, out: &mut K, path: &[u8], stop: Stop) -> Sta
     }
 }
 
-/// Writes a transcript.
-fn say_ready<K: Sink>(out: &mut K, mut ready: Ready) -> Status
+/// Writes a transcript, and answers the status, or that the sink failed.
+fn say_ready<K: Sink>(out: &mut K, mut ready: Ready, status: Status) -> Status
     requires built { All IsBuiltLine ready.lines.items }
     requires room { HasRoom ready.buffer ready.lines.items }
-    ensures { IsPrinted result Status.Done (text_of ready) (K.taken out.old) (K.taken out.new) (Rose (K.faults out.old) (K.faults out.new)) }
+    ensures { IsPrinted result status (text_of ready) (K.taken out.old) (K.taken out.new) (Rose (K.faults out.old) (K.faults out.new)) }
 {
     match write_lines(out, &mut ready.buffer, &ready.lines) {
-        Ok(()) => Status::Done,
+        Ok(()) => status,
         Err(_) => Status::SinkFault,
     }
 }
@@ -195,57 +169,134 @@ fn try_file<H: Host, K: Sink>(alloc: Global, path: &Text, host: &mut H, out: &mu
         result (K.taken out.old) (K.taken out.new) (Rose (K.faults out.old) (K.faults out.new)) }
     ensures others { StaysBut path.now (H.standing host.old) (H.standing host.new) }
     ensures taken { StaysOrGoes (H.standing host.old path.now) (H.standing host.new path.now) }
+    ensures folders { KeepsFolders (H.folder_at host.old) (H.folder_at host.new) }
+    ensures leaves { LeavesNoMoreBut path.now (H.leaves_at host.old) (H.leaves_at host.new) }
     ensures later { H.faults host.old ≤ H.faults host.new }
 {
     match try_path(alloc, path, host) {
-        Ok(ready) => say_ready(out, ready),
+        Ok(ready) => say_ready(out, ready, Status::Done),
         Err(stop) => say_stop(alloc, out, path.bytes(), stop),
     }
 }
 
-fn plain<H: Host, K: Sink>(alloc: Global, words: &[Text], host: &mut H, out: &mut K) -> Status
-    ensures ends { IsEnd (IsWork words.now (H.standing host.old) (H.faults host.old) (H.faults host.new))
+/// Makes a store of these families in the folder under a path, and says so, or why there is none.
+fn init<H: Host, K: Sink>(
+    alloc: Global,
+    path: &Text,
+    head: &Head,
+    host: &mut H,
+    out: &mut K,
+) -> Status
+    requires { AreNew head.now.families }
+    ensures ends { IsEnd (IsInitWork (H.folder_at host.old path.now) (H.folder_at host.new path.now) (H.leaves_at host.new path.now) (H.faults host.old) (H.faults host.new) head.now.families)
         result (K.taken out.old) (K.taken out.new) (Rose (K.faults out.old) (K.faults out.new)) }
-    ensures others { (path : List ℕ) → (IsTry words.now path → ⊥) → H.standing host.new path ≡ H.standing host.old path }
-    ensures taken { (path : List ℕ) → IsTry words.now path → StaysOrGoes (H.standing host.old path) (H.standing host.new path) }
+    ensures folders { KeepsFoldersBut path.now (H.folder_at host.old) (H.folder_at host.new) }
+    ensures leaves { LeavesNoMoreBut path.now (H.leaves_at host.old) (H.leaves_at host.new) }
+    ensures sources { StaysBut path.now (H.standing host.old) (H.standing host.new) }
     ensures later { H.faults host.old ≤ H.faults host.new }
 {
-    match command_of(words) {
+    // The line is made first: no memory is wanted once the store is.
+    let mut text = Vec::new(alloc);
+    let count = head.families.as_slice().len() as u64;
+    match push_line(&mut text, &[Word::Text(b"made"), Word::Number(count)]) {
+        Ok(()) => {}
+        Err(_) => return Status::NoMemory,
+    }
+    match init_folder(alloc, path, head, host) {
+        Ok(()) => say(out, &text, Status::Done),
+        Err(stop) => say_stop(alloc, out, b"", stop),
+    }
+}
+
+/// Runs the commands of the file under a path over the store in the folder under another, and prints the transcript, or why
+/// there is none.
+fn run_file<H: Host, K: Sink>(
+    alloc: Global,
+    folder: &Text,
+    file: &Text,
+    host: &mut H,
+    out: &mut K,
+) -> Status
+    ensures ends { IsEnd (IsRunWork (H.standing host.old file.now) (H.folder_at host.old folder.now) (H.folder_at host.new folder.now) (H.leaves_at host.new folder.now) (H.faults host.old) (H.faults host.new) file.now)
+        result (K.taken out.old) (K.taken out.new) (Rose (K.faults out.old) (K.faults out.new)) }
+    ensures others { StaysElsewhere file.now folder.now (H.standing host.old) (H.standing host.new) }
+    ensures taken { FileStaysOrGoes file.now folder.now (H.standing host.old) (H.standing host.new) }
+    ensures folders { KeepsFoldersBut folder.now (H.folder_at host.old) (H.folder_at host.new) }
+    ensures leaves { LeavesNoMoreElsewhere file.now folder.now (H.leaves_at host.old) (H.leaves_at host.new) }
+    ensures later { H.faults host.old ≤ H.faults host.new }
+{
+    match run_path(alloc, folder, file, host) {
+        Ok(ready) => {
+            let status = status_of_lines(&ready.lines);
+            say_ready(out, ready, status)
+        }
+        Err(stop) => say_stop(alloc, out, file.bytes(), stop),
+    }
+}
+
+fn plain<H: Host, K: Sink>(alloc: Global, words: &[Text], host: &mut H, out: &mut K) -> Status
+    ensures ends { IsEnd (IsWork words.now (H.standing host.old) (H.folder_at host.old) (H.folder_at host.new) (H.leaves_at host.new) (H.faults host.old) (H.faults host.new))
+        result (K.taken out.old) (K.taken out.new) (Rose (K.faults out.old) (K.faults out.new)) }
+    ensures others { (path : List ℕ) → ¬ IsFileOf words.now path → ¬ IsFolderOf words.now path → H.standing host.new path ≡ H.standing host.old path }
+    ensures taken { (path : List ℕ) → IsFileOf words.now path → ¬ IsFolderOf words.now path → StaysOrGoes (H.standing host.old path) (H.standing host.new path) }
+    ensures folders { (path : List ℕ) → ¬ IsFolderOf words.now path → H.folder_at host.new path ≡ H.folder_at host.old path }
+    ensures leaves { (path : List ℕ) (n : NameOf) → ¬ IsFileOf words.now path → ¬ IsFolderOf words.now path → NoMore (H.leaves_at host.old path n) (H.leaves_at host.new path n) }
+    ensures later { H.faults host.old ≤ H.faults host.new }
+{
+    let Ok(command) = command_of(alloc, words) else {
+        return Status::NoMemory;
+    };
+    match command {
         None => refuse_words(out),
         Some(Command::Help) => say(out, HELP.as_bytes(), Status::Done),
         Some(Command::Version) => say(out, VERSION.as_bytes(), Status::Done),
         Some(Command::Try(path)) => try_file(alloc, path, host, out),
+        Some(Command::Init { folder, head }) => init(alloc, folder, &head, host, out),
+        Some(Command::Run { folder, file }) => run_file(alloc, folder, file, host, out),
     }
 }
 
 /// Runs the command of a command line, and answers its status.
 ///
 /// `try FILE` takes the command file under the path out of the host, reads it, and prints the transcript of its commands
-/// over an empty store in memory. Where the words are no command, or the file isn't there, is too long, has too many
-/// commands or a line outside the grammar, it prints one line that says so. Want of memory may come in the place of any answer to
-/// `try FILE`, and then nothing is printed. What stands under other paths stays.
+/// over an empty store in memory. `init FOLDER NAME:persist ..` makes a store of these families in the folder under the path.
+/// `run FOLDER FILE` reads the file, opens the folder, runs the commands over the store in it, puts all that was written on its
+/// disk and prints the transcript.
+///
+/// Where the words are no command, or the file isn't there, is too long, has too many commands or a line outside the grammar,
+/// one line says so; likewise where a folder has no store, or one already, or its manifest or log is bad. A fault of a folder's
+/// disk ends an opening or a making; it halts a run, which its transcript tells. Want of memory may come in the place of any answer
+/// but help and the version, and then nothing is printed. What stands under other paths stays.
 pub fn store_plain<H: Host, K: Sink>(
     alloc: Global,
     words: &[Text],
     host: &mut H,
     out: &mut K,
 ) -> Status
-    // What the status says has its cause, and the sink took what belongs to it.
-    ensures ends { IsEnd (IsWork words.now (H.standing host.old) (H.faults host.old) (H.faults host.new))
+    // What the status says has its cause, the sink took what belongs to it, and the folder keeps it.
+    ensures ends { IsEnd (IsWork words.now (H.standing host.old) (H.folder_at host.old) (H.folder_at host.new) (H.leaves_at host.new) (H.faults host.old) (H.faults host.new))
         result (K.taken out.old) (K.taken out.new) (Rose (K.faults out.old) (K.faults out.new)) }
 
-    // A command file is done, where nothing fails and there is memory.
+    // A command is done, where nothing fails and there is memory.
     ensures complete { IsComplete result words.now (H.standing host.old)
+        (Rose (H.faults host.old) (H.faults host.new)) (Rose (K.faults out.old) (K.faults out.new)) }
+    ensures complete_init { IsInitComplete result words.now (H.folder_at host.old)
+        (Rose (H.faults host.old) (H.faults host.new)) (Rose (K.faults out.old) (K.faults out.new)) }
+    ensures complete_run { IsRunComplete result words.now (H.standing host.old) (H.folder_at host.old)
         (Rose (H.faults host.old) (H.faults host.new)) (Rose (K.faults out.old) (K.faults out.new)) }
 
     // Each cause of a refusal is told, where nothing fails and there is memory.
     ensures stopped { IsStopped result words.now (H.standing host.old) (K.taken out.old) (K.taken out.new) }
+    ensures refused_folder { IsOpenRefused result words.now (H.standing host.old) (H.folder_at host.old) (K.taken out.old) (K.taken out.new) }
+    ensures refused_init { IsInitRefused result words.now (H.folder_at host.old) (K.taken out.old) (K.taken out.new) }
     ensures refused { IsRefused result words.now (K.taken out.old) (K.taken out.new) }
     ensures answered { IsAnswered result words.now (K.taken out.old) (K.taken out.new) }
 
     // What stands under other paths stays, and the file stays or is taken out.
-    ensures others { (path : List ℕ) → (IsTry words.now path → ⊥) → H.standing host.new path ≡ H.standing host.old path }
-    ensures taken { (path : List ℕ) → IsTry words.now path → StaysOrGoes (H.standing host.old path) (H.standing host.new path) }
+    ensures others { (path : List ℕ) → ¬ IsFileOf words.now path → ¬ IsFolderOf words.now path → H.standing host.new path ≡ H.standing host.old path }
+    ensures taken { (path : List ℕ) → IsFileOf words.now path → ¬ IsFolderOf words.now path → StaysOrGoes (H.standing host.old path) (H.standing host.new path) }
+    ensures folders { (path : List ℕ) → ¬ IsFolderOf words.now path → H.folder_at host.new path ≡ H.folder_at host.old path }
+    ensures leaves { (path : List ℕ) (n : NameOf) → ¬ IsFileOf words.now path → ¬ IsFolderOf words.now path → NoMore (H.leaves_at host.old path n) (H.leaves_at host.new path n) }
     ensures later { H.faults host.old ≤ H.faults host.new }
 {
     plain(alloc, words, host, out)

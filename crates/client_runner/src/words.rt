@@ -1,18 +1,32 @@
 //! The words of a command line.
-ghost use Rattle.std.specs.Prelude.{◌↔◌, IsTrue};
+ghost use Rattle.std.specs.Prelude.{◌≡◌, ◌↔◌, ◌∷◌, [], List, ℕ, codes, IsTrue, IfOk, OnErr, MatchOption};
 ghost use Rattle.std.specs.Str.{IsUtf8};
-ghost use Rattle.client_runner.specs.Commands.{IsCommandOf, IsLoneCommandOf};
+ghost use Rattle.udt_model.specs.declared.line.FamilyHead.{FamilyHead as FamilyOf};
+ghost use Rattle.client_runner.specs.Commands.{
+  AreFamilyWords,
+  AreHeadWords,
+  IsCommandOf,
+  IsFamilyWord,
+  IsInitWord,
+  IsNamePart,
+};
 
+use manifest::Head;
+use std::alloc::{AllocError, Global};
+use ts_key::{Form, Name, NameFault, NoMemory, Ts};
 use udt_disk::Text;
+use udt_model::{FamilyHead, Items};
 
 /// What `--help` prints.
 pub const HELP: &str = "\
 udtstore: a key-value store whose keys carry timestamps
 
 usage:
-  udtstore try FILE    runs the commands of FILE over an empty store in memory, and prints the transcript
-  udtstore --help      prints this
-  udtstore --version   prints the version
+  udtstore try FILE                      runs the commands of FILE over a new store in memory, and prints the transcript
+  udtstore init FOLDER NAME:persist ..   makes a store of 1 to 16 families in FOLDER
+  udtstore run FOLDER FILE               runs the commands of FILE over the store in FOLDER, and prints the transcript
+  udtstore --help                        prints this
+  udtstore --version                     prints the version
 
 commands, one a line; empty lines and lines that begin with # are skipped:
   put F K T V   writes the value V of the key K at the timestamp T in the family F; try has the one family d
@@ -29,7 +43,7 @@ or 0x and an even number of 0-9 a-f. T is a decimal number.
 pub const VERSION: &str = "udtstore 0.1.0\n";
 
 /// A command of the command line.
-#[derive(Clone, Copy)]
+#[derive(Drop)]
 pub enum Command<'a> {
     /// `--help`
     Help,
@@ -37,7 +51,14 @@ pub enum Command<'a> {
     Version,
     /// `try FILE`
     Try(&'a Text),
+    /// `init FOLDER NAME:persist ..`, for a store of these families
+    Init { folder: &'a Text, head: Head },
+    /// `run FOLDER FILE`
+    Run { folder: &'a Text, file: &'a Text },
 }
+
+/// What stands behind the name in a family's word.
+const PERSIST: &[u8] = b":persist";
 
 /// A word that isn't text is no part of a command.
 fn is_text(bytes: &[u8]) -> bool
@@ -46,8 +67,91 @@ fn is_text(bytes: &[u8]) -> bool
     str::from_utf8(bytes).is_ok()
 }
 
+/// What stands before `:persist` in a word; None where it doesn't end so.
+fn name_part(word: &[u8]) -> Option<&[u8]>
+    ensures { MatchOption result ((name : List ℕ) → IsNamePart word.now name → ⊥)
+        (λ name. IsNamePart word.now name.now) }
+{
+    if word.len() < PERSIST.len() {
+        return None;
+    }
+    let (name, form) = word.split_at(word.len() - PERSIST.len());
+    if form == PERSIST { Some(name) } else { None }
+}
+
+/// The family that a word `NAME:persist` spells; None where it spells none. The error comes where memory runs out.
+fn family_of(alloc: Global, word: &Text) -> Result<Option<FamilyHead>, NoMemory>
+    ensures { IfOk result (λ o. MatchOption o ((f : FamilyOf) → IsFamilyWord word.now f → ⊥)
+        (λ f. IsFamilyWord word.now f)) }
+{
+    let Some(name) = name_part(word.bytes()) else {
+        return Ok(None);
+    };
+    match Name::of(alloc, name) {
+        Ok(name) => Ok(Some(FamilyHead {
+            name,
+            form: Form::Persist,
+            floor: Ts(0),
+        })),
+        Err(NameFault::Bad) => Ok(None),
+        Err(NameFault::NoMemory) => Err(AllocError),
+    }
+}
+
+/// The families that words spell, one a word; None where a word spells none. The error comes where memory runs out.
+fn families_of(alloc: Global, words: &[Text]) -> Result<Option<Vec<FamilyHead>>, NoMemory>
+    ensures { IfOk result (λ o. MatchOption o ((families : List FamilyOf) → AreFamilyWords words.now families → ⊥)
+        (λ v. AreFamilyWords words.now v.items)) }
+{
+    let mut families = Vec::new(alloc);
+    for word in words {
+        let Some(family) = family_of(alloc, word)? else {
+            return Ok(None);
+        };
+        families.push(family)?;
+    }
+    Ok(Some(families))
+}
+
+/// The head whose families words spell, 1 to 16 with different names; None where they spell no head. The error comes
+/// where memory runs out.
+fn head_of(alloc: Global, words: &[Text]) -> Result<Option<Head>, NoMemory>
+    ensures { IfOk result (λ o. MatchOption o ((families : List FamilyOf) → AreHeadWords words.now families → ⊥)
+        (λ head. AreHeadWords words.now head.families)) }
+{
+    let Some(families) = families_of(alloc, words)? else {
+        return Ok(None);
+    };
+    let head = Head {
+        families: Items::of(families),
+    };
+    if head.is_allowed() {
+        Ok(Some(head))
+    } else {
+        Ok(None)
+    }
+}
+
+/// The command of the word `init` and the words behind it; None where they are no command. The error comes
+/// where memory runs out.
+fn init_command<'a>(alloc: Global, behind: &'a [Text]) -> Result<Option<Command<'a>>, NoMemory>
+    ensures { IfOk result (IsCommandOf (codes "init" ∷ behind.now)) }
+{
+    let Some((folder, words)) = behind.split_first() else {
+        return Ok(None);
+    };
+    if !is_text(folder.bytes()) {
+        return Ok(None);
+    }
+    let Some(head) = head_of(alloc, words)? else {
+        return Ok(None);
+    };
+    Ok(Some(Command::Init { folder, head }))
+}
+
+/// The command of one word.
 fn lone_command(word: &Text) -> Option<Command<'static>>
-    ensures { IsLoneCommandOf word.now result }
+    ensures { IsCommandOf (word.now ∷ []) result }
 {
     if word.bytes() == b"--help".as_slice() {
         return Some(Command::Help);
@@ -58,19 +162,52 @@ fn lone_command(word: &Text) -> Option<Command<'static>>
     None
 }
 
-/// The command of these words; `None` where they are no command.
-pub fn command_of(words: &[Text]) -> Option<Command<'_>>
-    ensures { IsCommandOf words.now result }
+/// The command of two words.
+fn try_command<'a>(verb: &Text, file: &'a Text) -> Option<Command<'a>>
+    ensures { IsCommandOf (verb.now ∷ file.now ∷ []) result }
 {
-    if words.len() == 1 {
-        return lone_command(&words[0]);
+    if verb.bytes() == b"try".as_slice() && is_text(file.bytes()) {
+        Some(Command::Try(file))
+    } else {
+        None
     }
-    if words.len() != 2 || words[0].bytes() != b"try".as_slice() {
-        return None;
+}
+
+/// The command of three words of which the first isn't `init`.
+fn run_command<'a>(verb: &Text, folder: &'a Text, file: &'a Text) -> Option<Command<'a>>
+    requires { verb.now ≡ codes "init" → ⊥ }
+    ensures { IsCommandOf (verb.now ∷ folder.now ∷ file.now ∷ []) result }
+{
+    if verb.bytes() == b"run".as_slice() && is_text(folder.bytes()) && is_text(file.bytes()) {
+        Some(Command::Run { folder, file })
+    } else {
+        None
     }
-    let path = &words[1];
-    if !is_text(path.bytes()) {
-        return None;
+}
+
+/// The command of a first word that isn't `init`, and the words behind it.
+fn other_command<'a>(verb: &Text, behind: &'a [Text]) -> Option<Command<'a>>
+    requires { verb.now ≡ codes "init" → ⊥ }
+    ensures { IsCommandOf (verb.now ∷ behind.now) result }
+{
+    match behind {
+        [] => lone_command(verb),
+        [file] => try_command(verb, file),
+        [folder, file] => run_command(verb, folder, file),
+        _ => None,
     }
-    Some(Command::Try(path))
+}
+
+/// The command of these words; None where they are no command. The error comes where memory runs out, for `init` alone.
+pub fn command_of<'a>(alloc: Global, words: &'a [Text]) -> Result<Option<Command<'a>>, NoMemory>
+    ensures command { IfOk result (IsCommandOf words.now) }
+    ensures no_memory { OnErr result (IsInitWord words.now) }
+{
+    let Some((verb, behind)) = words.split_first() else {
+        return Ok(None);
+    };
+    if verb.bytes() == b"init".as_slice() {
+        return init_command(alloc, behind);
+    }
+    Ok(other_command(verb, behind))
 }

@@ -1,14 +1,15 @@
 //! The store of one client: a plain list of every version that was written. A look-up scans the list, for now.
-ghost use Rattle.std.specs.Prelude.{◌≡◌, ℕ, ◌+◌, ◌-◌, ◌^◌, ◌<◌, ◌≤◌, [], false, nat_lt, if◌then◌else◌, length, Bool, IfOk, IfSome, OnErr};
+ghost use Rattle.std.specs.Prelude.{◌≡◌, ℕ, ◌+◌, ◌-◌, ◌^◌, ◌<◌, ◌≤◌, [], false, nat_lt, if◌then◌else◌, length, take, drop, map, Bool, None, Ok, IfOk, IfSome, OnErr};
 ghost use Rattle.udt_model.specs.State.{place_of, got, admitted, synced, refusal, refused, reply_of_read as told_reply, unknown as unknown_of};
 ghost use Rattle.udt_model.specs.Steps.{IsReply, says_fault, after as state_after};
 ghost use Rattle.client_lang.specs.Print.{IsBuilt, IsBuiltReply};
-ghost use Rattle.client_runner.specs.Adding.{Grows, IsAdded, IsRefusal, after_op, refusal_of};
+ghost use Rattle.ts_key.specs.Batches.{IsBatch};
+ghost use Rattle.client_runner.specs.Adding.{Grows, IsAdded, IsAdmitted, IsRefusal, after_op, op_of, refusal_of, with_versions};
 ghost use Rattle.client_runner.specs.Transcripts.{fresh};
 
 use std::alloc::{AllocError, Global};
 use std::marker::Model;
-use ts_key::{Form, Key, Name, NameFault, NoMemory, Seq, Ts, Version};
+use ts_key::{Batch, Form, Key, Name, NameFault, NoMemory, Seq, Ts, Version, WriteOp};
 use udt_model::{
     Answer, Event, FamilyHead, ModelRead, NamedOp, Place, Reply, plain_newest, plain_place,
     plain_read,
@@ -47,13 +48,33 @@ fn reply_of_read(read: ModelRead) -> Reply
 }
 
 /// The reply, or that there was no memory for it.
-fn told_or_want(reply: Result<Reply, NoMemory>) -> Reply
+pub(super) fn told_or_want(reply: Result<Reply, NoMemory>) -> Reply
     ensures ok { IfOk reply (λ told. result ≡ told) }
     ensures err { OnErr reply (result ≡ Reply.NoMemory) }
 {
     match reply {
         Ok(told) => told,
         Err(_) => Reply::NoMemory,
+    }
+}
+
+/// The batch of these versions, which shares the bytes of their keys and values.
+fn batch_of(alloc: Global, versions: &[Version]) -> Result<Batch, NoMemory>
+    requires { IsBatch (map op_of versions.now) }
+    ensures { IfOk result (λ batch. batch ≡ map op_of versions.now) }
+{
+    let mut ops = Vec::with_capacity(alloc, versions.len())?;
+    for version in versions {
+        ops.push(WriteOp {
+            family: version.family,
+            key: version.key.copy()?,
+            ts: version.ts,
+            op: version.op.copy()?,
+        })?;
+    }
+    match Batch::of(ops) {
+        Ok(batch) => Ok(batch),
+        Err(_) => unreachable!(),
     }
 }
 
@@ -77,6 +98,19 @@ impl Model for PlainStore {
 }
 
 impl PlainStore {
+    /// A store of these families, with these versions up to this last sequence.
+    pub fn of(heads: Vec<FamilyHead>, versions: Vec<Version>, last: Seq) -> PlainStore
+        requires few { length heads.items ≤ 16 }
+        requires last { last.0 < 2 ^ 56 }
+        ensures { result ≡ record { heads = heads.items; versions = versions.items; last = last; halted = None } }
+    {
+        PlainStore {
+            heads,
+            versions,
+            last,
+        }
+    }
+
     /// A store of these families, without a version.
     pub fn new(alloc: Global, heads: Vec<FamilyHead>) -> PlainStore
         requires { length heads.items ≤ 16 }
@@ -129,22 +163,77 @@ impl PlainStore {
         ensures sound { IfOk result (λ reply. says_fault reply ≡ false) }
         ensures built { IfOk result IsBuiltReply }
     {
+        match self.admit(ops)? {
+            Some(refusal) => Ok(refusal),
+            None => Ok(self.number(ops.len())),
+        }
+    }
+
+    /// Adds the versions of a write, which `number` gives their sequences. Where it is refused, or memory runs out,
+    /// the store is as it was.
+    pub(super) fn admit(&mut self, ops: &[NamedOp]) -> Result<Option<Reply>, NoMemory>
+        requires { length ops.now ≤ 64 }
+        ensures refusal { IfOk result (λ found. found ≡ refusal_of self.old ops.now) }
+        ensures ok { IfOk result (λ found. IsAdmitted self.old ops.now found self.new) }
+        ensures err { OnErr result (self.new ≡ self.old) }
+        ensures built { IfOk result (λ found. IfSome found IsRefusal) }
+        ensures room { result ≡ Ok None → self.old.last.0 + length ops.now < 2 ^ 56 }
+        ensures works { self.old.halted ≡ None }
+    {
         let count = self.versions.len();
         match self.add(ops) {
-            Ok(None) => {
-                let number = self.last.0 + ops.len() as u64;
-                self.last = Seq(number);
-                Ok(Reply::OkAt { number })
-            }
+            Ok(None) => Ok(None),
             Ok(Some(refusal)) => {
                 self.versions.truncate(count);
-                Ok(refusal)
+                Ok(Some(refusal))
             }
             Err(_) => {
                 self.versions.truncate(count);
                 Err(AllocError)
             }
         }
+    }
+
+    /// Takes the sequences of so many versions, which were added, and tells the last one.
+    pub(super) fn number(&mut self, count: usize) -> Reply
+        requires { self.old.last.0 + count < 2 ^ 56 }
+        ensures last { self.new ≡ record self.old { last = record { 0 = self.old.last.0 + count } } }
+        ensures reply { result ≡ Reply.OkAt (self.old.last.0 + count) }
+    {
+        let number = self.last.0 + count as u64;
+        self.last = Seq(number);
+        Reply::OkAt { number }
+    }
+
+    /// Forgets the versions behind the first `count`.
+    pub(super) fn take_back(&mut self, count: usize)
+        ensures { self.new ≡ with_versions self.old (take count self.old.versions) }
+    {
+        self.versions.truncate(count);
+    }
+
+    /// How many versions there are.
+    pub(super) fn count(&self) -> usize
+        ensures { result ≡ length self.now.versions }
+    {
+        self.versions.len()
+    }
+
+    /// The last sequence.
+    pub(super) fn last(&self) -> Seq
+        ensures last { result ≡ self.now.last }
+        ensures within { self.now.last.0 < 2 ^ 56 }
+    {
+        self.last
+    }
+
+    /// The batch of the versions behind the first `count`.
+    pub(super) fn batch_behind(&self, count: usize) -> Result<Batch, NoMemory>
+        requires within { count ≤ length self.now.versions }
+        requires batch { IsBatch (map op_of (drop count self.now.versions)) }
+        ensures { IfOk result (λ batch. batch ≡ map op_of (drop count self.now.versions)) }
+    {
+        batch_of(*self.versions.allocator(), &self.versions[count..])
     }
 
     /// Adds the versions of a write, or finds its refusal; then some of them may have been added.
@@ -166,7 +255,7 @@ impl PlainStore {
     }
 
     /// `unknown` where one of the operations names no family.
-    fn unknown(&self, ops: &[NamedOp]) -> Option<Reply>
+    pub(super) fn unknown(&self, ops: &[NamedOp]) -> Option<Reply>
         ensures unknown { result ≡ unknown_of self.now ops.now }
         ensures built { IfSome result IsRefusal }
     {
@@ -247,7 +336,8 @@ impl PlainStore {
         Ok(None)
     }
 
-    fn get(&self, family: &Name, key: &Key, t: Ts) -> Result<Reply, NoMemory>
+    /// The value of a key at a timestamp, among all versions.
+    pub(super) fn get(&self, family: &Name, key: &Key, t: Ts) -> Result<Reply, NoMemory>
         ensures reply { IfOk result (λ reply. reply ≡ got self.now (place_of self.now family.now) key.now t self.now.last) }
         ensures built { IfOk result IsBuiltReply }
     {

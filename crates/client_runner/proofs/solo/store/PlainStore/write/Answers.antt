@@ -1,18 +1,27 @@
-use Rattle.std.proofs.Common.{◌≡◌, ◌∙◌, ap, sym, subst, length, arith}
-use Rattle.udt_model.specs.State.{State}
-use Rattle.client_runner.specs.Adding.{Grows, with_versions}
-use Rattle.client_runner.specs.contracts.solo.store.PlainStore.{the_view}
-use Rattle.client_runner.proofs.Adding.{back_again, refusal_leaves, refusal_sound}
+use Rattle.std.proofs.Common.{◌≡◌, ◌+◌, ◌∙◌, length, ap, sym}
+use Rattle.udt_model.specs.State.{accepted_unless}
+use Rattle.client_runner.proofs.Adding.{reply_found, refusal_leaves, refusal_sound}
 use Rattle.client_runner.proofs.solo.store.PlainStore.write.Goals as goal
 
-pub returns-in-Ok-Some-clause-ok : goal.returns-in-Ok-Some-clause-ok
-returns-in-Ok-Some-clause-ok c = λ sync number.
-    let m : State = c.args.self.now in
-    let now : State = the_view c.self-2.inside in
-    let grows : Grows m now = subst (Grows m) (sym c.self-2.view_is) (rw c.in-Ok-Some.field-0-is at c.in-Ok-Some.ensures.ok) in
-    let size : c.len-count.result ≡ length m.versions = omega (arith, c.len-count.ensures, c.self.inside.versions.ok.0, ap (λ (s : State). length s.versions) c.self.view_is) in
-    back_again m now _ c.len-count.result grows size (ap (with_versions now) c.truncate.ensures.items)
-    ∙ sym (refusal_leaves m number c.args.ops.now sync c.in-Ok-Some.refusal (rw c.in-Ok-Some.field-0-is at c.in-Ok-Some.ensures.built))
+pub returns-in-Some-clause-reply : goal.returns-in-Some-clause-reply
+returns-in-Some-clause-reply c =
+    let m = c.args.self.now in
+    ap (accepted_unless (m.last.0 + length c.args.ops.now)) (sym c.in-Some.is)
+    ∙ reply_found m c.args.ops.now c.in_ok-refusal.field-0 c.admit.ensures.works c.in_ok-refusal.ensures.refusal
 
-pub returns-in-Ok-Some-clause-sound : goal.returns-in-Ok-Some-clause-sound
-returns-in-Ok-Some-clause-sound c = refusal_sound c.in-Ok-Some.refusal (rw c.in-Ok-Some.field-0-is at c.in-Ok-Some.ensures.built)
+pub returns-in-Some-clause-ok : goal.returns-in-Some-clause-ok
+returns-in-Some-clause-ok c = λ sync number.
+    let same : c.admit.new.self ≡ c.args.self.now = rw c.in-Some.is at c.in_ok-refusal.ensures.ok in
+    same ∙ sym (refusal_leaves c.args.self.now number c.args.ops.now sync c.in-Some.refusal (rw c.in-Some.is at c.in_ok-refusal.ensures.built))
+
+pub returns-in-Some-clause-sound : goal.returns-in-Some-clause-sound
+returns-in-Some-clause-sound c = refusal_sound c.in-Some.refusal (rw c.in-Some.is at c.in_ok-refusal.ensures.built)
+
+pub returns-in-None-clause-reply : goal.returns-in-None-clause-reply
+returns-in-None-clause-reply c =
+    let m = c.args.self.now in
+    let told = c.in_ok-refusal.ensures in
+    let last : c.admit.new.self.last.0 ≡ m.last.0 = ap (λ s. s.last.0) (rw c.in-None.is at told.ok) in
+    rw (c.number.ensures.reply, last)
+    (ap (accepted_unless (m.last.0 + length c.args.ops.now)) (sym c.in-None.is)
+    ∙ reply_found m c.args.ops.now c.in_ok-refusal.field-0 c.admit.ensures.works told.refusal)

@@ -1,0 +1,97 @@
+-- What a command meant, from what its parts answered.
+use Rattle.std.proofs.Common.{◌≡◌, ℕ, false, List, [], ◌++◌, Option, refl, sym, ap, subst, ◌∙◌, inl, inr}
+use Rattle.std.specs.Prelude.{None}
+use Rattle.std.specs.List.{list_any}
+use Rattle.udt_disk.specs.Causes.{Rose}
+use Rattle.udt_disk.specs.Opens.{Standing}
+use Rattle.udt_disk.specs.OpensFolder.{Holding}
+use Rattle.udt_model.specs.declared.line.FamilyHead.{FamilyHead}
+use Rattle.udt_model.specs.declared.line.Line.{Line}
+use Rattle.udt_model.specs.State.{State}
+use Rattle.udt_model.specs.Histories.{Point, Leads, start}
+use Rattle.client_lang.specs.Print.{print_header, print_lines}
+use Rattle.client_runner.specs.Commands.{IsRun}
+use Rattle.client_runner.specs.Ends.{IsEnd, IsInitWork, IsRunLeft, IsRunWork}
+use Rattle.client_runner.specs.Hosts.{IsFileOf, IsFolderOf, StaysElsewhere}
+use Rattle.client_runner.specs.HostRuns.{IsRunFrom, IsStoppedFrom}
+use Rattle.client_runner.specs.Inits.{IsInitLeft}
+use Rattle.client_runner.specs.Left.{Leaves, status_of_lines, tells_fault}
+use Rattle.client_runner.specs.Ready.{IsMessage, text_of}
+use Rattle.client_runner.specs.Solo.{AreSoundUnless}
+use Rattle.client_runner.specs.Stops.{IsInitStop}
+use Rattle.client_runner.specs.declared.output.Ready.{Ready}
+use Rattle.client_runner.specs.declared.status.Status.{Status}
+use Rattle.client_runner.specs.declared.status.Status.TheVariants as statuses
+use Rattle.client_runner.specs.declared.status.Stop.{Stop}
+use Rattle.client_runner.specs.declared.status.Stop.TheVariants.{NoMemory}
+use Rattle.client_runner.proofs.FaultLemmas.{none_told}
+use Rattle.client_runner.proofs.OutputLemmas.{Appends-nil}
+
+-- what ends in one way ends in each that follows from it
+pub end_more : (P Q : Status → List ℕ → Type 0) → ((status : Status) (text : List ℕ) → P status text → Q status text) → (status : Status) (was is : Option (List ℕ)) (failed : Type 0) → IsEnd P status was is failed → IsEnd Q status was is failed
+end_more P Q more status was is failed e = record { meant = e.meant; text = e.text; work = more e.meant e.text e.work; printed = e.printed }
+
+-- nothing is printed where memory runs out
+pub gave_up : (Work : Status → List ℕ → Type 0) (was : Option (List ℕ)) (failed : Type 0) → Work statuses.NoMemory [] → IsEnd Work statuses.NoMemory was was failed
+gave_up Work was failed w = record { meant = statuses.NoMemory; text = []; work = w; printed = inl (refl, Appends-nil was) }
+
+-- ---- init
+
+pub init_gave_up : (old : Holding) (leaves : Leaves) (before now : ℕ) (families : List FamilyHead) → IsInitWork old old leaves before now families statuses.NoMemory []
+init_gave_up old leaves before now families = inr (record { stop = NoMemory; cause = tt; status_is = refl; text_is = refl; left = inl refl })
+
+pub init_said : (old new : Holding) (leaves : Leaves) (before now : ℕ) (families : List FamilyHead) (stop : Stop) → IsInitStop old before now stop → IsInitLeft old new leaves families
+    → (status : Status) (text : List ℕ) → IsMessage [] stop status text → IsInitWork old new leaves before now families status text
+init_said old new leaves before now families stop cause left status text (inl said) = inr (record { stop = stop; cause = cause; status_is = said.0; text_is = said.1; left = left })
+init_said old new leaves before now families stop cause left status text (inr want) = inr (record { stop = NoMemory; cause = tt; status_is = want.0; text_is = want.1; left = left })
+
+-- ---- run
+
+wanted_left : (old new : Holding) (leaves : Leaves) (stop : Stop) → IsRunLeft old new leaves stop → IsRunLeft old new leaves NoMemory
+wanted_left old new leaves stop (inl same) = inl same
+wanted_left old new leaves stop (inr (inl was)) = inr (inl was)
+wanted_left old new leaves stop (inr (inr cut)) = inr (inr (refl, cut.1))
+
+pub run_said : (standing : Standing) (old new : Holding) (leaves : Leaves) (before now : ℕ) (file : List ℕ) (stop : Stop) → IsStoppedFrom standing old new leaves before now stop
+    → (status : Status) (text : List ℕ) → IsMessage file stop status text → IsRunWork standing old new leaves before now file status text
+run_said standing old new leaves before now file stop s status text (inl said) = inr (record { stop = stop; cause = s.cause; status_is = said.0; text_is = said.1; left = s.left })
+run_said standing old new leaves before now file stop s status text (inr want) = inr (record { stop = NoMemory; cause = inl tt; status_is = want.0; text_is = want.1; left = wanted_left old new leaves stop s.left })
+
+-- the disk failed where a line tells it
+fault_rose : (before now : ℕ) (m : State) (lines : List Line) (end : Point) (status : Status) → m.halted ≡ None → Leads (start m) lines end → AreSoundUnless before now lines → status ≡ status_of_lines lines → status ≡ statuses.DiskFault → Rose before now
+fault_rose before now m lines end status works legal (inr rose) e fault = rose
+fault_rose before now m lines end status works legal (inl sound) e fault =
+    let none : list_any (λ l. tells_fault l.reply) lines ≡ false = none_told (start m) end lines works legal sound in
+    absurd (cc (rw none at (sym e ∙ fault)))
+
+text_is : (r : Ready) (header : List ℕ) (lines : List Line) → r.buffer.items ≡ header → r.lines.items ≡ lines → text_of r ≡ header ++ print_lines lines
+text_is r header lines h l = ap (λ (t : List ℕ). t ++ print_lines r.lines.items) h ∙ ap (λ (ls : List Line). header ++ print_lines ls) l
+
+pub run_told : (standing : Standing) (old new : Holding) (leaves : Leaves) (before now : ℕ) (file : List ℕ) (r : Ready) (status : Status) → IsRunFrom standing old new leaves before now r → status ≡ status_of_lines r.lines.items
+    → IsRunWork standing old new leaves before now file status (text_of r)
+run_told standing old new leaves before now file r status from e =
+    let run = from.run in
+    let lines_are : status ≡ status_of_lines run.lines = e ∙ ap status_of_lines run.waits.lines_are in
+    inl (record {
+      bytes = from.read.bytes;
+      stands = from.read.stands;
+      m = run.m;
+      lines = run.lines;
+      end = run.end;
+      transcript = record {
+        commands = from.commands;
+        spelled = from.read.spelled;
+        only = from.read.only;
+        history = run.history;
+        printed = text_is r (print_header run.m.last.0 run.m.heads) run.lines run.waits.header_is run.waits.lines_are;
+      };
+      status_is = lines_are;
+      cause = fault_rose before now run.m run.lines run.end status run.works run.history.legal run.sound lines_are;
+      left = run.left;
+    })
+
+-- ---- other paths
+
+pub stays_elsewhere : (words : List (List ℕ)) (folder file : List ℕ) (old new : List ℕ → Standing) → IsRun words folder file → StaysElsewhere file folder old new → (path : List ℕ) → ¬ IsFileOf words path → ¬ IsFolderOf words path → new path ≡ old path
+stays_elsewhere words folder file old new r stays path no_file no_folder =
+    stays path (λ e. no_file (inr (folder, subst (λ (p : List ℕ). IsRun words folder p) (sym e) r))) (λ e. no_folder (inr (file, subst (λ (p : List ℕ). IsRun words p file) (sym e) r)))

@@ -1,0 +1,275 @@
+-- A folder of a host while it is open, and once it is given back.
+use Rattle.std.proofs.Common.{◌≡◌, inl, inr, ⊎_elim, ℕ, ◌≤◌, Bool, true, false, List, Option, refl, sym, ap, ◌∙◌, subst, arith}
+use Rattle.std.specs.Prelude.{IsTrue, IsSome, IfSome, OnSome, is_some, Some, None, Ok}
+use Rattle.udt_disk.specs.Causes.{Rose, plus_faults}
+use Rattle.udt_disk.specs.Crash.{Image, NoMore}
+use Rattle.udt_disk.specs.Joint.{Folder}
+use Rattle.udt_disk.specs.Opens.{Standing}
+use Rattle.udt_disk.specs.OpensFolder.{Holding, GivesFolder, OpensFolder, without_folder}
+use Rattle.udt_disk.specs.declared.name.FileName.{FileName}
+use Rattle.udt_disk.specs.declared.name.FileName.TheVariants.{Current, Made, Log}
+use Rattle.udt_disk.specs.declared.file.DiskFile as file
+use Rattle.udt_disk.specs.declared.disk.Disk as disk
+use Rattle.udt_model.specs.declared.line.FamilyHead.{FamilyHead}
+use Rattle.udt_model.specs.declared.line.Line.{Line}
+use Rattle.udt_model.specs.State.{State}
+use Rattle.udt_model.specs.Histories.{Point}
+use Rattle.manifest.specs.Files.{HasFold, IsBadFile}
+use Rattle.manifest.specs.Folders.{Meaning, Means, chosen, chosen_by}
+use Rattle.manifest.specs.Folders.Meaning.{no_store, bad_at, store}
+use Rattle.manifest.specs.Moments.{OnlyLooks}
+use Rattle.wal.specs.Replays.{ReadsAs}
+use Rattle.client_lang.specs.declared.command.Command.{Command}
+use Rattle.client_runner.specs.Ends.{IsRunLeft}
+use Rattle.client_runner.specs.HostRuns.{IsRunAt, IsRunFrom, IsStoppedAt, IsStoppedFrom}
+use Rattle.client_runner.specs.Left.{Leaves, IsMadeSo, IsMadeAt, IsUnmadeAt, StaysAsItWas, ContinuesFrom, TellsFolder, TellsNoneOr}
+use Rattle.client_runner.specs.MakingStores.{new_state, IsNoneOrNew, IsClean, MayLeaveFolder}
+use Rattle.client_runner.specs.Openings.{IsBadLog, IsBadLogFile, RefusesOpening}
+use Rattle.client_runner.specs.Ready.{IsReadAs}
+use Rattle.client_runner.specs.Runs.{KeepsLines, IsSameFolder, IsRunReady, IsRunRefused, stop_of_opening}
+use Rattle.client_runner.specs.Solo.{AreSoundUnless}
+use Rattle.client_runner.specs.Stops.{IsOpenStop}
+use Rattle.client_runner.specs.Stores.{FolderStands, sizes_of}
+use Rattle.client_runner.specs.declared.output.Ready.{Ready}
+use Rattle.client_runner.specs.declared.recovery.OpenFault.{OpenFault}
+use Rattle.client_runner.specs.declared.recovery.OpenFault.TheVariants as faults
+use Rattle.client_runner.specs.declared.status.Stop.{Stop}
+use Rattle.client_runner.specs.declared.status.Stop.TheVariants as stops
+use Rattle.client_runner.proofs.SoloLemmas.{rose_earlier}
+
+-- ---- folders that hold the same under each name
+
+chosen_same : (f g : Folder) → ((n : FileName) → g n ≡ f n) → g (chosen g) ≡ f (chosen f)
+chosen_same f g same = same (chosen g) ∙ ap f (ap chosen_by (same Current))
+
+-- they mean the same
+pub means_same : (f g : Folder) (m : Meaning) → ((n : FileName) → g n ≡ f n) → Means f m → Means g m
+means_same f g no_store same means = same Made ∙ means
+means_same f g (store fold) same means = (λ none. means.0 (sym (same Made) ∙ none), subst (λ (c : Image). HasFold c fold) (sym (chosen_same f g same)) means.1)
+means_same f g (bad_at at) same means = (λ none. means.0 (sym (same Made) ∙ none), subst (λ (c : Image). IsBadFile c at) (sym (chosen_same f g same)) means.1)
+
+-- they stand for the same
+pub stands_same : (f g : Folder) (m : State) → ((n : FileName) → g n ≡ f n) → FolderStands f m → FolderStands g m
+stands_same f g m same stands = record {
+  fold = stands.fold;
+  means = means_same f g (store stands.fold) same stands.means;
+  number = stands.number;
+  live = stands.live;
+  batches = stands.batches;
+  held = subst (ReadsAs (sizes_of stands.fold) stands.batches) (sym (same (Log stands.number))) stands.held;
+  state_is = stands.state_is;
+}
+
+bad_log_same : (f g : Folder) (number at : ℕ) → ((n : FileName) → g n ≡ f n) → IsBadLog f number at → IsBadLog g number at
+bad_log_same f g number at same bad = record {
+  fold = bad.fold;
+  means = means_same f g (store bad.fold) same bad.means;
+  live = bad.live;
+  bad = subst (λ (c : Image). IsBadLogFile (sizes_of bad.fold) c at) (sym (same (Log number))) bad.bad;
+}
+
+-- ---- counts
+
+-- the faults of a folder that failed while it was open become the host's
+pub rose_with : (before opened now start end : ℕ) → opened ≡ before → now ≡ plus_faults opened end → Rose start end → Rose before now
+rose_with before opened now start end kept is rose = omega (arith, kept, is, rose)
+
+pub sound_with : (before opened now start end : ℕ) (lines : List Line) → opened ≡ before → now ≡ plus_faults opened end → AreSoundUnless start end lines → AreSoundUnless before now lines
+sound_with before opened now start end lines kept is (inl sound) = inl sound
+sound_with before opened now start end lines kept is (inr rose) = inr (rose_with before opened now start end kept is rose)
+
+-- ---- a folder that was opened, and given back
+
+-- A folder was opened, clean and as it stood, or new and empty where there was none and one was asked for; after calls on it, it
+-- was given back.
+pub record IsGivenBack {D F : Type 0} (d : disk.Ghosts D F) (old new : Holding) (leaves : Leaves) (make : Bool) (first last : D) : Type 0 where
+  pub gives : GivesFolder old make (d.is_told first) (d.faults first) (d.stands first)
+  pub clean : IsClean d first
+  pub told : d.is_told last ≡ d.is_told first
+  pub back : IsTrue (d.is_told last) → IsSome old → new ≡ Some (Some (d.stands last))
+  pub crash : (n : FileName) → NoMore (d.may_leave last n) (leaves n)
+
+-- what is given back stands there, where it is told what stood there
+put_back : (old mid new : Holding) (stands : Folder) → mid ≡ without_folder old → IsSome old → (IsSome mid → new ≡ Some (Some stands)) → new ≡ Some (Some stands)
+put_back None mid new stands out told given = absurd (cc told)
+put_back (Some holding) mid new stands out told given = given (ap is_some out)
+
+module _ {D F : Type 0} (d : disk.Ghosts D F) where
+  -- so it is where a host opened a folder and took it back
+  pub given_back : (E : Type 0) (old mid : List ℕ → Holding) (new : Holding) (leaves : Leaves) (path : List ℕ) (make place : Bool) (opened : Option D) (first last : D) → opened ≡ Some first
+      → OpensFolder {D = D} {E = E} d.is_told d.faults d.stands old mid path make (Ok opened) → IfSome opened (λ x. (n : FileName) (c : Image) → d.may_leave x n c → c ≡ d.stands x n) → OnSome opened (IsTrue place) → d.is_told last ≡ d.is_told first
+      → (IsTrue place → IsTrue (d.is_told last) → IsSome (mid path) → new ≡ Some (Some (d.stands last))) → (IsTrue place → (n : FileName) → NoMore (d.may_leave last n) (leaves n)) → IsGivenBack d (old path) new leaves make first last
+  given_back E old mid new leaves path make place opened first last is opens clean here told stands crash =
+      let gave = subst (λ (o : Option D). OpensFolder {D = D} {E = E} d.is_told d.faults d.stands old mid path make (Ok o)) is opens in
+      let placed = subst (λ (o : Option D). OnSome o (IsTrue place)) is here in
+      record {
+        gives = gave.0;
+        clean = subst (λ (o : Option D). IfSome o (λ x. (n : FileName) (c : Image) → d.may_leave x n c → c ≡ d.stands x n)) is clean;
+        told = told;
+        back = λ is_told some. put_back (old path) (mid path) new (d.stands last) gave.1 some (stands placed is_told);
+        crash = crash placed;
+      }
+
+  module _ (new : Holding) (leaves : Leaves) (first last : D) where
+    -- what is true of the folder that was opened is true of the one that stood there
+    tells : (P : Folder → Type 0) (old : Holding) → IsGivenBack d old new leaves false first last → ((folder : Folder) → ((n : FileName) → folder n ≡ d.stands first n) → P (d.stands first) → P folder)
+        → (IsTrue (d.is_told first) → P (d.stands first)) → TellsFolder old P
+    tells P None given carry here = tt
+    tells P (Some None) given carry here = absurd (cc given.gives.0)
+    tells P (Some (Some folder)) given carry here = carry folder (λ n. sym (given.gives.1 n)) (here given.gives.0)
+
+    -- ---- runs
+
+    -- the folder goes on
+    continues : (old : Holding) (m : State) (lines : List Line) (end : Point) → IsGivenBack d old new leaves false first last → (IsTrue (d.is_told first) → IsClean d first → KeepsLines d first last m lines end)
+        → ContinuesFrom old new leaves m lines end
+    continues None m lines end given kept = tt
+    continues (Some None) m lines end given kept = absurd (cc given.gives.0)
+    continues (Some (Some folder)) m lines end given kept =
+        let told = given.gives.0 in
+        let k = kept told given.clean in
+        record {
+          opened = stands_same (d.stands first) folder m (λ n. sym (given.gives.1 n)) k.opened;
+          stands = d.stands last;
+          new_is = given.back (subst IsTrue (sym given.told) told) refl;
+          left = record { crash = λ image may. k.left.crash image (λ n. given.crash n (image n) (may n)); whole = k.left.whole };
+        }
+
+    -- it is as it was
+    as_it_was : (old : Holding) → IsGivenBack d old new leaves false first last → IsSameFolder d first last → StaysAsItWas old new leaves
+    as_it_was None given same = tt
+    as_it_was (Some None) given same = absurd (cc given.gives.0)
+    as_it_was (Some (Some folder)) given same =
+        let told = given.gives.0 in
+        record {
+          stands = d.stands last;
+          new_is = given.back (subst IsTrue (sym given.told) told) refl;
+          same = λ n. same.stands told n ∙ given.gives.1 n;
+          crash = λ n c left. given.clean n c (same.no_more n c (given.crash n c left)) ∙ given.gives.1 n;
+        }
+
+    -- lines that wait over the folder wait over the path, and so does a stop
+    pub run_ready : (old : Holding) (before opened now : ℕ) (commands : List Command) (r : Ready) → IsGivenBack d old new leaves false first last → opened ≡ before → now ≡ plus_faults opened (d.faults last)
+        → IsRunReady d first last commands r → IsRunAt old new leaves before now commands r
+    run_ready old before opened now commands r given kept is ready = record {
+      m = ready.m;
+      works = ready.works;
+      lines = ready.lines;
+      end = ready.end;
+      history = ready.history;
+      waits = ready.waits;
+      sound = sound_with before opened now (d.faults first) (d.faults last) ready.lines kept is ready.sound;
+      left = continues old ready.m ready.lines ready.end given ready.kept;
+    }
+
+    none_or : (P : Folder → Type 0) (old : Holding) → TellsFolder old P → TellsNoneOr old P
+    none_or P None told = tt
+    none_or P (Some None) told = tt
+    none_or P (Some (Some folder)) told = told
+
+    open_stop : (old : Holding) (before now : ℕ) (fault : OpenFault) → IsGivenBack d old new leaves false first last → (IsTrue (d.is_told first) → RefusesOpening (d.stands first) fault) → (fault ≡ faults.DiskFault → Rose before now)
+        → IsOpenStop old before now (stop_of_opening fault)
+    open_stop old before now faults.NoStore given refuses cause = none_or (λ folder. Means folder no_store) old (tells (λ folder. Means folder no_store) old given (λ folder same means. means_same (d.stands first) folder no_store same means) refuses)
+    open_stop old before now (faults.BadManifest at) given refuses cause = tells (λ folder. Means folder (bad_at at)) old given (λ folder same means. means_same (d.stands first) folder (bad_at at) same means) refuses
+    open_stop old before now (faults.BadLog number at) given refuses cause = tells (λ folder. IsBadLog folder number at) old given (λ folder same bad. bad_log_same (d.stands first) folder number at same bad) refuses
+    open_stop old before now faults.DiskFault given refuses cause = cause refl
+    open_stop old before now faults.NoMemory given refuses cause = tt
+
+    pub run_stopped : (old : Holding) (before opened now : ℕ) (stop : Stop) → IsGivenBack d old new leaves false first last → opened ≡ before → now ≡ plus_faults opened (d.faults last)
+        → IsRunRefused d first last stop → IsStoppedAt old new leaves before now stop
+    run_stopped old before opened now stop given kept is refused = record {
+      cause = subst (IsOpenStop old before now) (sym refused.stop_is) (open_stop old before now refused.fault given refused.refuses (λ fault. rose_with before opened now (d.faults first) (d.faults last) kept is (refused.cause fault)));
+      left = ⊎_elim (λ same. inr (inl (as_it_was old given same)))
+          (λ cut. inr (inr (refused.stop_is ∙ ap stop_of_opening cut.0, record { m = cut.1.m; lines = cut.1.lines; end = cut.1.end; legal = cut.1.legal; left = continues old cut.1.m cut.1.lines cut.1.end given cut.1.kept })))
+          refused.left;
+    }
+
+    -- ---- making a store
+
+    -- what was made stands there, and nothing else is left by a crash
+    made_so : (P : Folder → Type 0) (old : Holding) → IsSome old → IsTrue (d.is_told first) → IsGivenBack d old new leaves true first last → P (d.stands last) → ((folder : Folder) → MayLeaveFolder d last folder → P folder) → IsMadeSo P new leaves
+    made_so P old some told given has crash = record {
+      stands = d.stands last;
+      new_is = given.back (subst IsTrue (sym given.told) told) some;
+      has = has;
+      crash = λ folder may. crash folder (λ n. given.crash n (folder n) (may n));
+    }
+
+    module _ (families : List FamilyHead) where
+      abbrev IsNew : Folder → Type 0
+      IsNew folder = FolderStands folder (new_state families)
+
+      pub made_at : (old : Holding) → IsGivenBack d old new leaves true first last → (IsTrue (d.is_told first) → IsNew (d.stands last)) → (IsTrue (d.is_told first) → Means (d.stands first) no_store)
+          → (IsTrue (d.is_told first) → IsClean d first → (folder : Folder) → MayLeaveFolder d last folder → IsNew folder) → IsMadeAt old new leaves families
+      made_at None given made none durable = tt
+      made_at (Some None) given made none durable = let told = given.gives.1 in made_so IsNew (Some None) refl told given (made told) (durable told given.clean)
+      made_at (Some (Some folder)) given made none durable =
+          let told = given.gives.0 in
+          (means_same (d.stands first) folder no_store (λ n. sym (given.gives.1 n)) (none told), made_so IsNew (Some (Some folder)) refl told given (made told) (durable told given.clean))
+
+      pub unmade_at : (f : file.Ghosts F) (old : Holding) → IsGivenBack d old new leaves true first last → (IsTrue (d.is_told first) → Means (d.stands first) no_store → IsNoneOrNew families (d.stands last))
+          → (IsTrue (d.is_told first) → IsClean d first → Means (d.stands first) no_store → (folder : Folder) → MayLeaveFolder d last folder → IsNoneOrNew families folder)
+          → (IsTrue (d.is_told first) → ¬ Means (d.stands first) no_store → OnlyLooks d f first last) → IsUnmadeAt old new leaves families
+      unmade_at f None given stopped crash kept = tt
+      unmade_at f (Some None) given stopped crash kept =
+          let told = given.gives.1 in
+          let none : Means (d.stands first) no_store = given.gives.3 Made in
+          made_so (IsNoneOrNew families) (Some None) refl told given (stopped told none) (crash told given.clean none)
+      unmade_at f (Some (Some folder)) given stopped crash kept =
+          let told = given.gives.0 in
+          record {
+            none = λ means. let none = means_same folder (d.stands first) no_store given.gives.1 means in made_so (IsNoneOrNew families) (Some (Some folder)) refl told given (stopped told none) (crash told given.clean none);
+            some = λ store.
+                let looks = kept told (λ means. store (means_same (d.stands first) folder no_store (λ n. sym (given.gives.1 n)) means)) in
+                record {
+                  stands = d.stands last;
+                  new_is = given.back (subst IsTrue (sym given.told) told) refl;
+                  same = λ n. looks.stands told n ∙ given.gives.1 n;
+                  crash = λ n c left. given.clean n c (looks.no_more n c (given.crash n c left)) ∙ given.gives.1 n;
+                };
+          }
+
+-- ---- runs of the commands of a file
+
+-- what was counted when the folder was asked for is no less than before the file was read
+stop_earlier : (holding : Holding) (first before now : ℕ) (stop : Stop) → first ≤ before → IsOpenStop holding before now stop → IsOpenStop holding first now stop
+stop_earlier holding first before now stops.DiskFault le cause = rose_earlier first before now le cause
+stop_earlier holding first before now stops.NoStore le cause = cause
+stop_earlier holding first before now (stops.BadManifest at) le cause = cause
+stop_earlier holding first before now (stops.BadLog number at) le cause = cause
+stop_earlier holding first before now stops.NoMemory le cause = tt
+stop_earlier holding first before now stops.BadWords le cause = absurd cause
+stop_earlier holding first before now stops.NoFile le cause = absurd cause
+stop_earlier holding first before now stops.TooLong le cause = absurd cause
+stop_earlier holding first before now (stops.TooMany n) le cause = absurd cause
+stop_earlier holding first before now (stops.BadLine n) le cause = absurd cause
+stop_earlier holding first before now stops.SourceFault le cause = absurd cause
+stop_earlier holding first before now stops.StoreExists le cause = absurd cause
+
+sound_earlier : (first before now : ℕ) (lines : List Line) → first ≤ before → AreSoundUnless before now lines → AreSoundUnless first now lines
+sound_earlier first before now lines le (inl sound) = inl sound
+sound_earlier first before now lines le (inr rose) = inr (rose_earlier first before now le rose)
+
+pub run_from : (standing : Standing) (old mid new : Holding) (leaves : Leaves) (first before now : ℕ) (commands : List Command) (r : Ready) → IsReadAs standing commands → mid ≡ old → first ≤ before
+    → IsRunAt mid new leaves before now commands r → IsRunFrom standing old new leaves first now r
+run_from standing old mid new leaves first before now commands r read same le run = record {
+  commands = commands;
+  read = read;
+  run = record {
+    m = run.m;
+    works = run.works;
+    lines = run.lines;
+    end = run.end;
+    history = run.history;
+    waits = run.waits;
+    sound = sound_earlier first before now run.lines le run.sound;
+    left = subst (λ (h : Holding). ContinuesFrom h new leaves run.m run.lines run.end) same run.left;
+  };
+}
+
+pub stopped_from : (standing : Standing) (old mid new : Holding) (leaves : Leaves) (first before now : ℕ) (commands : List Command) (stop : Stop) → IsReadAs standing commands → mid ≡ old → first ≤ before
+    → IsStoppedAt mid new leaves before now stop → IsStoppedFrom standing old new leaves first now stop
+stopped_from standing old mid new leaves first before now commands stop read same le stopped = record {
+  cause = inr (record { bytes = read.bytes; commands = commands; stands = read.stands; spelled = read.spelled }, stop_earlier old first before now stop le (subst (λ (h : Holding). IsOpenStop h before now stop) same stopped.cause));
+  left = subst (λ (h : Holding). IsRunLeft h new leaves stop) same stopped.left;
+}

@@ -1,0 +1,404 @@
+-- What a run over the store in a folder leaves there.
+use Rattle.std.proofs.Common.{◌≡◌, ◌≢◌, inl, inr, ⊎_elim, ℕ, ◌+◌, ◌≤◌, Bool, true, false, if◌then◌else◌, ◌||◌, List, [], ◌∷◌, ◌++◌, refl, sym, ap, ◌∙◌, subst, arith}
+use Rattle.std.specs.Prelude.{Some, None, Option, IsTrue, IfOk, Result, Ok, Err}
+use Rattle.std.specs.List.{list_any}
+use Rattle.std.proofs.lemmas.List.Folds.{list_any-append}
+use Rattle.udt_disk.specs.Causes.{plus_faults, Rose}
+use Rattle.udt_disk.specs.Crash.{Image, NoMore}
+use Rattle.udt_disk.specs.Joint.{Folder, IsFree}
+use Rattle.udt_disk.specs.declared.name.FileName.{FileName}
+use Rattle.udt_disk.specs.declared.name.FileName.TheVariants.{Current, Log, Made}
+use Rattle.udt_disk.specs.declared.file.DiskFile as file
+use Rattle.udt_disk.specs.declared.disk.Disk as disk
+use Rattle.udt_disk.proofs.Names.{same_or_other}
+use Rattle.udt_model.specs.declared.event.Event.{Event}
+use Rattle.udt_model.specs.declared.event.Event.TheVariants.{Sync}
+use Rattle.udt_model.specs.declared.reply.Reply.{Reply}
+use Rattle.udt_model.specs.declared.reply.Reply.TheVariants.{Done, Halted}
+use Rattle.ts_key.specs.declared.numbers.Seq.{Seq}
+use Rattle.ts_key.specs.declared.version.Version.{Version}
+use Rattle.udt_model.specs.declared.line.FamilyHead.{FamilyHead}
+use Rattle.udt_model.specs.declared.line.Line.{Line}
+use Rattle.udt_model.specs.declared.line.Who.TheVariants.{Client}
+use Rattle.udt_model.specs.State.{State}
+use Rattle.udt_model.specs.Steps.{IsReply, after}
+use Rattle.udt_model.specs.Histories.{Point, start, IsLegal, behind, Leads, own}
+use Rattle.udt_model.specs.Crashes.{Course, IsOutcome, course_start, course_after, course_behind}
+use Rattle.gate_log.specs.Outcomes.{IsSameFile}
+use Rattle.wal.specs.declared.numbered.Numbered.{Numbered}
+use Rattle.wal.specs.declared.wal.Wal.{Wal}
+use Rattle.wal.specs.Replays.{ReadsAs}
+use Rattle.wal.specs.Wals.{Holds, file_of as wal_file, sizes_of as wal_sizes}
+use Rattle.manifest.specs.declared.fold.Folded.{Folded}
+use Rattle.manifest.specs.Files.{HasFold}
+use Rattle.manifest.specs.Folds.{IsManifest}
+use Rattle.manifest.specs.Folders.{Means, chosen, chosen_by}
+use Rattle.manifest.specs.Folders.Meaning.{store}
+use Rattle.manifest.specs.Manifest.{file_of as manifest_file}
+use Rattle.manifest.specs.Moments.{holding, OnlyReads}
+use Rattle.client_lang.specs.declared.command.Command.{Command}
+use Rattle.client_lang.specs.Print.{print_header}
+use Rattle.client_runner.specs.Expand.{IsRunHistory}
+use Rattle.client_runner.specs.Left.{MayBeLeft, status_of_lines, tells_fault}
+use Rattle.client_runner.specs.LoggedStores.{state_of, wal_of}
+use Rattle.client_runner.specs.MakingStores.{IsClean}
+use Rattle.client_runner.specs.Opened.{IsOpened}
+use Rattle.client_runner.specs.Runs.{HasRunOver, HasRunParts, IsRunReady, IsRunRefused, KeepsLines, Waits, files_of, state_of_parts}
+use Rattle.client_runner.specs.Sessions.{HasSession, KeepsCourse, faults_of}
+use Rattle.client_runner.specs.Solo.{AreSoundUnless}
+use Rattle.client_runner.specs.Stores.{FolderStands, sizes_of}
+use Rattle.client_runner.specs.Stores as stores
+use Rattle.client_runner.specs.declared.output.Ready.{Ready}
+use Rattle.client_runner.specs.declared.recovery.OpenFault.TheVariants as opens
+use Rattle.client_runner.specs.declared.recovery.Parts.{Parts}
+use Rattle.client_runner.specs.declared.solo.logged.LoggedStore.{LoggedStore}
+use Rattle.client_runner.specs.declared.status.Status.TheVariants as statuses
+use Rattle.client_runner.specs.declared.status.Stop.TheVariants.{NoMemory}
+use Rattle.client_runner.proofs.KeepingLemmas.{all_synced, opens_kept}
+use Rattle.client_runner.proofs.Opening.{chosen_isn't_log}
+use Rattle.client_runner.proofs.SoloLemmas.{course_push, sound_none}
+use Rattle.client_runner.proofs.States.{opened_stands}
+
+-- ---- where no line tells a fault, all is synced at the end
+
+-- where the lines tell no fault, the state works at their end and all of it is synced
+abbrev pub Settles : State → List Line → Point → Type 0
+Settles m lines end = status_of_lines lines ≡ statuses.Done → (end.state.halted ≡ None) × ((course_behind (start m) (course_start m) lines).synced ≡ end.state.last.0)
+
+none_told : (told : Bool) → (if told then statuses.DiskFault else statuses.Done) ≡ statuses.Done → told ≡ false
+none_told true e = cc e
+none_told false e = refl
+
+no_fault : (lines : List Line) → status_of_lines lines ≡ statuses.Done → list_any (λ (l : Line). tells_fault l.reply) lines ≡ false
+no_fault lines e = none_told (list_any (λ (l : Line). tells_fault l.reply) lines) e
+
+second_none : (a b : Bool) → (a || (b || false)) ≡ false → b ≡ false
+second_none true b e = cc e
+second_none false true e = cc e
+second_none false false e = refl
+
+last_none : (lines : List Line) (line : Line) → list_any (λ (l : Line). tells_fault l.reply) (lines ++ line ∷ []) ≡ false → tells_fault line.reply ≡ false
+last_none lines line e =
+    second_none (list_any (λ (l : Line). tells_fault l.reply) lines) (tells_fault line.reply) (sym (list_any-append (λ (l : Line). tells_fault l.reply) lines (line ∷ [])) ∙ e)
+
+-- lines and one more lead over the point between them
+record Splits (p : Point) (lines : List Line) (line : Line) (end : Point) : Type 0 where
+  pub mid : Point
+  pub before : Leads p lines mid
+  pub legal : IsLegal mid line
+  pub end_is : end ≡ behind mid line
+
+splits_more : (p : Point) (l : Line) (lines : List Line) (line : Line) (end : Point) → IsLegal p l → Splits (behind p l) lines line end → Splits p (l ∷ lines) line end
+splits_more p l lines line end legal s = record { mid = s.mid; before = (legal, s.before); legal = s.legal; end_is = s.end_is }
+
+splits : (p : Point) (lines : List Line) (line : Line) (end : Point) → Leads p (lines ++ line ∷ []) end → Splits p lines line end
+splits p [] line end h = record { mid = p; before = refl; legal = h.0; end_is = h.1 }
+splits p (l ∷ lines) line end h = splits_more p l lines line end h.0 (splits (behind p l) lines line end h.1)
+
+-- a sync of a store that works, which tells no fault, is done
+sync_done : (halted : Option ℕ) (m : State) (reply : Reply) → m.halted ≡ halted → IsReply m Sync reply → tells_fault reply ≡ false → (halted ≡ None) × (reply ≡ Done)
+sync_done halted m reply is (inr (inl want)) none = absurd (cc want.1)
+sync_done halted m reply is (inr (inr fault)) none = absurd (cc (ap tells_fault fault.0, none))
+sync_done None m reply is (inl told) none = (refl, rw is at told)
+sync_done (Some n) m reply is (inl told) none = absurd (let e : reply ≡ Halted n = rw is at told in cc (ap tells_fault e, none))
+
+-- the runner's sync settles the lines before it
+settled_by : (m : State) (lines : List Line) (line : Line) (end : Point) → Leads (start m) (lines ++ line ∷ []) end → line.event ≡ Sync → tells_fault line.reply ≡ false
+    → (end.state.halted ≡ None) × ((course_behind (start m) (course_start m) (lines ++ line ∷ [])).synced ≡ end.state.last.0)
+settled_by m lines line end leads event none =
+    let s = splits (start m) lines line end leads in
+    let reply : IsReply s.mid.state Sync line.reply = subst (λ (e : Event). IsReply s.mid.state e line.reply) event s.legal.reply in
+    let done = sync_done s.mid.state.halted s.mid.state line.reply refl reply none in
+    let state : end.state ≡ s.mid.state =
+    ap (λ (p : Point). p.state) s.end_is ∙ ap (λ (e : Event). after s.mid.state (s.mid.number + 1) e line.reply) event ∙ ap (λ (r : Reply). after s.mid.state (s.mid.number + 1) Sync r) done.1 in
+    let c : Course = course_behind (start m) (course_start m) lines in
+    let course : course_behind (start m) (course_start m) (lines ++ line ∷ []) ≡ record c { synced = s.mid.state.last.0 } =
+    course_push (start m) s.mid (course_start m) lines line s.before
+    ∙ ap (λ (e : Event). course_after s.mid.state c e line.reply) event ∙ ap (λ (r : Reply). course_after s.mid.state c Sync r) done.1 in
+    (ap (λ (x : State). x.halted) state ∙ done.0, ap (λ (x : Course). x.synced) course ∙ ap (λ (x : State). x.last.0) (sym state))
+
+pub session_settles : (m : State) (commands : List Command) (lines : List Line) (end : Point) → IsRunHistory m commands lines end → Settles m lines end
+session_settles m commands lines end h done =
+    let before : List Line = own (Client 1) lines in
+    let leads : Leads (start m) (before ++ h.sync ∷ []) end = subst (λ (ls : List Line). Leads (start m) ls end) h.rest h.legal in
+    let none : list_any (λ (l : Line). tells_fault l.reply) (before ++ h.sync ∷ []) ≡ false = ap (list_any (λ (l : Line). tells_fault l.reply)) (sym h.rest) ∙ no_fault lines done in
+    let both = settled_by m before h.sync end leads h.is_sync (last_none before h.sync none) in
+    (both.0, ap (λ (ls : List Line). (course_behind (start m) (course_start m) ls).synced) h.rest ∙ both.1)
+
+-- ---- folders that mean the same store
+
+-- they have the same under each name but that of the live log
+abbrev pub IsSameBut : ℕ → Folder → Folder → Type 0
+IsSameBut number a b = (n : FileName) → n ≢ Log number → b n ≡ a n
+
+means_same : (number : ℕ) (a b : Folder) (fold : Folded) → IsSameBut number a b → Means a (store fold) → Means b (store fold)
+means_same number a b fold same means =
+    let chosen_is : chosen b ≡ chosen a = ap chosen_by (same Current (λ e. cc e)) in
+    let manifest : b (chosen b) ≡ a (chosen a) = ap b chosen_is ∙ same (chosen a) (chosen_isn't_log a number) in
+    ((λ none. means.0 (sym (same Made (λ e. cc e)) ∙ none)), subst (λ (image : Image). HasFold image fold) (sym manifest) means.1)
+
+-- and another log stands for other batches
+pub stands_so : (number : ℕ) (a b : Folder) (fold : Folded) (batches : List Numbered) (m : State) → IsSameBut number a b → Means a (store fold) → fold.logs ≡ number ∷ []
+    → ReadsAs (sizes_of fold) batches (b (Log number)) → m ≡ stores.state_of fold batches → FolderStands b m
+stands_so number a b fold batches m same means live held is =
+    record { fold = fold; means = means_same number a b fold same means; number = number; live = live; batches = batches; held = held; state_is = is }
+
+manifest_last : (bodies : List (List ℕ)) (fold : Folded) → IsManifest bodies fold → fold.last.0 ≡ 0
+manifest_last [] fold means = absurd means
+manifest_last (body ∷ []) fold means = ap (λ (x : Folded). x.last.0) means.2
+manifest_last (body ∷ next ∷ bodies) fold means = absurd means
+
+file_last : (image : Image) (fold : Folded) → HasFold image fold → fold.last.0 ≡ 0
+file_last None fold has = absurd has
+file_last (Some bytes) fold has = manifest_last has.0 fold has.2
+
+-- a manifest has the last sequence 0: until there are tables every version is in the log
+pub means_last : (folder : Folder) (fold : Folded) → Means folder (store fold) → fold.last.0 ≡ 0
+means_last folder fold means = file_last (folder (chosen folder)) fold means.1
+
+-- ---- faults
+
+-- a fault of one file is one of the disk that takes it back
+rose_back : (before log manifest now : ℕ) → now ≡ plus_faults (plus_faults before log) manifest → Rose 0 log → Rose before now
+rose_back before log manifest now is rose = grind (arith, is, rose)
+
+pub sound_back : (before first log manifest now : ℕ) (lines : List Line) → now ≡ plus_faults (plus_faults before log) manifest → first ≡ 0 → AreSoundUnless first log lines → AreSoundUnless before now lines
+sound_back before first log manifest now lines is zero (inl sound) = inl sound
+sound_back before first log manifest now lines is zero (inr rose) = inr (rose_back before log manifest now is (subst (λ (n : ℕ). Rose n log) zero rose))
+
+-- ---- what waits
+
+waits_with : {E : Type 0} (result : Result Ready E) (A : Type 0) (lines : List Line) (header text : List ℕ) → A → header ≡ text → IfOk result (Waits header lines) → IfOk result (λ r. A × Waits text lines r)
+waits_with (Ok r) A lines header text a is waits = (a, subst (λ (t : List ℕ). Waits t lines r) is waits)
+waits_with (Err e) A lines header text a is none = tt
+
+-- ---- what is left
+
+abbrev with_state : List FamilyHead → List Version → Seq → State
+with_state heads versions last = record { heads = heads; versions = versions; last = last; halted = None }
+
+module _ {D F : Type 0} (d : disk.Ghosts D F) (f : file.Ghosts F) where
+  -- the files of the log and of the manifest were given back
+  pub record IsClosed (old new : D) (log manifest : F) : Type 0 where
+    pub log_stands : IsTrue (d.is_told old) → IsTrue (f.is_told log) → f.name manifest ≢ f.name log → d.stands new (f.name log) ≡ Some (f.seen log)
+    pub log_leaves : f.name manifest ≢ f.name log → NoMore (f.may_leave log) (d.may_leave new (f.name log))
+    pub manifest_stands : IsTrue (d.is_told old) → IsTrue (f.is_told manifest) → d.stands new (f.name manifest) ≡ Some (f.seen manifest)
+    pub manifest_leaves : NoMore (f.may_leave manifest) (d.may_leave new (f.name manifest))
+    pub others : (n : FileName) (c : Image) → n ≢ f.name manifest → n ≢ f.name log → d.may_leave new n c → d.may_leave old n c
+    pub others_stand : (n : FileName) → n ≢ f.name manifest → n ≢ f.name log → d.stands new n ≡ d.stands old n
+    pub faults : d.faults new ≡ plus_faults (plus_faults (d.faults old) (f.faults log)) (f.faults manifest)
+    pub later : d.faults old ≤ d.faults new
+
+  -- the store has made these lines from the state m on
+  pub record HasMade (first now : LoggedStore F f) (m : State) (lines : List Line) (end : Point) : Type 0 where
+    pub legal : Leads (start m) lines end
+    pub state_is : end.state ≡ state_of now
+    pub settled : Settles m lines end
+    pub first_is : state_of first ≡ m
+    pub kept : (fold : Folded) → KeepsCourse f first fold (course_start (state_of first)) → KeepsCourse f now fold (course_behind (start (state_of first)) (course_start (state_of first)) lines)
+    pub sound : AreSoundUnless (faults_of f first) (faults_of f now) lines
+    pub same : IsSameFile f (wal_file (wal_of first)) (wal_file (wal_of now))
+
+  -- a name of neither file is free
+  free_of : (old : D) (parts : Parts D F f) (n : FileName) → n ≢ f.name (manifest_file parts.manifest) → n ≢ f.name (wal_file parts.wal) → IsFree d f (holding old (files_of parts)) n
+  free_of old parts n not_manifest not_log x (inl is) = subst (λ (z : F). n ≢ f.name z) is not_manifest
+  free_of old parts n not_manifest not_log x (inr (inl is)) = subst (λ (z : F). n ≢ f.name z) is not_log
+  free_of old parts n not_manifest not_log x (inr (inr none)) = absurd none
+
+  -- under each name but that of the live log there stands what stood there
+  closed_stands : (opened new : D) (parts : Parts D F f) (log : F) → IsTrue (d.is_told opened) → (o : IsOpened d f opened parts) → OnlyReads d f opened parts.disk (files_of parts)
+      → d.is_told parts.disk ≡ d.is_told opened → f.is_told (manifest_file parts.manifest) ≡ d.is_told opened → f.name log ≡ Log o.number
+      → IsClosed parts.disk new log (manifest_file parts.manifest) → IsSameBut o.number (d.stands opened) (d.stands new)
+  closed_stands opened new parts log told o reads told_disk told_manifest named closed n other =
+      let m : F = manifest_file parts.manifest in
+      ⊎_elim
+      (λ is. ap (d.stands new) is ∙ closed.manifest_stands (subst IsTrue (sym told_disk) told) (subst IsTrue (sym told_manifest) told) ∙ sym (reads.seen told m (inl refl)) ∙ ap (d.stands opened) (sym is))
+      (λ apart. closed.others_stand n apart (λ is. other (is ∙ named)) ∙ reads.stands told n (free_of parts.disk parts n apart (λ is. other (is ∙ o.name))))
+      (same_or_other (f.name m) n)
+
+  -- and a crash leaves nothing else
+  closed_leaves : (opened new : D) (parts : Parts D F f) (log : F) → IsClean d opened → (o : IsOpened d f opened parts) → OnlyReads d f opened parts.disk (files_of parts) → f.name log ≡ Log o.number
+      → IsClosed parts.disk new log (manifest_file parts.manifest) → (folder : Folder) → MayBeLeft (d.may_leave new) folder → IsSameBut o.number (d.stands opened) folder
+  closed_leaves opened new parts log clean o reads named closed folder left n other =
+      let m : F = manifest_file parts.manifest in
+      ⊎_elim
+      (λ is. clean n (folder n) (subst (λ (k : FileName). d.may_leave opened k (folder n)) (sym is) (reads.held m (inl refl) (folder n) (closed.manifest_leaves (folder n) (subst (λ (k : FileName). d.may_leave new k (folder n)) is (left n))))))
+      (λ apart. clean n (folder n) (reads.no_more n (folder n) (free_of parts.disk parts n apart (λ is. other (is ∙ o.name))) (closed.others n (folder n) apart (λ is. other (is ∙ named)) (left n))))
+      (same_or_other (f.name m) n)
+
+  -- the parts say what the manifest and the log say
+  parts_say : (opened : D) (parts : Parts D F f) → (o : IsOpened d f opened parts) → state_of_parts parts ≡ stores.state_of o.fold o.batches
+  parts_say opened parts o =
+      let m : State = stores.state_of o.fold o.batches in
+      ap (λ (heads : List FamilyHead). with_state heads parts.versions.items parts.last) o.heads ∙ ap (λ (versions : List Version). with_state m.heads versions parts.last) o.versions ∙ ap (with_state m.heads m.versions) o.last
+
+  -- at the opening the log keeps the history that begins there
+  opened_keeps : (opened : D) (parts : Parts D F f) (first : LoggedStore F f) → IsClean d opened → (o : IsOpened d f opened parts) → state_of first ≡ state_of_parts parts → wal_of first ≡ parts.wal
+      → KeepsCourse f first o.fold (course_start (state_of first))
+  opened_keeps opened parts first clean o state wal =
+      let is : state_of first ≡ stores.state_of o.fold o.batches = state ∙ parts_say opened parts o in
+      let sizes : wal_sizes (wal_of first) ≡ sizes_of o.fold = ap wal_sizes wal ∙ o.sizes in
+      let holds : Holds f (wal_of first) o.batches [] = subst (λ (w : Wal F f). Holds f w o.batches []) (sym wal) (o.rests clean) in
+      (means_last (d.stands opened) o.fold o.means, sym sizes, opens_kept f o.fold (wal_of first) o.batches (state_of first) holds sizes is)
+
+  -- and it does so behind the lines
+  made_keeps : (opened : D) (parts : Parts D F f) (first now : LoggedStore F f) (lines : List Line) (end : Point) → IsClean d opened → (o : IsOpened d f opened parts) → wal_of first ≡ parts.wal
+      → HasMade first now (state_of_parts parts) lines end → KeepsCourse f now o.fold (course_behind (start (state_of_parts parts)) (course_start (state_of_parts parts)) lines)
+  made_keeps opened parts first now lines end clean o wal made =
+      subst (λ (m : State). KeepsCourse f now o.fold (course_behind (start m) (course_start m) lines)) made.first_is (made.kept o.fold (opened_keeps opened parts first clean o made.first_is wal))
+
+  -- a log that holds batches reads as them
+  holds_reads : (fold : Folded) (wal : Wal F f) (batches : List Numbered) → sizes_of fold ≡ wal_sizes wal → Holds f wal batches [] → ReadsAs (sizes_of fold) batches (Some (f.seen (wal_file wal)))
+  holds_reads fold wal batches sizes holds =
+      subst (λ (s : List ℕ). ReadsAs s batches (Some (f.seen (wal_file wal)))) (sym sizes) (record { bodies = holds.shown.bodies; log = holds.shown.logged.file; held = holds.shown.held })
+
+  made_name : (opened : D) (parts : Parts D F f) (first now : LoggedStore F f) → (o : IsOpened d f opened parts) → wal_of first ≡ parts.wal → IsSameFile f (wal_file (wal_of first)) (wal_file (wal_of now))
+      → f.name (wal_file (wal_of now)) ≡ Log o.number
+  made_name opened parts first now o wal same = same.name ∙ ap (λ (w : Wal F f). f.name (wal_file w)) wal ∙ o.name
+
+  -- the names of both files are apart
+  made_apart : (opened : D) (parts : Parts D F f) (log : F) → (o : IsOpened d f opened parts) → f.name log ≡ Log o.number → f.name (manifest_file parts.manifest) ≢ f.name log
+  made_apart opened parts log o named is = o.apart (is ∙ named ∙ sym o.name)
+
+  -- each folder that a crash may leave stands for an outcome
+  crash_left : (opened new : D) (parts : Parts D F f) (first now : LoggedStore F f) (lines : List Line) (end : Point) → IsClean d opened → (o : IsOpened d f opened parts) → OnlyReads d f opened parts.disk (files_of parts)
+      → wal_of first ≡ parts.wal → HasMade first now (state_of_parts parts) lines end → IsClosed parts.disk new (wal_file (wal_of now)) (manifest_file parts.manifest) → (folder : Folder) → MayBeLeft (d.may_leave new) folder
+      → (left : State) × FolderStands folder left × IsOutcome end.state (course_behind (start (state_of_parts parts)) (course_start (state_of_parts parts)) lines) left
+  crash_left opened new parts first now lines end clean o reads wal made closed folder left =
+      let log : F = wal_file (wal_of now) in
+      let c : Course = course_behind (start (state_of_parts parts)) (course_start (state_of_parts parts)) lines in
+      let named = made_name opened parts first now o wal made.same in
+      let image : Image = folder (Log o.number) in
+      let leaves : f.may_leave log image =
+      closed.log_leaves (made_apart opened parts log o named) image (subst (λ (k : FileName). d.may_leave new k image) (sym named) (left (Log o.number))) in
+      let kept = made_keeps opened parts first now lines end clean o wal made in
+      let r = kept.2.outcomes image leaves in
+      let same = closed_leaves opened new parts log clean o reads named closed folder left in
+      let m : State = stores.state_of o.fold r.batches in
+      (m, stands_so o.number (d.stands opened) folder o.fold r.batches m same o.means o.live r.reads refl, subst (λ (s : State). IsOutcome s c m) (sym made.state_is) r.outcome)
+
+  -- where no line tells a fault the folder stands for the end
+  whole_left : (opened new : D) (parts : Parts D F f) (first now : LoggedStore F f) (lines : List Line) (end : Point) → IsTrue (d.is_told opened) → IsClean d opened → (o : IsOpened d f opened parts)
+      → OnlyReads d f opened parts.disk (files_of parts) → d.is_told parts.disk ≡ d.is_told opened → f.is_told (wal_file parts.wal) ≡ d.is_told opened → f.is_told (manifest_file parts.manifest) ≡ d.is_told opened
+      → wal_of first ≡ parts.wal → HasMade first now (state_of_parts parts) lines end → IsClosed parts.disk new (wal_file (wal_of now)) (manifest_file parts.manifest)
+      → status_of_lines lines ≡ statuses.Done → FolderStands (d.stands new) end.state
+  whole_left opened new parts first now lines end told clean o reads told_disk told_wal told_manifest wal made closed done =
+      let log : F = wal_file (wal_of now) in
+      let c : Course = course_behind (start (state_of_parts parts)) (course_start (state_of_parts parts)) lines in
+      let named = made_name opened parts first now o wal made.same in
+      let kept = made_keeps opened parts first now lines end clean o wal made in
+      let settled = made.settled done in
+      let works : (state_of now).halted ≡ None = ap (λ (s : State). s.halted) (sym made.state_is) ∙ settled.0 in
+      let all : c.synced ≡ (state_of now).last.0 = settled.1 ∙ ap (λ (s : State). s.last.0) made.state_is in
+      let is = all_synced f o.fold (wal_of now) (state_of now) c kept.0 kept.2 works all in
+      let told_log : f.is_told log ≡ d.is_told opened = made.same.told ∙ ap (λ (w : Wal F f). f.is_told (wal_file w)) wal ∙ told_wal in
+      let stands : d.stands new (Log o.number) ≡ Some (f.seen log) =
+      ap (d.stands new) (sym named) ∙ closed.log_stands (subst IsTrue (sym told_disk) told) (subst IsTrue (sym told_log) told) (made_apart opened parts log o named) in
+      let held : ReadsAs (sizes_of o.fold) is.0 (d.stands new (Log o.number)) = subst (λ (image : Image). ReadsAs (sizes_of o.fold) is.0 image) (sym stands) (holds_reads o.fold (wal_of now) is.0 kept.1 is.1) in
+      let same = closed_stands opened new parts log told o reads told_disk told_manifest named closed in
+      stands_so o.number (d.stands opened) (d.stands new) o.fold is.0 end.state same o.means o.live held (made.state_is ∙ is.2)
+
+  -- ---- runs
+
+  -- no line was made
+  made_nothing : (first : LoggedStore F f) (m : State) → state_of first ≡ m → m.halted ≡ None → HasMade first first m [] (start m)
+  made_nothing first m is works = record {
+    legal = refl;
+    state_is = sym is;
+    settled = λ done. (works, refl);
+    first_is = is;
+    kept = λ fold k. k;
+    sound = sound_none (faults_of f first) [] refl;
+    same = record { name = refl; told = refl; model = refl };
+  }
+
+  -- the lines of a session
+  made_session : (first now : LoggedStore F f) (m : State) (commands : List Command) (lines : List Line) → (s : HasSession f first now commands lines) → state_of first ≡ m → IsRunHistory m commands lines s.run.end
+      → HasMade first now m lines s.run.end
+  made_session first now m commands lines s is h = record {
+    legal = h.legal;
+    state_is = s.run.state_is;
+    settled = session_settles m commands lines s.run.end h;
+    first_is = is;
+    kept = s.log.kept;
+    sound = s.log.sound;
+    same = s.log.same;
+  }
+
+  -- the lines were made, and the files given back
+  has_parts : {E : Type 0} (parts : Parts D F f) (new : D) (first now : LoggedStore F f) (log manifest : F) (commands : List Command) (lines : List Line) (end : Point) (result : Result Ready E) → wal_of first ≡ parts.wal
+      → f.faults (wal_file parts.wal) ≡ 0 → HasMade first now (state_of_parts parts) lines end → log ≡ wal_file (wal_of now) → manifest ≡ manifest_file parts.manifest → IsClosed parts.disk new log manifest
+      → IfOk result (λ r. IsRunHistory (state_of_parts parts) commands lines end × Waits (print_header parts.last.0 parts.heads.items) lines r) → HasRunParts d f parts new commands result
+  has_parts parts new first now log manifest commands lines end result wal fresh made log_is manifest_is closed ready =
+      let zero : faults_of f first ≡ 0 = ap (λ (w : Wal F f). f.faults (wal_file w)) wal ∙ fresh in
+      let back : IsClosed parts.disk new (wal_file (wal_of now)) (manifest_file parts.manifest) = subst (IsClosed parts.disk new (wal_file (wal_of now))) manifest_is (subst (λ (x : F). IsClosed parts.disk new x manifest) log_is closed) in
+      record {
+        lines = lines;
+        end = end;
+        legal = made.legal;
+        ready = ready;
+        sound = sound_back (d.faults parts.disk) (faults_of f first) (faults_of f now) (f.faults (manifest_file parts.manifest)) (d.faults new) lines back.faults zero made.sound;
+        later = closed.later;
+        kept = λ opened told clean o reads told_disk told_wal told_manifest. record {
+          opened = opened_stands d f opened parts o;
+          left = record {
+            crash = crash_left opened new parts first now lines end clean o reads wal made back;
+            whole = whole_left opened new parts first now lines end told clean o reads told_disk told_wal told_manifest wal made back;
+          };
+        };
+      }
+
+  -- where there was memory for the header, the lines of a session were made
+  pub parts_over : {E : Type 0} (parts : Parts D F f) (new : D) (first now : LoggedStore F f) (log manifest : F) (commands : List Command) (header : List ℕ) (result : Result Ready E) → wal_of first ≡ parts.wal
+      → state_of first ≡ state_of_parts parts → f.faults (wal_file parts.wal) ≡ 0 → log ≡ wal_file (wal_of now) → manifest ≡ manifest_file parts.manifest → IsClosed parts.disk new log manifest
+      → header ≡ print_header parts.last.0 parts.heads.items → HasRunOver f first now commands header result → HasRunParts d f parts new commands result
+  parts_over parts new first now log manifest commands header result wal is fresh log_is manifest_is closed header_is over =
+      let s = over.session in
+      let m : State = state_of_parts parts in
+      let h : IsRunHistory m commands over.lines s.run.end = subst (λ (x : State). IsRunHistory x commands over.lines s.run.end) is s.run.history in
+      has_parts parts new first now log manifest commands over.lines s.run.end result wal fresh (made_session first now m commands over.lines s is h) log_is manifest_is closed
+      (waits_with result (IsRunHistory m commands over.lines s.run.end) over.lines header (print_header parts.last.0 parts.heads.items) h header_is over.ready)
+
+  -- where there was none, no line was made
+  pub parts_unmade : {E : Type 0} (parts : Parts D F f) (new : D) (first : LoggedStore F f) (log manifest : F) (commands : List Command) (e : E) → wal_of first ≡ parts.wal
+      → state_of first ≡ state_of_parts parts → f.faults (wal_file parts.wal) ≡ 0 → log ≡ wal_file (wal_of first) → manifest ≡ manifest_file parts.manifest → IsClosed parts.disk new log manifest
+      → HasRunParts d f parts new commands (Err e)
+  parts_unmade parts new first log manifest commands e wal is fresh log_is manifest_is closed =
+      let m : State = state_of_parts parts in
+      has_parts parts new first first log manifest commands [] (start m) (Err e) wal fresh (made_nothing first m is refl) log_is manifest_is closed tt
+
+  -- ---- opening
+
+  -- a store was opened of a folder
+  pub record IsOpenedFrom (old : D) (parts : Parts D F f) : Type 0 where
+    pub opened : IsTrue (d.is_told old) → IsOpened d f old parts
+    pub reads : OnlyReads d f old parts.disk (files_of parts)
+    pub told : d.is_told parts.disk ≡ d.is_told old
+    pub wal_told : f.is_told (wal_file parts.wal) ≡ d.is_told old
+    pub manifest_told : f.is_told (manifest_file parts.manifest) ≡ d.is_told old
+    pub kept : d.faults parts.disk ≡ d.faults old
+
+  keeps_from : {E : Type 0} (old new : D) (parts : Parts D F f) (commands : List Command) (result : Result Ready E) → IsOpenedFrom old parts → (run : HasRunParts d f parts new commands result)
+      → IsTrue (d.is_told old) → IsClean d old → KeepsLines d old new (state_of_parts parts) run.lines run.end
+  keeps_from old new parts commands result from run told clean = run.kept old told clean (from.opened told) from.reads from.told from.wal_told from.manifest_told
+
+  pub run_ready : {E : Type 0} (old new : D) (parts : Parts D F f) (commands : List Command) (r : Ready) → IsOpenedFrom old parts → HasRunParts {E = E} d f parts new commands (Ok r) → IsRunReady d old new commands r
+  run_ready old new parts commands r from run = record {
+    m = state_of_parts parts;
+    works = refl;
+    lines = run.lines;
+    end = run.end;
+    history = run.ready.0;
+    waits = run.ready.1;
+    sound = subst (λ (n : ℕ). AreSoundUnless n (d.faults new) run.lines) from.kept run.sound;
+    kept = keeps_from old new parts commands (Ok r) from run;
+  }
+
+  pub run_refused : {E : Type 0} (old new : D) (parts : Parts D F f) (commands : List Command) (e : E) → IsOpenedFrom old parts → HasRunParts d f parts new commands (Err e) → IsRunRefused d old new NoMemory
+  run_refused old new parts commands e from run = record {
+    fault = opens.NoMemory;
+    stop_is = refl;
+    refuses = λ told. tt;
+    cause = λ is. cc is;
+    left = inr (refl, record { m = state_of_parts parts; lines = run.lines; end = run.end; legal = run.legal; kept = keeps_from old new parts commands (Err e) from run });
+  }

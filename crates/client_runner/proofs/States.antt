@@ -1,0 +1,93 @@
+-- A folder stands for one state at most, which is that of a store opened there.
+use Rattle.std.proofs.Common.{◌≡◌, ◌≢◌, ℕ, ◌≤◌, List, [], ◌∷◌, length, refl, sym, ap, ◌∙◌, subst, arith}
+use Rattle.std.specs.Prelude.{Some, None}
+use Rattle.std.proofs.lemmas.List.{length-map}
+use Rattle.ts_key.specs.declared.numbers.Seq.{Seq}
+use Rattle.ts_key.specs.declared.version.Version.{Version}
+use Rattle.udt_disk.specs.Crash.{Image}
+use Rattle.udt_disk.specs.Joint.{Folder}
+use Rattle.udt_disk.specs.declared.name.FileName.TheVariants.{Log}
+use Rattle.udt_disk.specs.declared.file.DiskFile as file
+use Rattle.udt_disk.specs.declared.disk.Disk as disk
+use Rattle.udt_model.specs.declared.line.FamilyHead.{FamilyHead}
+use Rattle.udt_model.specs.State.{State}
+use Rattle.wal.specs.declared.numbered.Numbered.{Numbered}
+use Rattle.wal.specs.Replays.{ReadsAs}
+use Rattle.wal.proofs.Logs.{log_holds_one}
+use Rattle.manifest.specs.declared.fold.Folded.{Folded}
+use Rattle.manifest.specs.declared.fold.FamilyFold.{FamilyFold}
+use Rattle.manifest.specs.Folders.{Means}
+use Rattle.manifest.specs.Folders.Meaning.{no_store, bad_at, store}
+use Rattle.manifest.proofs.Meanings.{means_once}
+use Rattle.client_runner.specs.Stores.{FolderStands, sizes_of, state_of}
+use Rattle.client_runner.specs.Openings.{RefusesOpening, IsBadLogFile}
+use Rattle.client_runner.specs.Opened.{IsOpened}
+use Rattle.client_runner.specs.declared.recovery.OpenFault.{OpenFault}
+use Rattle.client_runner.specs.declared.recovery.OpenFault.TheVariants.{NoStore, BadManifest, BadLog, DiskFault, NoMemory}
+use Rattle.client_runner.specs.declared.recovery.Parts.{Parts}
+use Rattle.client_runner.proofs.Opening.{means_usable}
+
+few_sizes : (folder : Folder) (fold : Folded) → Means folder (store fold) → length (sizes_of fold) ≤ 16
+few_sizes folder fold means =
+    let size : FamilyFold → ℕ = λ f. 8 in
+    omega (arith, length-map fold.families size, (means_usable folder fold means).few)
+
+read_once : (sizes : List ℕ) (as_one as_other : List Numbered) (image : Image) → length sizes ≤ 16 → ReadsAs sizes as_one image → ReadsAs sizes as_other image → as_one ≡ as_other
+read_once sizes as_one as_other None few one other = absurd one
+read_once sizes as_one as_other (Some bytes) few one other = log_holds_one sizes as_one as_other bytes few one other
+
+fold_once : (folder : Folder) (a b : Folded) → Means folder (store a) → Means folder (store b) → a ≡ b
+fold_once folder a b one other = let same : store a ≡ store b = means_once folder (store a) (store b) one other in cc
+
+number_once : (a b : Folded) (m n : ℕ) → a ≡ b → a.logs ≡ m ∷ [] → b.logs ≡ n ∷ [] → m ≡ n
+number_once a b m n same one other = let logs : a.logs ≡ b.logs = ap (λ (x : Folded). x.logs) same in cc
+
+batches_once : (folder : Folder) (a b : Folded) (m n : ℕ) (as_one as_other : List Numbered) → a ≡ b → m ≡ n → Means folder (store a) → ReadsAs (sizes_of a) as_one (folder (Log m)) → ReadsAs (sizes_of b) as_other (folder (Log n)) → as_one ≡ as_other
+batches_once folder a b m n as_one as_other fold number means one other =
+    read_once (sizes_of a) as_one as_other (folder (Log m)) (few_sizes folder a means) one
+    (subst (λ (x : Folded). ReadsAs (sizes_of x) as_other (folder (Log m))) (sym fold) (subst (λ (k : ℕ). ReadsAs (sizes_of b) as_other (folder (Log k))) (sym number) other))
+
+-- a folder stands for one state at most
+pub one_state : (folder : Folder) (m n : State) → FolderStands folder m → FolderStands folder n → m ≡ n
+one_state folder m n one other =
+    let fold : one.fold ≡ other.fold = fold_once folder one.fold other.fold one.means other.means in
+    let number : one.number ≡ other.number = number_once one.fold other.fold one.number other.number fold one.live other.live in
+    let batches : one.batches ≡ other.batches = batches_once folder one.fold other.fold one.number other.number one.batches other.batches fold number one.means one.held other.held in
+    one.state_is ∙ ap (λ (x : Folded). state_of x one.batches) fold ∙ ap (state_of other.fold) batches ∙ sym other.state_is
+
+-- ---- folders that are refused
+
+bad_isn't_read : (sizes : List ℕ) (image : Image) (at : ℕ) (batches : List Numbered) → IsBadLogFile sizes image at → ReadsAs sizes batches image → ⊥
+bad_isn't_read sizes None at batches bad reads = reads
+bad_isn't_read sizes (Some bytes) at batches bad reads = bad.1 batches reads
+
+-- a folder that is refused for what stands there stands for no state
+pub refused_stands : (folder : Folder) (fault : OpenFault) → fault ≢ DiskFault → fault ≢ NoMemory → RefusesOpening folder fault → (m : State) → FolderStands folder m → ⊥
+refused_stands folder NoStore disk memory refused m stands = let same : no_store ≡ store stands.fold = means_once folder no_store (store stands.fold) refused stands.means in cc
+refused_stands folder (BadManifest at) disk memory refused m stands = let same : bad_at at ≡ store stands.fold = means_once folder (bad_at at) (store stands.fold) refused stands.means in cc
+refused_stands folder (BadLog number at) disk memory refused m stands =
+    let fold : refused.fold ≡ stands.fold = fold_once folder refused.fold stands.fold refused.means stands.means in
+    let same : number ≡ stands.number = number_once refused.fold stands.fold number stands.number fold refused.live stands.live in
+    bad_isn't_read (sizes_of stands.fold) (folder (Log stands.number)) at stands.batches
+    (subst (λ (x : Folded). IsBadLogFile (sizes_of x) (folder (Log stands.number)) at) fold (subst (λ (k : ℕ). IsBadLogFile (sizes_of refused.fold) (folder (Log k)) at) same refused.bad)) stands.held
+refused_stands folder DiskFault disk memory refused m stands = disk refl
+refused_stands folder NoMemory disk memory refused m stands = memory refl
+
+-- ---- folders that are opened
+
+abbrev with_state : List FamilyHead → List Version → Seq → State
+with_state heads versions last = record { heads = heads; versions = versions; last = last; halted = None }
+
+-- a folder that was opened stands for what is told of it
+pub opened_stands : {D F : Type 0} (d : disk.Ghosts D F) (f : file.Ghosts F) (old : D) (parts : Parts D F f) → IsOpened d f old parts → FolderStands (d.stands old) (record { heads = parts.heads.items; versions = parts.versions.items; last = parts.last; halted = None })
+opened_stands d f old parts opened =
+    let m : State = state_of opened.fold opened.batches in
+    record {
+      fold = opened.fold;
+      means = opened.means;
+      number = opened.number;
+      live = opened.live;
+      batches = opened.batches;
+      held = opened.held;
+      state_is = ap (λ (heads : List FamilyHead). with_state heads parts.versions.items parts.last) opened.heads ∙ ap (λ (versions : List Version). with_state m.heads versions parts.last) opened.versions ∙ ap (with_state m.heads m.versions) opened.last;
+    }

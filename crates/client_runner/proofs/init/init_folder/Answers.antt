@@ -1,0 +1,28 @@
+use Rattle.std.proofs.Common.{inr}
+use Rattle.udt_disk.specs.declared.traits.Failed.{Failed}
+use Rattle.client_runner.proofs.HostLemmas.{given_back, made_at, unmade_at}
+use Rattle.client_runner.proofs.init.init_folder.Goals as goal
+
+pub returns-in-Ok-made-clause-made : goal.returns-in-Ok-made-clause-made
+returns-in-Ok-made-clause-made g c =
+    let d = g.H.Folder.Disk in
+    let h = g.H.Host in
+    let path = c.args.path.now in
+    let last = c.make_store-made.new.disk in
+    let new = h.folder_at c.close_folder.new.self path in
+    let leaves = h.leaves_at c.close_folder.new.self path in
+    let given = given_back d Failed (h.folder_at c.args.host.now) (h.folder_at c.open_folder.new.self) new leaves path _ (h.has_place c.open_folder.new.self path) c.in-Ok.opened c.in-Some.disk last c.in-Some.is
+    c.in-Ok.ensures.opens c.in-Ok.ensures.clean c.in-Ok.ensures.place c.make_store-made.ensures.told c.close_folder.ensures.stands c.close_folder.ensures.crash in
+    made_at d new leaves c.in-Some.disk last c.args.head.now.families (h.folder_at c.args.host.now path) given c.in-Ok-made.ensures.made c.in-Ok-made.ensures.none c.in-Ok-made.ensures.durable
+
+pub returns-in-Err-clause-unmade : goal.returns-in-Err-clause-unmade
+returns-in-Err-clause-unmade g c =
+    let d = g.H.Folder.Disk in
+    let h = g.H.Host in
+    let path = c.args.path.now in
+    let last = c.make_store-made.new.disk in
+    let new = h.folder_at c.close_folder.new.self path in
+    let leaves = h.leaves_at c.close_folder.new.self path in
+    let given = given_back d Failed (h.folder_at c.args.host.now) (h.folder_at c.open_folder.new.self) new leaves path _ (h.has_place c.open_folder.new.self path) c.in-Ok.opened c.in-Some.disk last c.in-Some.is
+    c.in-Ok.ensures.opens c.in-Ok.ensures.clean c.in-Ok.ensures.place c.make_store-made.ensures.told c.close_folder.ensures.stands c.close_folder.ensures.crash in
+    inr (unmade_at d new leaves c.in-Some.disk last c.args.head.now.families g.H.Folder.File.DiskFile (h.folder_at c.args.host.now path) given c.in-Err.ensures.stopped c.make_store-made.ensures.stopped_crash c.make_store-made.ensures.kept)

@@ -1,0 +1,24 @@
+use Rattle.std.proofs.Common.{◌≡◌, ℕ, List, true, map, ap, sym, ◌∙◌, subst}
+use Rattle.std.specs.Prelude.{All}
+use Rattle.manifest.specs.declared.fold.FamilyFold.{FamilyFold}
+use Rattle.wal.specs.Replays.{IsReplayFault}
+use Rattle.wal.specs.Sequences.{IsNumberedWithin}
+use Rattle.wal.proofs.Bodies.{holds_within}
+use Rattle.client_runner.specs.Stores.{sizes_of}
+use Rattle.client_runner.proofs.recovery.replay_log.Goals as goal
+
+pub returns-in-Err-clause-refused : goal.returns-in-Err-clause-refused
+returns-in-Err-clause-refused g c told =
+    let sizes : c.in-Ok.sizes ≡ sizes_of c.args.fold.now = c.in-Ok.ensures ∙ ap (map (λ (f : FamilyFold). 8)) c.as_slice.ensures in
+    let bytes : List ℕ = g.F.DiskFile.seen c.args.file in
+    c.log_fault.ensures.refused (sizes_of c.args.fold.now) bytes (subst (λ (s : List ℕ). IsReplayFault s c.args.number bytes c.in-Err.fault) sizes (c.in-Err.ensures.refused told))
+
+pub returns-in-Err-clause-cause : goal.returns-in-Err-clause-cause
+returns-in-Err-clause-cause g c = c.log_fault.ensures.cause _ _ c.in-Err.ensures.cause
+
+pub returns-then-not-are_within-clause-refused : goal.returns-then-not-are_within-clause-refused
+returns-then-not-are_within-clause-refused g c told =
+    let read = c.in-Ok-replay.ensures.read told in
+    let all : All IsNumberedWithin c.deref.result.now = subst (All IsNumberedWithin) (sym c.deref.ensures.value) (holds_within c.in-Ok.sizes read.bodies c.in-Ok-replay.read.1.items read.held) in
+    let within : c.are_within.result ≡ true = c.are_within.ensures.1 all in
+    absurd (cc)

@@ -1,0 +1,111 @@
+-- What a command finds under the path of a folder, and what it leaves there.
+use Rattle.std.specs.Prelude.{◌≡◌, Bool, true, false, if◌then◌else◌, List, ⊤, Some, None}
+use Rattle.std.specs.List.{list_any}
+use Rattle.udt_disk.specs.Crash.{Image}
+use Rattle.udt_disk.specs.Joint.{Folder}
+use Rattle.udt_disk.specs.OpensFolder.{Holding}
+use Rattle.udt_disk.specs.declared.name.FileName.{FileName}
+use Rattle.udt_model.specs.declared.line.Line.{Line}
+use Rattle.udt_model.specs.declared.line.FamilyHead.{FamilyHead}
+use Rattle.udt_model.specs.declared.reply.Reply.{Reply}
+use Rattle.udt_model.specs.declared.reply.Reply.TheVariants.{Fault, Halted}
+use Rattle.udt_model.specs.State.{State}
+use Rattle.udt_model.specs.Histories.{Point, start}
+use Rattle.udt_model.specs.Crashes.{IsOutcome, course_start, course_behind}
+use Rattle.manifest.specs.Folders.{Means}
+use Rattle.manifest.specs.Folders.Meaning.{no_store}
+use Rattle.client_runner.specs.Stores.{FolderStands}
+use Rattle.client_runner.specs.MakingStores.{new_state, IsNoneOrNew}
+use Rattle.client_runner.specs.declared.status.Status.{Status}
+use Rattle.client_runner.specs.declared.status.Status.TheVariants as statuses
+
+-- what a crash may leave under the names of a folder
+abbrev pub Leaves : Type 1
+Leaves = FileName → Image → Type 0
+
+-- a crash may leave this folder
+abbrev pub MayBeLeft : Leaves → Folder → Type 0
+MayBeLeft leaves folder = (n : FileName) → leaves n (folder n)
+
+-- where it is told what folder stands there, it has P
+abbrev pub TellsFolder : Holding → (Folder → Type 0) → Type 0
+TellsFolder None P = ⊤
+TellsFolder (Some None) P = ⊥
+TellsFolder (Some (Some folder)) P = P folder
+
+-- where it is told, no folder stands there, or one that has P
+abbrev pub TellsNoneOr : Holding → (Folder → Type 0) → Type 0
+TellsNoneOr None P = ⊤
+TellsNoneOr (Some None) P = ⊤
+TellsNoneOr (Some (Some folder)) P = P folder
+
+-- ---- what stays
+
+-- the folder stands there as it was, and a crash leaves nothing else
+pub record IsAsItWas (folder : Folder) (new : Holding) (leaves : Leaves) : Type 0 where
+  pub stands : Folder
+  pub new_is : new ≡ Some (Some stands)
+  pub same : (n : FileName) → stands n ≡ folder n
+  pub crash : (n : FileName) (c : Image) → leaves n c → c ≡ folder n
+
+-- where it is told what stands there, it is as it was
+abbrev pub StaysAsItWas : Holding → Holding → Leaves → Type 0
+StaysAsItWas None new leaves = ⊤
+StaysAsItWas (Some None) new leaves = new ≡ Some None
+StaysAsItWas (Some (Some folder)) new leaves = IsAsItWas folder new leaves
+
+-- ---- what a run leaves
+
+-- the reply tells that the disk failed, now or before
+abbrev pub tells_fault : Reply → Bool
+tells_fault Fault = true
+tells_fault (Halted n) = true
+tells_fault reply = false
+
+-- the status of a run with these lines
+abbrev pub status_of_lines : List Line → Status
+status_of_lines lines = if list_any (λ l. tells_fault l.reply) lines then statuses.DiskFault else statuses.Done
+
+-- The folder keeps the lines that lead from the state m to this end: each folder that a crash may leave stands for an
+-- outcome of theirs, and where no line tells a fault the folder stands for all of them.
+pub record IsLeft (m : State) (lines : List Line) (end : Point) (stands : Folder) (leaves : Leaves) : Type 0 where
+  pub crash : (folder : Folder) → MayBeLeft leaves folder → (left : State) × FolderStands folder left × IsOutcome end.state (course_behind (start m) (course_start m) lines) left
+  pub whole : status_of_lines lines ≡ statuses.Done → FolderStands stands end.state
+
+-- the same of the folder under a path, which stood for m
+pub record IsContinued (m : State) (lines : List Line) (end : Point) (folder : Folder) (new : Holding) (leaves : Leaves) : Type 0 where
+  pub opened : FolderStands folder m
+  pub stands : Folder
+  pub new_is : new ≡ Some (Some stands)
+  pub left : IsLeft m lines end stands leaves
+
+-- where it is told what stands there
+abbrev pub ContinuesFrom : Holding → Holding → Leaves → State → List Line → Point → Type 0
+ContinuesFrom None new leaves m lines end = ⊤
+ContinuesFrom (Some None) new leaves m lines end = ⊥
+ContinuesFrom (Some (Some folder)) new leaves m lines end = IsContinued m lines end folder new leaves
+
+-- ---- what making a store leaves
+
+-- the folder has P, and so does each that a crash may leave
+pub record IsMadeSo (P : Folder → Type 0) (new : Holding) (leaves : Leaves) : Type 0 where
+  pub stands : Folder
+  pub new_is : new ≡ Some (Some stands)
+  pub has : P stands
+  pub crash : (folder : Folder) → MayBeLeft leaves folder → P folder
+
+-- there was no store, and the folder is one of these families in which nothing was written
+abbrev pub IsMadeAt : Holding → Holding → Leaves → List FamilyHead → Type 0
+IsMadeAt None new leaves families = ⊤
+IsMadeAt (Some None) new leaves families = IsMadeSo (λ folder. FolderStands folder (new_state families)) new leaves
+IsMadeAt (Some (Some before)) new leaves families = Means before no_store × IsMadeSo (λ folder. FolderStands folder (new_state families)) new leaves
+
+-- it wasn't made, or not told: where there was no store there is none, or all of it; else the folder is as it was
+pub record IsUnmadeIn (families : List FamilyHead) (before : Folder) (new : Holding) (leaves : Leaves) : Type 0 where
+  pub none : Means before no_store → IsMadeSo (IsNoneOrNew families) new leaves
+  pub some : ¬ Means before no_store → IsAsItWas before new leaves
+
+abbrev pub IsUnmadeAt : Holding → Holding → Leaves → List FamilyHead → Type 0
+IsUnmadeAt None new leaves families = ⊤
+IsUnmadeAt (Some None) new leaves families = IsMadeSo (IsNoneOrNew families) new leaves
+IsUnmadeAt (Some (Some before)) new leaves families = IsUnmadeIn families before new leaves

@@ -1,0 +1,58 @@
+-- A store with its log, and what its steps leave.
+use Rattle.std.specs.Prelude.{◌≡◌, ◌⊎◌, ℕ, ◌+◌, ◌≤◌, Bool, true, false, length, None}
+use Rattle.udt_disk.specs.Causes.{Rose}
+use Rattle.udt_disk.specs.declared.file.DiskFile.{Ghosts}
+use Rattle.udt_model.specs.declared.event.Event.{Event}
+use Rattle.udt_model.specs.declared.reply.Reply.{Reply}
+use Rattle.udt_model.specs.State.{State}
+use Rattle.udt_model.specs.Crashes.{Course, course_after}
+use Rattle.udt_model.specs.Steps.{IsReply, says_fault, after}
+use Rattle.gate_log.specs.Outcomes.{IsSameFile}
+use Rattle.gate_log.specs.Tearing.{Leaves}
+use Rattle.wal.specs.declared.wal.Wal.{Wal}
+use Rattle.wal.specs.Wals.{file_of, sizes_of}
+use Rattle.manifest.specs.declared.fold.Folded.{Folded}
+use Rattle.client_lang.specs.Print.{IsBuiltReply}
+use Rattle.client_runner.specs.declared.solo.logged.LoggedStore.{LoggedStore}
+use Rattle.client_runner.specs.Keeping.{Keeps, ReadsAsOutcome}
+use Rattle.client_runner.specs.Logging.{HasRoom}
+use Rattle.client_runner.specs.Stores as stores
+
+-- a disk fault comes only where the count of the file rose; else it stays
+abbrev pub IsStepCause : ℕ → ℕ → Bool → Type 0
+IsStepCause before now true = Rose before now
+IsStepCause before now false = now ≡ before
+
+module _ {F : Type 0} {g : Ghosts F} where
+  -- the log
+  abbrev pub wal_of : LoggedStore F g → Wal F g
+  wal_of s = s.wal
+
+  -- the state, which says whether the disk failed
+  abbrev pub state_of : LoggedStore F g → State
+  state_of s = record s.plain { halted = s.halted }
+
+module _ {F : Type 0} (g : Ghosts F) where
+  -- Until the disk failed the next write may be logged. The log has the sizes of the store's families.
+  pub record IsInStep (wal : Wal F g) (m : State) : Type 0 where
+    pub ready : m.halted ≡ None → HasRoom g wal (m.last.0 + 1)
+    pub sizes : length (sizes_of wal) ≡ length m.heads
+
+  -- Where the old log kept the history, the new one keeps it with this event; and at each moment between them a crash left an
+  -- outcome of the one or of the other. The families of the fold have the log's sizes.
+  pub record KeepsOn (old new : Wal F g) (m n : State) (event : Event) (reply : Reply) : Type 0 where
+    pub keeps : (fold : Folded) (c : Course) → fold.last.0 ≡ 0 → stores.sizes_of fold ≡ sizes_of old → Keeps g fold old m c → Keeps g fold new n (course_after m c event reply)
+    pub moments : (fold : Folded) (c : Course) → fold.last.0 ≡ 0 → stores.sizes_of fold ≡ sizes_of old → Keeps g fold old m c
+        → Leaves g (file_of old) (file_of new) (λ image. ReadsAsOutcome fold m c image ⊎ ReadsAsOutcome fold n (course_after m c event reply) image)
+
+  -- what the event of this number leaves of the log and the state with this reply, and that the reply is legal
+  pub record IsStep (old new : Wal F g) (m n : State) (number : ℕ) (event : Event) (reply : Reply) : Type 0 where
+    pub legal : IsReply m event reply
+    pub after_is : n ≡ after m number event reply
+    pub built : IsBuiltReply reply
+    pub in_step : IsInStep new n
+    pub cause : IsStepCause (g.faults (file_of old)) (g.faults (file_of new)) (says_fault reply)
+    pub later : g.faults (file_of old) ≤ g.faults (file_of new)
+    pub same : IsSameFile g (file_of old) (file_of new)
+    pub sizes : sizes_of new ≡ sizes_of old
+    pub keeps_on : KeepsOn old new m n event reply

@@ -1,0 +1,47 @@
+-- What adding a batch to a log leaves, where it may be synced too.
+use Rattle.std.specs.Prelude.{◌≡◌, ◌⊎◌, ℕ, ◌<◌, ◌≤◌, Bool, true, false, List, [], ◌∷◌, ◌++◌, ◌+◌, drop, map, ⊤, Result, Ok, Err}
+use Rattle.udt_disk.specs.Causes.{Rose}
+use Rattle.udt_disk.specs.declared.file.DiskFile.{Ghosts}
+use Rattle.gate_log.specs.Outcomes.{IsSameFile}
+use Rattle.gate_log.specs.Tearing.{Leaves}
+use Rattle.gate_log.specs.declared.fault.LogFault.{LogFault}
+use Rattle.gate_log.specs.declared.fault.LogFault.TheVariants.{DiskFault, NoMemory}
+use Rattle.udt_model.specs.State.{State}
+use Rattle.wal.specs.declared.numbered.Numbered.{Numbered}
+use Rattle.wal.specs.declared.wal.Wal.{Wal}
+use Rattle.wal.specs.Replays.{IsBeforeOrAfter}
+use Rattle.wal.specs.Sequences.{sequence_after}
+use Rattle.wal.specs.Wals.{Holds, MayGoOn, file_of, pending_of, sizes_of}
+use Rattle.client_runner.specs.Adding.{op_of}
+
+-- the batch of the versions of a store behind the first ones, with the sequences behind the last one
+abbrev pub batch_behind : State → ℕ → Numbered
+batch_behind m count = record { first = record { 0 = m.last.0 + 1 }; batch = map op_of (drop count m.versions) }
+
+module _ {F : Type 0} (g : Ghosts F) where
+  -- a batch that begins with this sequence may be added
+  pub record HasRoom (wal : Wal F g) (first : ℕ) : Type 0 where
+    pub next : MayGoOn g wal first
+    pub room : pending_of wal < 1048576
+
+  -- what the log holds: the batch waits or is on the disk, where a sync was asked on the disk; without memory what it held
+  abbrev pub HoldsLogged : Wal F g → List Numbered → List Numbered → Numbered → Bool → Result (Unit {0}) LogFault → Type 0
+  HoldsLogged wal batches waiting n true (Ok done) = Holds g wal (batches ++ (waiting ++ n ∷ [])) []
+  HoldsLogged wal batches waiting n false (Ok done) = Holds g wal batches (waiting ++ n ∷ []) ⊎ Holds g wal (batches ++ (waiting ++ n ∷ [])) []
+  HoldsLogged wal batches waiting n sync (Err DiskFault) = ⊤
+  HoldsLogged wal batches waiting n sync (Err NoMemory) = Holds g wal batches waiting
+
+  -- the next batch may go on behind this one; without memory in its place, and the file is as it was
+  abbrev pub GoesOnLogged : Wal F g → Wal F g → Numbered → Result (Unit {0}) LogFault → Type 0
+  GoesOnLogged old new n (Ok done) = HasRoom new (sequence_after n) × (g.faults (file_of new) ≡ g.faults (file_of old))
+  GoesOnLogged old new n (Err DiskFault) = Rose (g.faults (file_of old)) (g.faults (file_of new))
+  GoesOnLogged old new n (Err NoMemory) = HasRoom new n.first.0 × (file_of new ≡ file_of old)
+
+  -- the batch was added, and perhaps synced; at each moment a crash leaves the batches from before or all
+  pub record IsLogged (old new : Wal F g) (n : Numbered) (sync : Bool) (result : Result (Unit {0}) LogFault) : Type 0 where
+    pub goes_on : GoesOnLogged old new n result
+    pub holds : (batches waiting : List Numbered) → Holds g old batches waiting → HoldsLogged new batches waiting n sync result
+    pub moments : (batches waiting : List Numbered) → Holds g old batches waiting → Leaves g (file_of old) (file_of new) (IsBeforeOrAfter (sizes_of old) batches (waiting ++ n ∷ []))
+    pub later : g.faults (file_of old) ≤ g.faults (file_of new)
+    pub same : IsSameFile g (file_of old) (file_of new)
+    pub sizes : sizes_of new ≡ sizes_of old
