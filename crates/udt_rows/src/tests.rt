@@ -1,0 +1,10 @@
+//! Command lines over hosts with folders, each with its whole output and its status.
+
+mod bad_folders;
+mod commits;
+mod every_call;
+mod inits;
+mod real;
+mod sessions;
+mod stage;
+mod words;
