@@ -1,6 +1,6 @@
 -- What a command meant, from what its parts answered.
-use Rattle.std.proofs.Common.{◌≡◌, ℕ, false, List, [], ◌++◌, Option, refl, sym, ap, subst, ◌∙◌, inl, inr}
-use Rattle.std.specs.Prelude.{None}
+use Rattle.std.proofs.Common.{◌≡◌, ◌⊎◌, ℕ, false, List, [], ◌++◌, Option, refl, sym, ap, subst, ◌∙◌, inl, inr}
+use Rattle.std.specs.Prelude.{Some, None}
 use Rattle.std.specs.List.{list_any}
 use Rattle.udt_disk.specs.Causes.{Rose}
 use Rattle.udt_disk.specs.Opens.{Standing}
@@ -23,7 +23,15 @@ use Rattle.client_runner.specs.declared.output.Ready.{Ready}
 use Rattle.client_runner.specs.declared.status.Status.{Status}
 use Rattle.client_runner.specs.declared.status.Status.TheVariants as statuses
 use Rattle.client_runner.specs.declared.status.Stop.{Stop}
-use Rattle.client_runner.specs.declared.status.Stop.TheVariants.{NoMemory}
+use Rattle.client_runner.specs.declared.status.Stop.TheVariants.{BadWords, NoFile, TooLong, TooMany, BadLine, SourceFault, StoreExists, NoStore, BadManifest, BadLog, DiskFault, NoMemory}
+use Rattle.client_runner.specs.Ends.{Spells}
+use Rattle.client_runner.specs.Left.{IsUnmadeAt, StaysAsItWas, TellsFolder}
+use Rattle.client_lang.specs.declared.command.Command.{Command}
+use Rattle.manifest.specs.declared.fold.Folded.{Folded}
+use Rattle.manifest.specs.Folders.{Means}
+use Rattle.manifest.specs.Folders.Meaning.{no_store, bad_at, store}
+use Rattle.udt_disk.specs.Joint.{Folder}
+use Rattle.client_runner.proofs.TopLemmas.{not_bad, not_store}
 use Rattle.client_runner.proofs.FaultLemmas.{none_told}
 use Rattle.client_runner.proofs.OutputLemmas.{Appends-nil}
 
@@ -40,22 +48,53 @@ gave_up Work was failed w = record { meant = statuses.NoMemory; text = []; work 
 pub init_gave_up : (old : Holding) (leaves : Leaves) (before now : ℕ) (families : List FamilyHead) → IsInitWork old old leaves before now families statuses.NoMemory []
 init_gave_up old leaves before now families = inr (record { stop = NoMemory; cause = tt; status_is = refl; text_is = refl; left = inl refl })
 
-pub init_said : (old new : Holding) (leaves : Leaves) (before now : ℕ) (families : List FamilyHead) (stop : Stop) → IsInitStop old before now stop → IsInitLeft old new leaves families
+-- a folder that is refused was no folder without a store
+refused_unmade : (P : Folder → Type 0) (old new : Holding) (leaves : Leaves) (Q : Folder → Type 0) → ((folder : Folder) → Q folder → ¬ Means folder no_store) → TellsFolder old Q → StaysAsItWas old new leaves → IsUnmadeAt P old new leaves
+refused_unmade P None new leaves Q none told stays = tt
+refused_unmade P (Some None) new leaves Q none told stays = absurd told
+refused_unmade P (Some (Some folder)) new leaves Q none told stays = record { none = λ means. absurd (none folder told means); some = λ other. stays }
+
+-- what is left for a stop is left where memory ran out before it was told
+wanted_init : (old new : Holding) (leaves : Leaves) (before now : ℕ) (families : List FamilyHead) (stop : Stop) → IsInitStop old before now stop → IsInitLeft old new leaves before now families stop → IsInitLeft old new leaves before now families NoMemory
+wanted_init old new leaves before now families StoreExists cause left =
+    inr (inl (refused_unmade (λ folder. Means folder no_store) old new leaves (λ folder. (fold : Folded) × Means folder (store fold)) (λ folder some none. not_store folder some.0 none some.1) cause left))
+wanted_init old new leaves before now families (BadManifest at) cause left =
+    inr (inl (refused_unmade (λ folder. Means folder no_store) old new leaves (λ folder. Means folder (bad_at at)) (λ folder bad none. not_bad folder at none bad) cause left))
+wanted_init old new leaves before now families DiskFault cause (inl same) = inl same
+wanted_init old new leaves before now families DiskFault cause (inr left) = inr (inr (cause, left))
+wanted_init old new leaves before now families NoMemory cause left = left
+wanted_init old new leaves before now families stop cause left = absurd cause
+
+pub init_said : (old new : Holding) (leaves : Leaves) (before now : ℕ) (families : List FamilyHead) (stop : Stop) → IsInitStop old before now stop → IsInitLeft old new leaves before now families stop
     → (status : Status) (text : List ℕ) → IsMessage [] stop status text → IsInitWork old new leaves before now families status text
 init_said old new leaves before now families stop cause left status text (inl said) = inr (record { stop = stop; cause = cause; status_is = said.0; text_is = said.1; left = left })
-init_said old new leaves before now families stop cause left status text (inr want) = inr (record { stop = NoMemory; cause = tt; status_is = want.0; text_is = want.1; left = left })
+init_said old new leaves before now families stop cause left status text (inr want) =
+    inr (record { stop = NoMemory; cause = tt; status_is = want.0; text_is = want.1; left = wanted_init old new leaves before now families stop cause left })
 
 -- ---- run
 
-wanted_left : (old new : Holding) (leaves : Leaves) (stop : Stop) → IsRunLeft old new leaves stop → IsRunLeft old new leaves NoMemory
-wanted_left old new leaves stop (inl same) = inl same
-wanted_left old new leaves stop (inr (inl was)) = inr (inl was)
-wanted_left old new leaves stop (inr (inr cut)) = inr (inr (refl, cut.1))
+not_opened : {IsAsked : List Command → Type 0} {old new : Holding} {leaves : Leaves} → (new ≡ old) ⊎ StaysAsItWas old new leaves → IsRunLeft IsAsked old new leaves NoMemory
+not_opened (inl same) = inl same
+not_opened (inr was) = inr (inl was)
+
+wanted_left : (IsAsked : List Command → Type 0) (old new : Holding) (leaves : Leaves) (stop : Stop) → IsRunLeft IsAsked old new leaves stop → IsRunLeft IsAsked old new leaves NoMemory
+wanted_left IsAsked old new leaves NoStore h = inr (inl h)
+wanted_left IsAsked old new leaves (BadManifest at) h = inr (inl h)
+wanted_left IsAsked old new leaves (BadLog n at) h = inr (inl h)
+wanted_left IsAsked old new leaves NoMemory h = h
+wanted_left IsAsked old new leaves DiskFault h = not_opened h
+wanted_left IsAsked old new leaves StoreExists h = not_opened h
+wanted_left IsAsked old new leaves SourceFault h = not_opened h
+wanted_left IsAsked old new leaves BadWords h = not_opened h
+wanted_left IsAsked old new leaves NoFile h = not_opened h
+wanted_left IsAsked old new leaves TooLong h = not_opened h
+wanted_left IsAsked old new leaves (TooMany n) h = not_opened h
+wanted_left IsAsked old new leaves (BadLine n) h = not_opened h
 
 pub run_said : (standing : Standing) (old new : Holding) (leaves : Leaves) (before now : ℕ) (file : List ℕ) (stop : Stop) → IsStoppedFrom standing old new leaves before now stop
     → (status : Status) (text : List ℕ) → IsMessage file stop status text → IsRunWork standing old new leaves before now file status text
 run_said standing old new leaves before now file stop s status text (inl said) = inr (record { stop = stop; cause = s.cause; status_is = said.0; text_is = said.1; left = s.left })
-run_said standing old new leaves before now file stop s status text (inr want) = inr (record { stop = NoMemory; cause = inl tt; status_is = want.0; text_is = want.1; left = wanted_left old new leaves stop s.left })
+run_said standing old new leaves before now file stop s status text (inr want) = inr (record { stop = NoMemory; cause = inl tt; status_is = want.0; text_is = want.1; left = wanted_left (Spells standing) old new leaves stop s.left })
 
 -- the disk failed where a line tells it
 fault_rose : (before now : ℕ) (m : State) (lines : List Line) (end : Point) (status : Status) → m.halted ≡ None → Leads (start m) lines end → AreSoundUnless before now lines → status ≡ status_of_lines lines → status ≡ statuses.DiskFault → Rose before now
@@ -76,6 +115,7 @@ run_told standing old new leaves before now file r status from e =
       bytes = from.read.bytes;
       stands = from.read.stands;
       m = run.m;
+      works = run.works;
       lines = run.lines;
       end = run.end;
       transcript = record {

@@ -1,11 +1,11 @@
 -- A folder of a host while it is open, and once it is given back.
-use Rattle.std.proofs.Common.{◌≡◌, inl, inr, ⊎_elim, ℕ, ◌≤◌, Bool, true, false, List, Option, refl, sym, ap, ◌∙◌, subst, arith}
+use Rattle.std.proofs.Common.{◌≡◌, ◌≢◌, ◌⊎◌, inl, inr, ℕ, ◌≤◌, Bool, true, false, List, Option, refl, sym, ap, ◌∙◌, subst, arith}
 use Rattle.std.specs.Prelude.{IsTrue, IsSome, IfSome, OnSome, is_some, Some, None, Ok}
 use Rattle.udt_disk.specs.Causes.{Rose, plus_faults}
 use Rattle.udt_disk.specs.Crash.{Image, NoMore}
 use Rattle.udt_disk.specs.Joint.{Folder}
 use Rattle.udt_disk.specs.Opens.{Standing}
-use Rattle.udt_disk.specs.OpensFolder.{Holding, GivesFolder, OpensFolder, without_folder}
+use Rattle.udt_disk.specs.OpensFolder.{Holding, GivesFolder, IsNoFolder, OpensFolder, without_folder}
 use Rattle.udt_disk.specs.declared.name.FileName.{FileName}
 use Rattle.udt_disk.specs.declared.name.FileName.TheVariants.{Current, Made, Log}
 use Rattle.udt_disk.specs.declared.file.DiskFile as file
@@ -20,15 +20,18 @@ use Rattle.manifest.specs.Folders.Meaning.{no_store, bad_at, store}
 use Rattle.manifest.specs.Moments.{OnlyLooks}
 use Rattle.wal.specs.Replays.{ReadsAs}
 use Rattle.client_lang.specs.declared.command.Command.{Command}
-use Rattle.client_runner.specs.Ends.{IsRunLeft}
+use Rattle.client_runner.specs.Ends.{IsRunLeft, Spells}
+use Rattle.client_runner.specs.Inits.{IsInitLeft, stop_of_making}
 use Rattle.client_runner.specs.HostRuns.{IsRunAt, IsRunFrom, IsStoppedAt, IsStoppedFrom}
 use Rattle.client_runner.specs.Left.{Leaves, IsMadeSo, IsMadeAt, IsUnmadeAt, StaysAsItWas, ContinuesFrom, TellsFolder, TellsNoneOr}
-use Rattle.client_runner.specs.MakingStores.{new_state, IsNoneOrNew, IsClean, MayLeaveFolder}
+use Rattle.client_runner.specs.MakingStores.{new_state, IsMakingRefusal, IsNoneOrNew, IsClean, MayLeaveFolder, RefusesMaking}
+use Rattle.client_runner.specs.declared.making.InitFault.{InitFault}
+use Rattle.client_runner.specs.declared.making.InitFault.TheVariants as inits
 use Rattle.client_runner.specs.Openings.{IsBadLog, IsBadLogFile, RefusesOpening}
 use Rattle.client_runner.specs.Ready.{IsReadAs}
-use Rattle.client_runner.specs.Runs.{KeepsLines, IsSameFolder, IsRunReady, IsRunRefused, stop_of_opening}
+use Rattle.client_runner.specs.Runs.{KeepsLines, KeepsSome, IsSameFolder, IsRunReady, IsRunRefused, stop_of_opening}
 use Rattle.client_runner.specs.Solo.{AreSoundUnless}
-use Rattle.client_runner.specs.Stops.{IsOpenStop}
+use Rattle.client_runner.specs.Stops.{IsFileStop, IsOpenStop}
 use Rattle.client_runner.specs.Stores.{FolderStands, sizes_of}
 use Rattle.client_runner.specs.declared.output.Ready.{Ready}
 use Rattle.client_runner.specs.declared.recovery.OpenFault.{OpenFault}
@@ -36,6 +39,7 @@ use Rattle.client_runner.specs.declared.recovery.OpenFault.TheVariants as faults
 use Rattle.client_runner.specs.declared.status.Stop.{Stop}
 use Rattle.client_runner.specs.declared.status.Stop.TheVariants as stops
 use Rattle.client_runner.proofs.SoloLemmas.{rose_earlier}
+use Rattle.client_runner.proofs.States.{one_state}
 
 -- ---- folders that hold the same under each name
 
@@ -128,11 +132,13 @@ module _ {D F : Type 0} (d : disk.Ghosts D F) where
     continues (Some (Some folder)) m lines end given kept =
         let told = given.gives.0 in
         let k = kept told given.clean in
+        let opened = stands_same (d.stands first) folder m (λ n. sym (given.gives.1 n)) k.opened in
         record {
-          opened = stands_same (d.stands first) folder m (λ n. sym (given.gives.1 n)) k.opened;
+          opened = opened;
+          only = λ n stands. one_state folder n m stands opened;
           stands = d.stands last;
           new_is = given.back (subst IsTrue (sym given.told) told) refl;
-          left = record { crash = λ image may. k.left.crash image (λ n. given.crash n (image n) (may n)); whole = k.left.whole };
+          left = record { crash = λ image may. k.left.crash image (λ n. given.crash n (image n) (may n)); whole = k.left.whole; whole_crash = λ done image may. k.left.whole_crash done image (λ n. given.crash n (image n) (may n)) };
         }
 
     -- it is as it was
@@ -175,13 +181,26 @@ module _ {D F : Type 0} (d : disk.Ghosts D F) where
     open_stop old before now faults.DiskFault given refuses cause = cause refl
     open_stop old before now faults.NoMemory given refuses cause = tt
 
-    pub run_stopped : (old : Holding) (before opened now : ℕ) (stop : Stop) → IsGivenBack d old new leaves false first last → opened ≡ before → now ≡ plus_faults opened (d.faults last)
-        → IsRunRefused d first last stop → IsStoppedAt old new leaves before now stop
-    run_stopped old before opened now stop given kept is refused = record {
+    -- what is left of it, for each fault
+    left_by : (old : Holding) (commands : List Command) (fault : OpenFault) → IsGivenBack d old new leaves false first last → IsSameFolder d first last ⊎ ((fault ≡ faults.NoMemory) × KeepsSome d first last commands)
+        → IsRunLeft (λ asked. asked ≡ commands) old new leaves (stop_of_opening fault)
+    left_by old commands faults.NoStore given (inl same) = as_it_was old given same
+    left_by old commands faults.NoStore given (inr cut) = absurd (cc cut.0)
+    left_by old commands (faults.BadManifest at) given (inl same) = as_it_was old given same
+    left_by old commands (faults.BadManifest at) given (inr cut) = absurd (cc cut.0)
+    left_by old commands (faults.BadLog number at) given (inl same) = as_it_was old given same
+    left_by old commands (faults.BadLog number at) given (inr cut) = absurd (cc cut.0)
+    left_by old commands faults.DiskFault given (inl same) = inr (as_it_was old given same)
+    left_by old commands faults.DiskFault given (inr cut) = absurd (cc cut.0)
+    left_by old commands faults.NoMemory given (inl same) = inr (inl (as_it_was old given same))
+    left_by old commands faults.NoMemory given (inr cut) =
+        inr (inr (record { commands = commands; asked = refl; m = cut.1.m; lines = cut.1.lines; end = cut.1.end; legal = cut.1.legal; all_or_none = cut.1.all_or_none; left = continues old cut.1.m cut.1.lines cut.1.end given cut.1.kept }))
+
+    pub run_stopped : (old : Holding) (before opened now : ℕ) (commands : List Command) (stop : Stop) → IsGivenBack d old new leaves false first last → opened ≡ before → now ≡ plus_faults opened (d.faults last)
+        → IsRunRefused d first last commands stop → IsStoppedAt old new leaves before now commands stop
+    run_stopped old before opened now commands stop given kept is refused = record {
       cause = subst (IsOpenStop old before now) (sym refused.stop_is) (open_stop old before now refused.fault given refused.refuses (λ fault. rose_with before opened now (d.faults first) (d.faults last) kept is (refused.cause fault)));
-      left = ⊎_elim (λ same. inr (inl (as_it_was old given same)))
-          (λ cut. inr (inr (refused.stop_is ∙ ap stop_of_opening cut.0, record { m = cut.1.m; lines = cut.1.lines; end = cut.1.end; legal = cut.1.legal; left = continues old cut.1.m cut.1.lines cut.1.end given cut.1.kept })))
-          refused.left;
+      left = subst (IsRunLeft (λ asked. asked ≡ commands) old new leaves) (sym refused.stop_is) (left_by old commands refused.fault given refused.left);
     }
 
     -- ---- making a store
@@ -207,18 +226,19 @@ module _ {D F : Type 0} (d : disk.Ghosts D F) where
           let told = given.gives.0 in
           (means_same (d.stands first) folder no_store (λ n. sym (given.gives.1 n)) (none told), made_so IsNew (Some (Some folder)) refl told given (made told) (durable told given.clean))
 
-      pub unmade_at : (f : file.Ghosts F) (old : Holding) → IsGivenBack d old new leaves true first last → (IsTrue (d.is_told first) → Means (d.stands first) no_store → IsNoneOrNew families (d.stands last))
-          → (IsTrue (d.is_told first) → IsClean d first → Means (d.stands first) no_store → (folder : Folder) → MayLeaveFolder d last folder → IsNoneOrNew families folder)
-          → (IsTrue (d.is_told first) → ¬ Means (d.stands first) no_store → OnlyLooks d f first last) → IsUnmadeAt old new leaves families
-      unmade_at f None given stopped crash kept = tt
-      unmade_at f (Some None) given stopped crash kept =
+      -- where there was no store the folder has P, as each that a crash may leave
+      unmade_at : (P : Folder → Type 0) (f : file.Ghosts F) (old : Holding) → IsGivenBack d old new leaves true first last → (IsTrue (d.is_told first) → Means (d.stands first) no_store → P (d.stands last))
+          → (IsTrue (d.is_told first) → IsClean d first → Means (d.stands first) no_store → (folder : Folder) → MayLeaveFolder d last folder → P folder)
+          → (IsTrue (d.is_told first) → ¬ Means (d.stands first) no_store → OnlyLooks d f first last) → IsUnmadeAt P old new leaves
+      unmade_at P f None given stopped crash kept = tt
+      unmade_at P f (Some None) given stopped crash kept =
           let told = given.gives.1 in
           let none : Means (d.stands first) no_store = given.gives.3 Made in
-          made_so (IsNoneOrNew families) (Some None) refl told given (stopped told none) (crash told given.clean none)
-      unmade_at f (Some (Some folder)) given stopped crash kept =
+          made_so P (Some None) refl told given (stopped told none) (crash told given.clean none)
+      unmade_at P f (Some (Some folder)) given stopped crash kept =
           let told = given.gives.0 in
           record {
-            none = λ means. let none = means_same folder (d.stands first) no_store given.gives.1 means in made_so (IsNoneOrNew families) (Some (Some folder)) refl told given (stopped told none) (crash told given.clean none);
+            none = λ means. let none = means_same folder (d.stands first) no_store given.gives.1 means in made_so P (Some (Some folder)) refl told given (stopped told none) (crash told given.clean none);
             some = λ store.
                 let looks = kept told (λ means. store (means_same (d.stands first) folder no_store (λ n. sym (given.gives.1 n)) means)) in
                 record {
@@ -228,6 +248,35 @@ module _ {D F : Type 0} (d : disk.Ghosts D F) where
                   crash = λ n c left. given.clean n c (looks.no_more n c (given.crash n c left)) ∙ given.gives.1 n;
                 };
           }
+
+      -- a folder that is refused is as it was
+      refused_stays : (f : file.Ghosts F) (old : Holding) → IsGivenBack d old new leaves true first last → (IsTrue (d.is_told first) → d.stands first Made ≢ None) → OnlyLooks d f first last → StaysAsItWas old new leaves
+      refused_stays f None given made looks = tt
+      refused_stays f (Some None) given made looks = absurd (made given.gives.1 (given.gives.3 Made))
+      refused_stays f (Some (Some folder)) given made looks =
+          let told = given.gives.0 in
+          record {
+            stands = d.stands last;
+            new_is = given.back (subst IsTrue (sym given.told) told) refl;
+            same = λ n. looks.stands told n ∙ given.gives.1 n;
+            crash = λ n c left. given.clean n c (looks.no_more n c (given.crash n c left)) ∙ given.gives.1 n;
+          }
+
+      -- what `make_store` says where it failed
+      pub record IsMakingFailed (f : file.Ghosts F) (fault : InitFault) : Type 0 where
+        pub refused : IsTrue (d.is_told first) → RefusesMaking (d.stands first) fault
+        pub looked : IsMakingRefusal fault → OnlyLooks d f first last
+        pub stopped : IsTrue (d.is_told first) → Means (d.stands first) no_store → IsNoneOrNew families (d.stands last)
+        pub stopped_crash : IsTrue (d.is_told first) → IsClean d first → Means (d.stands first) no_store → (folder : Folder) → MayLeaveFolder d last folder → IsNoneOrNew families folder
+        pub no_memory : fault ≡ inits.NoMemory → IsTrue (d.is_told first) → Means (d.stands first) no_store → Means (d.stands last) no_store
+        pub no_memory_crash : fault ≡ inits.NoMemory → IsTrue (d.is_told first) → IsClean d first → Means (d.stands first) no_store → (folder : Folder) → MayLeaveFolder d last folder → Means folder no_store
+        pub kept : IsTrue (d.is_told first) → ¬ Means (d.stands first) no_store → OnlyLooks d f first last
+
+      pub init_left : (f : file.Ghosts F) (old : Holding) (before now : ℕ) (fault : InitFault) → IsGivenBack d old new leaves true first last → IsMakingFailed f fault → IsInitLeft old new leaves before now families (stop_of_making fault)
+      init_left f old before now inits.StoreExists given e = refused_stays f old given (λ told. (e.refused told).1.0) (e.looked tt)
+      init_left f old before now (inits.BadManifest at) given e = refused_stays f old given (λ told. (e.refused told).0) (e.looked tt)
+      init_left f old before now inits.DiskFault given e = inr (unmade_at (IsNoneOrNew families) f old given e.stopped e.stopped_crash e.kept)
+      init_left f old before now inits.NoMemory given e = inr (inl (unmade_at (λ folder. Means folder no_store) f old given (e.no_memory refl) (e.no_memory_crash refl) e.kept))
 
 -- ---- runs of the commands of a file
 
@@ -268,8 +317,40 @@ run_from standing old mid new leaves first before now commands r read same le ru
 }
 
 pub stopped_from : (standing : Standing) (old mid new : Holding) (leaves : Leaves) (first before now : ℕ) (commands : List Command) (stop : Stop) → IsReadAs standing commands → mid ≡ old → first ≤ before
-    → IsStoppedAt mid new leaves before now stop → IsStoppedFrom standing old new leaves first now stop
+    → IsStoppedAt mid new leaves before now commands stop → IsStoppedFrom standing old new leaves first now stop
 stopped_from standing old mid new leaves first before now commands stop read same le stopped = record {
   cause = inr (record { bytes = read.bytes; commands = commands; stands = read.stands; spelled = read.spelled }, stop_earlier old first before now stop le (subst (λ (h : Holding). IsOpenStop h before now stop) same stopped.cause));
-  left = subst (λ (h : Holding). IsRunLeft h new leaves stop) same stopped.left;
-}
+  left = asked_more (λ asked. asked ≡ commands) (Spells standing) (λ asked is. subst (Spells standing) (sym is) (read.bytes, read.stands, read.spelled)) old new leaves stop (subst (λ (h : Holding). IsRunLeft (λ asked. asked ≡ commands) h new leaves stop) same stopped.left);
+} where
+  asked_more : (P Q : List Command → Type 0) → ((asked : List Command) → P asked → Q asked) → (old new : Holding) (leaves : Leaves) (stop : Stop) → IsRunLeft P old new leaves stop → IsRunLeft Q old new leaves stop
+  asked_more P Q more old new leaves stops.NoStore h = h
+  asked_more P Q more old new leaves (stops.BadManifest at) h = h
+  asked_more P Q more old new leaves (stops.BadLog n at) h = h
+  asked_more P Q more old new leaves stops.NoMemory (inl h) = inl h
+  asked_more P Q more old new leaves stops.NoMemory (inr (inl h)) = inr (inl h)
+  asked_more P Q more old new leaves stops.NoMemory (inr (inr h)) =
+      inr (inr (record { commands = h.commands; asked = more h.commands h.asked; m = h.m; lines = h.lines; end = h.end; legal = h.legal; all_or_none = h.all_or_none; left = h.left }))
+  asked_more P Q more old new leaves stops.DiskFault h = h
+  asked_more P Q more old new leaves stops.StoreExists h = h
+  asked_more P Q more old new leaves stops.SourceFault h = h
+  asked_more P Q more old new leaves stops.BadWords h = h
+  asked_more P Q more old new leaves stops.NoFile h = h
+  asked_more P Q more old new leaves stops.TooLong h = h
+  asked_more P Q more old new leaves (stops.TooMany n) h = h
+  asked_more P Q more old new leaves (stops.BadLine n) h = h
+
+-- a file that isn't read leaves the folder as it was
+pub file_left : (standing : Standing) (IsAsked : List Command → Type 0) (old new : Holding) (leaves : Leaves) (before now : ℕ) (stop : Stop) → IsFileStop standing before now stop → new ≡ old → IsRunLeft IsAsked old new leaves stop
+file_left standing IsAsked old new leaves before now stops.NoFile h same = inl same
+file_left standing IsAsked old new leaves before now stops.TooLong h same = inl same
+file_left standing IsAsked old new leaves before now (stops.TooMany n) h same = inl same
+file_left standing IsAsked old new leaves before now (stops.BadLine n) h same = inl same
+file_left standing IsAsked old new leaves before now stops.SourceFault h same = inl same
+file_left standing IsAsked old new leaves before now stops.NoMemory h same = inl same
+file_left standing IsAsked old new leaves before now stop h same = absurd h
+
+-- where no folder stands there, none does behind
+pub missing_stays : (old new : Holding) (leaves : Leaves) → IsNoFolder old → new ≡ old → StaysAsItWas old new leaves
+missing_stays None new leaves none same = tt
+missing_stays (Some None) new leaves none same = same
+missing_stays (Some (Some folder)) new leaves none same = absurd (cc none)

@@ -1,6 +1,8 @@
 pub mod WordLemmas
 pub mod FlowLemmas
 pub mod Adding
+pub mod VersionListLemmas
+pub mod Transcribing
 pub mod LoggingLemmas
 pub mod VersionLemmas
 pub mod KeepingLemmas

@@ -1,5 +1,5 @@
 -- What a run over the store in a folder leaves there.
-use Rattle.std.proofs.Common.{◌≡◌, ◌≢◌, inl, inr, ⊎_elim, ℕ, ◌+◌, ◌≤◌, Bool, true, false, if◌then◌else◌, ◌||◌, List, [], ◌∷◌, ◌++◌, refl, sym, ap, ◌∙◌, subst, arith}
+use Rattle.std.proofs.Common.{◌⊎◌, ◌≡◌, ◌≢◌, inl, inr, ⊎_elim, ℕ, ◌+◌, ◌≤◌, Bool, true, false, if◌then◌else◌, ◌||◌, List, [], ◌∷◌, ◌++◌, refl, sym, ap, ◌∙◌, subst, arith}
 use Rattle.std.specs.Prelude.{Some, None, Option, IsTrue, IfOk, Result, Ok, Err}
 use Rattle.std.specs.List.{list_any}
 use Rattle.std.proofs.lemmas.List.Folds.{list_any-append}
@@ -298,6 +298,26 @@ module _ {D F : Type 0} (d : disk.Ghosts D F) (f : file.Ghosts F) where
       let same = closed_stands opened new parts log told o reads told_disk told_manifest named closed in
       stands_so o.number (d.stands opened) (d.stands new) o.fold is.0 end.state same o.means o.live held (made.state_is ∙ is.2)
 
+  -- and so does each that a crash may leave
+  whole_crash : (opened new : D) (parts : Parts D F f) (first now : LoggedStore F f) (lines : List Line) (end : Point) → IsClean d opened → (o : IsOpened d f opened parts) → OnlyReads d f opened parts.disk (files_of parts)
+      → wal_of first ≡ parts.wal → HasMade first now (state_of_parts parts) lines end → IsClosed parts.disk new (wal_file (wal_of now)) (manifest_file parts.manifest)
+      → status_of_lines lines ≡ statuses.Done → (folder : Folder) → MayBeLeft (d.may_leave new) folder → FolderStands folder end.state
+  whole_crash opened new parts first now lines end clean o reads wal made closed done folder left =
+      let log : F = wal_file (wal_of now) in
+      let c : Course = course_behind (start (state_of_parts parts)) (course_start (state_of_parts parts)) lines in
+      let named = made_name opened parts first now o wal made.same in
+      let kept = made_keeps opened parts first now lines end clean o wal made in
+      let settled = made.settled done in
+      let works : (state_of now).halted ≡ None = ap (λ (s : State). s.halted) (sym made.state_is) ∙ settled.0 in
+      let all : c.synced ≡ (state_of now).last.0 = settled.1 ∙ ap (λ (s : State). s.last.0) made.state_is in
+      let is = all_synced f o.fold (wal_of now) (state_of now) c kept.0 kept.2 works all in
+      let image : Image = folder (Log o.number) in
+      let leaves : f.may_leave log image =
+      closed.log_leaves (made_apart opened parts log o named) image (subst (λ (k : FileName). d.may_leave new k image) (sym named) (left (Log o.number))) in
+      let held : ReadsAs (sizes_of o.fold) is.0 image = subst (ReadsAs (sizes_of o.fold) is.0) (sym (is.1.durable image leaves)) (holds_reads o.fold (wal_of now) is.0 kept.1 is.1) in
+      let same = closed_leaves opened new parts log clean o reads named closed folder left in
+      stands_so o.number (d.stands opened) folder o.fold is.0 end.state same o.means o.live held (made.state_is ∙ is.2)
+
   -- ---- runs
 
   -- no line was made
@@ -328,14 +348,15 @@ module _ {D F : Type 0} (d : disk.Ghosts D F) (f : file.Ghosts F) where
   -- the lines were made, and the files given back
   has_parts : {E : Type 0} (parts : Parts D F f) (new : D) (first now : LoggedStore F f) (log manifest : F) (commands : List Command) (lines : List Line) (end : Point) (result : Result Ready E) → wal_of first ≡ parts.wal
       → f.faults (wal_file parts.wal) ≡ 0 → HasMade first now (state_of_parts parts) lines end → log ≡ wal_file (wal_of now) → manifest ≡ manifest_file parts.manifest → IsClosed parts.disk new log manifest
-      → IfOk result (λ r. IsRunHistory (state_of_parts parts) commands lines end × Waits (print_header parts.last.0 parts.heads.items) lines r) → HasRunParts d f parts new commands result
-  has_parts parts new first now log manifest commands lines end result wal fresh made log_is manifest_is closed ready =
+      → (lines ≡ []) ⊎ IsRunHistory (state_of_parts parts) commands lines end → IfOk result (λ r. IsRunHistory (state_of_parts parts) commands lines end × Waits (print_header parts.last.0 parts.heads.items) lines r) → HasRunParts d f parts new commands result
+  has_parts parts new first now log manifest commands lines end result wal fresh made log_is manifest_is closed all_or_none ready =
       let zero : faults_of f first ≡ 0 = ap (λ (w : Wal F f). f.faults (wal_file w)) wal ∙ fresh in
       let back : IsClosed parts.disk new (wal_file (wal_of now)) (manifest_file parts.manifest) = subst (IsClosed parts.disk new (wal_file (wal_of now))) manifest_is (subst (λ (x : F). IsClosed parts.disk new x manifest) log_is closed) in
       record {
         lines = lines;
         end = end;
         legal = made.legal;
+        all_or_none = all_or_none;
         ready = ready;
         sound = sound_back (d.faults parts.disk) (faults_of f first) (faults_of f now) (f.faults (manifest_file parts.manifest)) (d.faults new) lines back.faults zero made.sound;
         later = closed.later;
@@ -344,6 +365,7 @@ module _ {D F : Type 0} (d : disk.Ghosts D F) (f : file.Ghosts F) where
           left = record {
             crash = crash_left opened new parts first now lines end clean o reads wal made back;
             whole = whole_left opened new parts first now lines end told clean o reads told_disk told_wal told_manifest wal made back;
+            whole_crash = whole_crash opened new parts first now lines end clean o reads wal made back;
           };
         };
       }
@@ -356,7 +378,7 @@ module _ {D F : Type 0} (d : disk.Ghosts D F) (f : file.Ghosts F) where
       let s = over.session in
       let m : State = state_of_parts parts in
       let h : IsRunHistory m commands over.lines s.run.end = subst (λ (x : State). IsRunHistory x commands over.lines s.run.end) is s.run.history in
-      has_parts parts new first now log manifest commands over.lines s.run.end result wal fresh (made_session first now m commands over.lines s is h) log_is manifest_is closed
+      has_parts parts new first now log manifest commands over.lines s.run.end result wal fresh (made_session first now m commands over.lines s is h) log_is manifest_is closed (inr h)
       (waits_with result (IsRunHistory m commands over.lines s.run.end) over.lines header (print_header parts.last.0 parts.heads.items) h header_is over.ready)
 
   -- where there was none, no line was made
@@ -365,7 +387,7 @@ module _ {D F : Type 0} (d : disk.Ghosts D F) (f : file.Ghosts F) where
       → HasRunParts d f parts new commands (Err e)
   parts_unmade parts new first log manifest commands e wal is fresh log_is manifest_is closed =
       let m : State = state_of_parts parts in
-      has_parts parts new first first log manifest commands [] (start m) (Err e) wal fresh (made_nothing first m is refl) log_is manifest_is closed tt
+      has_parts parts new first first log manifest commands [] (start m) (Err e) wal fresh (made_nothing first m is refl) log_is manifest_is closed (inl refl) tt
 
   -- ---- opening
 
@@ -394,11 +416,11 @@ module _ {D F : Type 0} (d : disk.Ghosts D F) (f : file.Ghosts F) where
     kept = keeps_from old new parts commands (Ok r) from run;
   }
 
-  pub run_refused : {E : Type 0} (old new : D) (parts : Parts D F f) (commands : List Command) (e : E) → IsOpenedFrom old parts → HasRunParts d f parts new commands (Err e) → IsRunRefused d old new NoMemory
+  pub run_refused : {E : Type 0} (old new : D) (parts : Parts D F f) (commands : List Command) (e : E) → IsOpenedFrom old parts → HasRunParts d f parts new commands (Err e) → IsRunRefused d old new commands NoMemory
   run_refused old new parts commands e from run = record {
     fault = opens.NoMemory;
     stop_is = refl;
     refuses = λ told. tt;
     cause = λ is. cc is;
-    left = inr (refl, record { m = state_of_parts parts; lines = run.lines; end = run.end; legal = run.legal; kept = keeps_from old new parts commands (Err e) from run });
+    left = inr (refl, record { m = state_of_parts parts; lines = run.lines; end = run.end; legal = run.legal; all_or_none = run.all_or_none; kept = keeps_from old new parts commands (Err e) from run });
   }

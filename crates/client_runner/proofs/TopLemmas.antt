@@ -183,10 +183,10 @@ not_read standing told bytes commands t stands spelled =
 
 -- ---- folders
 
-not_store : (folder : Folder) (fold : Folded) → Means folder no_store → Means folder (store fold) → ⊥
+pub not_store : (folder : Folder) (fold : Folded) → Means folder no_store → Means folder (store fold) → ⊥
 not_store folder fold none some = cc (means_once folder no_store (store fold) none some)
 
-not_bad : (folder : Folder) (at : ℕ) → Means folder no_store → Means folder (bad_at at) → ⊥
+pub not_bad : (folder : Folder) (at : ℕ) → Means folder no_store → Means folder (bad_at at) → ⊥
 not_bad folder at none bad = cc (means_once folder no_store (bad_at at) none bad)
 
 store_not_bad : (folder : Folder) (fold : Folded) (at : ℕ) → Means folder (store fold) → Means folder (bad_at at) → ⊥

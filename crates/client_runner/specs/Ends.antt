@@ -24,6 +24,7 @@ use Rattle.manifest.specs.Folders.Meaning.{no_store, bad_at, store}
 use Rattle.manifest.specs.declared.fold.Folded.{Folded}
 use Rattle.client_runner.specs.Openings.{IsBadLog}
 use Rattle.client_runner.specs.Stores.{FolderStands}
+use Rattle.client_runner.specs.Expand.{IsRunHistory}
 use Rattle.client_runner.specs.Inits.{IsInitLeft}
 use Rattle.client_runner.specs.Left.{Leaves, ContinuesFrom, IsMadeAt, StaysAsItWas, status_of_lines}
 use Rattle.client_runner.specs.Stops.{IsFileStop, IsInitStop, IsOpenStop, message, status_of}
@@ -71,7 +72,7 @@ pub record IsInitStopped (old new : Holding) (leaves : Leaves) (before now : ℕ
   pub cause : IsInitStop old before now stop
   pub status_is : status ≡ status_of stop
   pub text_is : text ≡ message [] stop
-  pub left : IsInitLeft old new leaves families
+  pub left : IsInitLeft old new leaves before now families stop
 
 abbrev pub IsInitWork : Holding → Holding → Leaves → ℕ → ℕ → List FamilyHead → Status → List ℕ → Type 0
 IsInitWork old new leaves before now families status text = IsMadeWork old new leaves families status text ⊎ IsInitStopped old new leaves before now families status text
@@ -84,6 +85,7 @@ pub record IsRunDone (standing : Standing) (old new : Holding) (leaves : Leaves)
   pub bytes : List ℕ
   pub stands : Stands standing (Some bytes)
   pub m : State
+  pub works : m.halted ≡ None
   pub lines : List Line
   pub end : Point
   pub transcript : IsRunTranscript bytes text m lines end
@@ -102,17 +104,30 @@ pub record IsRead (standing : Standing) : Type 0 where
 abbrev pub IsRunStop : Standing → Holding → ℕ → ℕ → Stop → Type 0
 IsRunStop standing old before now stop = IsFileStop standing before now stop ⊎ (IsRead standing × IsOpenStop old before now stop)
 
--- the folder keeps some lines that lead on from the state that it stood for
-pub record IsCutShort (old new : Holding) (leaves : Leaves) : Type 0 where
+-- a file that stands there spells these commands
+abbrev pub Spells : Standing → List Command → Type 0
+Spells standing commands = (bytes : List ℕ) × Stands standing (Some bytes) × IsFile bytes commands
+
+-- Memory ran out behind the opening: the commands that were asked for, and the runner's sync, were made, or nothing was, and
+-- the folder keeps that.
+pub record IsCutShort (IsAsked : List Command → Type 0) (old new : Holding) (leaves : Leaves) : Type 0 where
+  pub commands : List Command
+  pub asked : IsAsked commands
   pub m : State
   pub lines : List Line
   pub end : Point
   pub legal : Leads (start m) lines end
+  pub all_or_none : (lines ≡ []) ⊎ IsRunHistory m commands lines end
   pub left : ContinuesFrom old new leaves m lines end
 
--- the folder is as it was; where memory ran out it may go on
-abbrev pub IsRunLeft : Holding → Holding → Leaves → Stop → Type 0
-IsRunLeft old new leaves stop = (new ≡ old) ⊎ (StaysAsItWas old new leaves ⊎ ((stop ≡ NoMemory) × IsCutShort old new leaves))
+-- What is left of the folder, for this stop. One that is refused is as it was. Else it wasn't opened, or is as it was; where memory
+-- ran out it may go on.
+abbrev pub IsRunLeft : (List Command → Type 0) → Holding → Holding → Leaves → Stop → Type 0
+IsRunLeft IsAsked old new leaves NoStore = StaysAsItWas old new leaves
+IsRunLeft IsAsked old new leaves (BadManifest at) = StaysAsItWas old new leaves
+IsRunLeft IsAsked old new leaves (BadLog n at) = StaysAsItWas old new leaves
+IsRunLeft IsAsked old new leaves NoMemory = (new ≡ old) ⊎ (StaysAsItWas old new leaves ⊎ IsCutShort IsAsked old new leaves)
+IsRunLeft IsAsked old new leaves stop = (new ≡ old) ⊎ StaysAsItWas old new leaves
 
 -- the text is the message of a stop
 pub record IsRunStopped (standing : Standing) (old new : Holding) (leaves : Leaves) (before now : ℕ) (file : List ℕ) (status : Status) (text : List ℕ) : Type 0 where
@@ -120,7 +135,7 @@ pub record IsRunStopped (standing : Standing) (old new : Holding) (leaves : Leav
   pub cause : IsRunStop standing old before now stop
   pub status_is : status ≡ status_of stop
   pub text_is : text ≡ message file stop
-  pub left : IsRunLeft old new leaves stop
+  pub left : IsRunLeft (Spells standing) old new leaves stop
 
 abbrev pub IsRunWork : Standing → Holding → Holding → Leaves → ℕ → ℕ → List ℕ → Status → List ℕ → Type 0
 IsRunWork standing old new leaves before now file status text =

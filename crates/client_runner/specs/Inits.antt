@@ -1,8 +1,12 @@
 -- What `init` answers and leaves.
-use Rattle.std.specs.Prelude.{◌≡◌, ◌⊎◌, List}
+use Rattle.std.specs.Prelude.{◌≡◌, ◌⊎◌, ℕ, List}
+use Rattle.udt_disk.specs.Causes.{Rose}
+use Rattle.manifest.specs.Folders.{Means}
+use Rattle.manifest.specs.Folders.Meaning.{no_store}
+use Rattle.client_runner.specs.MakingStores.{IsNoneOrNew}
 use Rattle.udt_disk.specs.OpensFolder.{Holding}
 use Rattle.udt_model.specs.declared.line.FamilyHead.{FamilyHead}
-use Rattle.client_runner.specs.Left.{Leaves, IsUnmadeAt}
+use Rattle.client_runner.specs.Left.{Leaves, IsUnmadeAt, StaysAsItWas}
 use Rattle.client_runner.specs.declared.making.InitFault.{InitFault}
 use Rattle.client_runner.specs.declared.making.InitFault.TheVariants as faults
 use Rattle.client_runner.specs.declared.status.Stop.{Stop}
@@ -15,6 +19,11 @@ stop_of_making (faults.BadManifest at) = BadManifest at
 stop_of_making faults.DiskFault = DiskFault
 stop_of_making faults.NoMemory = NoMemory
 
--- The folder wasn't opened, or no store was made in it; where the disk failed, it may be there.
-abbrev pub IsInitLeft : Holding → Holding → Leaves → List FamilyHead → Type 0
-IsInitLeft old new leaves families = (new ≡ old) ⊎ IsUnmadeAt old new leaves families
+-- What is left where no store was made, for this stop. A folder that is refused is as it was. Else it wasn't opened, or where there
+-- was no store there is none still; where the disk failed, all of the new store may be there.
+abbrev pub IsInitLeft : Holding → Holding → Leaves → ℕ → ℕ → List FamilyHead → Stop → Type 0
+IsInitLeft old new leaves before now families StoreExists = StaysAsItWas old new leaves
+IsInitLeft old new leaves before now families (BadManifest at) = StaysAsItWas old new leaves
+IsInitLeft old new leaves before now families NoMemory =
+    (new ≡ old) ⊎ (IsUnmadeAt (λ folder. Means folder no_store) old new leaves ⊎ (Rose before now × IsUnmadeAt (IsNoneOrNew families) old new leaves))
+IsInitLeft old new leaves before now families stop = (new ≡ old) ⊎ IsUnmadeAt (IsNoneOrNew families) old new leaves

@@ -15,7 +15,7 @@ use Rattle.udt_model.specs.Crashes.{IsOutcome, course_start, course_behind}
 use Rattle.manifest.specs.Folders.{Means}
 use Rattle.manifest.specs.Folders.Meaning.{no_store}
 use Rattle.client_runner.specs.Stores.{FolderStands}
-use Rattle.client_runner.specs.MakingStores.{new_state, IsNoneOrNew}
+use Rattle.client_runner.specs.MakingStores.{new_state}
 use Rattle.client_runner.specs.declared.status.Status.{Status}
 use Rattle.client_runner.specs.declared.status.Status.TheVariants as statuses
 
@@ -67,14 +67,16 @@ abbrev pub status_of_lines : List Line → Status
 status_of_lines lines = if list_any (λ l. tells_fault l.reply) lines then statuses.DiskFault else statuses.Done
 
 -- The folder keeps the lines that lead from the state m to this end: each folder that a crash may leave stands for an
--- outcome of theirs, and where no line tells a fault the folder stands for all of them.
+-- outcome of theirs, and where no line tells a fault the folder, and each that a crash may leave, stands for all of them.
 pub record IsLeft (m : State) (lines : List Line) (end : Point) (stands : Folder) (leaves : Leaves) : Type 0 where
   pub crash : (folder : Folder) → MayBeLeft leaves folder → (left : State) × FolderStands folder left × IsOutcome end.state (course_behind (start m) (course_start m) lines) left
   pub whole : status_of_lines lines ≡ statuses.Done → FolderStands stands end.state
+  pub whole_crash : status_of_lines lines ≡ statuses.Done → (folder : Folder) → MayBeLeft leaves folder → FolderStands folder end.state
 
--- the same of the folder under a path, which stood for m
+-- the same of the folder under a path, which stood for m and nothing else
 pub record IsContinued (m : State) (lines : List Line) (end : Point) (folder : Folder) (new : Holding) (leaves : Leaves) : Type 0 where
   pub opened : FolderStands folder m
+  pub only : (n : State) → FolderStands folder n → n ≡ m
   pub stands : Folder
   pub new_is : new ≡ Some (Some stands)
   pub left : IsLeft m lines end stands leaves
@@ -100,12 +102,13 @@ IsMadeAt None new leaves families = ⊤
 IsMadeAt (Some None) new leaves families = IsMadeSo (λ folder. FolderStands folder (new_state families)) new leaves
 IsMadeAt (Some (Some before)) new leaves families = Means before no_store × IsMadeSo (λ folder. FolderStands folder (new_state families)) new leaves
 
--- it wasn't made, or not told: where there was no store there is none, or all of it; else the folder is as it was
-pub record IsUnmadeIn (families : List FamilyHead) (before : Folder) (new : Holding) (leaves : Leaves) : Type 0 where
-  pub none : Means before no_store → IsMadeSo (IsNoneOrNew families) new leaves
+-- it wasn't made: where there was no store the folder has P, as each that a crash may leave; else it is as it was
+pub record IsUnmadeIn (P : Folder → Type 0) (before : Folder) (new : Holding) (leaves : Leaves) : Type 0 where
+  pub none : Means before no_store → IsMadeSo P new leaves
   pub some : ¬ Means before no_store → IsAsItWas before new leaves
 
-abbrev pub IsUnmadeAt : Holding → Holding → Leaves → List FamilyHead → Type 0
-IsUnmadeAt None new leaves families = ⊤
-IsUnmadeAt (Some None) new leaves families = IsMadeSo (IsNoneOrNew families) new leaves
-IsUnmadeAt (Some (Some before)) new leaves families = IsUnmadeIn families before new leaves
+-- where it is told what stands there
+abbrev pub IsUnmadeAt : (Folder → Type 0) → Holding → Holding → Leaves → Type 0
+IsUnmadeAt P None new leaves = ⊤
+IsUnmadeAt P (Some None) new leaves = IsMadeSo P new leaves
+IsUnmadeAt P (Some (Some before)) new leaves = IsUnmadeIn P before new leaves

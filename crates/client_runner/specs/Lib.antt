@@ -7,6 +7,7 @@ pub mod Logging
 pub mod LoggedStores
 pub mod Expand
 pub mod Adding
+pub mod VersionLists
 pub mod Transcripts
 pub mod Flows
 pub mod Output

@@ -79,12 +79,13 @@ module _ {D F : Type 0} (d : disk.Ghosts D F) where
     pub sound : AreSoundUnless (d.faults old) (d.faults new) lines
     pub kept : IsTrue (d.is_told old) → IsClean d old → KeepsLines old new m lines end
 
-  -- it keeps some lines
-  pub record KeepsSome (old new : D) : Type 0 where
+  -- it keeps the lines of these commands and the runner's sync, or none
+  pub record KeepsSome (old new : D) (commands : List Command) : Type 0 where
     pub m : State
     pub lines : List Line
     pub end : Point
     pub legal : Leads (start m) lines end
+    pub all_or_none : (lines ≡ []) ⊎ IsRunHistory m commands lines end
     pub kept : IsTrue (d.is_told old) → IsClean d old → KeepsLines old new m lines end
 
   -- all stands as it stood, and a crash leaves no more
@@ -92,20 +93,21 @@ module _ {D F : Type 0} (d : disk.Ghosts D F) where
     pub stands : IsTrue (d.is_told old) → (n : FileName) → d.stands new n ≡ d.stands old n
     pub no_more : (n : FileName) (c : Image) → d.may_leave new n c → d.may_leave old n c
 
-  -- The folder isn't opened, for this fault, and is as it was; or memory ran out later, and it keeps some lines.
-  pub record IsRunRefused (old new : D) (stop : Stop) : Type 0 where
+  -- The folder isn't opened, for this fault, and is as it was; or memory ran out later, and it keeps what was made.
+  pub record IsRunRefused (old new : D) (commands : List Command) (stop : Stop) : Type 0 where
     pub fault : OpenFault
     pub stop_is : stop ≡ stop_of_opening fault
     pub refuses : IsTrue (d.is_told old) → RefusesOpening (d.stands old) fault
     pub cause : fault ≡ faults.DiskFault → Rose (d.faults old) (d.faults new)
-    pub left : IsSameFolder old new ⊎ ((fault ≡ faults.NoMemory) × KeepsSome old new)
+    pub left : IsSameFolder old new ⊎ ((fault ≡ faults.NoMemory) × KeepsSome old new commands)
 
 -- The commands were made over a store that was opened, and its folder was given back: it keeps their lines, if it was told and
--- clean when it was opened. The lines wait, where there was memory for that; where there was none they may be fewer.
+-- clean when it was opened. The lines wait, where there was memory for that; where there was none for the header, no line was made.
 pub record HasRunParts {D F E : Type 0} (d : disk.Ghosts D F) (f : file.Ghosts F) (parts : Parts D F f) (new : D) (commands : List Command) (result : Result Ready E) : Type 0 where
   pub lines : List Line
   pub end : Point
   pub legal : Leads (start (state_of_parts parts)) lines end
+  pub all_or_none : (lines ≡ []) ⊎ IsRunHistory (state_of_parts parts) commands lines end
   pub ready : IfOk result (λ r. IsRunHistory (state_of_parts parts) commands lines end × Waits (print_header parts.last.0 parts.heads.items) lines r)
   pub sound : AreSoundUnless (d.faults parts.disk) (d.faults new) lines
   pub later : d.faults parts.disk ≤ d.faults new

@@ -34,7 +34,7 @@ pub fn init_folder<H: Host>(
     requires { AreNew head.now.families }
     ensures made { OnOk result (IsMadeAt (H.folder_at host.old path.now) (H.folder_at host.new path.now) (H.leaves_at host.new path.now) head.now.families) }
     ensures stopped { IfErr result (IsInitStop (H.folder_at host.old path.now) (H.faults host.old) (H.faults host.new)) }
-    ensures unmade { OnErr result (IsInitLeft (H.folder_at host.old path.now) (H.folder_at host.new path.now) (H.leaves_at host.new path.now) head.now.families) }
+    ensures unmade { IfErr result (IsInitLeft (H.folder_at host.old path.now) (H.folder_at host.new path.now) (H.leaves_at host.new path.now) (H.faults host.old) (H.faults host.new) head.now.families) }
     ensures folders { KeepsFoldersBut path.now (H.folder_at host.old) (H.folder_at host.new) }
     ensures leaves { LeavesNoMoreBut path.now (H.leaves_at host.old) (H.leaves_at host.new) }
     ensures sources { StaysBut path.now (H.standing host.old) (H.standing host.new) }

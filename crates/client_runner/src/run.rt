@@ -157,7 +157,7 @@ fn run_disk<D: Disk>(
     requires empty { lines.items ≡ [] }
     requires room { length commands.items < vec_capacity lines }
     ensures ready { IfOk result.1 (IsRunReady D.Disk disk result.0 commands.items) }
-    ensures stopped { IfErr result.1 (IsRunRefused D.Disk disk result.0) }
+    ensures stopped { IfErr result.1 (IsRunRefused D.Disk disk result.0 commands.items) }
     ensures told { D.is_told result.0 ≡ D.is_told disk }
     ensures model { D.keeps_model result.0 ≡ D.keeps_model disk }
     ensures later { D.faults disk ≤ D.faults result.0 }
@@ -188,7 +188,7 @@ fn run_folder<H: Host>(
     requires empty { lines.items ≡ [] }
     requires room { length commands.items < vec_capacity lines }
     ensures ready { IfOk result (IsRunAt (H.folder_at host.old path.now) (H.folder_at host.new path.now) (H.leaves_at host.new path.now) (H.faults host.old) (H.faults host.new) commands.items) }
-    ensures stopped { IfErr result (IsStoppedAt (H.folder_at host.old path.now) (H.folder_at host.new path.now) (H.leaves_at host.new path.now) (H.faults host.old) (H.faults host.new)) }
+    ensures stopped { IfErr result (IsStoppedAt (H.folder_at host.old path.now) (H.folder_at host.new path.now) (H.leaves_at host.new path.now) (H.faults host.old) (H.faults host.new) commands.items) }
     ensures folders { KeepsFoldersBut path.now (H.folder_at host.old) (H.folder_at host.new) }
     ensures leaves { LeavesNoMoreBut path.now (H.leaves_at host.old) (H.leaves_at host.new) }
     ensures sources { StaysBut path.now (H.standing host.old) (H.standing host.new) }

@@ -7,6 +7,7 @@ ghost use Rattle.client_runner.specs.Solo.{mark_behind, HasRun};
 mod logged;
 mod session;
 mod store;
+mod versions;
 
 use client_lang::Command;
 pub use logged::LoggedStore;

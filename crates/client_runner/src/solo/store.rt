@@ -1,4 +1,5 @@
-//! The store of one client: a plain list of every version that was written. A look-up scans the list, for now.
+//! The store of one client: a plain list of every version that was written. A look-up scans the list, for now; a write
+//! at or above the latest timestamp needs none.
 ghost use Rattle.std.specs.Prelude.{◌≡◌, ℕ, ◌+◌, ◌-◌, ◌^◌, ◌<◌, ◌≤◌, [], false, nat_lt, if◌then◌else◌, length, take, drop, map, Bool, None, Ok, IfOk, IfSome, OnErr};
 ghost use Rattle.udt_model.specs.State.{place_of, got, admitted, synced, refusal, refused, reply_of_read as told_reply, unknown as unknown_of};
 ghost use Rattle.udt_model.specs.Steps.{IsReply, says_fault, after as state_after};
@@ -7,12 +8,12 @@ ghost use Rattle.ts_key.specs.Batches.{IsBatch};
 ghost use Rattle.client_runner.specs.Adding.{Grows, IsAdded, IsAdmitted, IsRefusal, after_op, op_of, refusal_of, with_versions};
 ghost use Rattle.client_runner.specs.Transcripts.{fresh};
 
+use crate::solo::versions::Versions;
 use std::alloc::{AllocError, Global};
 use std::marker::Model;
 use ts_key::{Batch, Form, Key, Name, NameFault, NoMemory, Seq, Ts, Version, WriteOp};
 use udt_model::{
-    Answer, Event, FamilyHead, ModelRead, NamedOp, Place, Reply, plain_newest, plain_place,
-    plain_read,
+    Answer, Event, FamilyHead, ModelRead, NamedOp, Place, Reply, plain_place, plain_read,
 };
 
 /// The last sequence that a version may have.
@@ -82,7 +83,7 @@ fn batch_of(alloc: Global, versions: &[Version]) -> Result<Batch, NoMemory>
 #[derive(Drop)]
 pub struct PlainStore {
     heads: Vec<FamilyHead>,
-    versions: Vec<Version>,
+    versions: Versions,
     last: Seq,
 }
 
@@ -92,7 +93,7 @@ impl Model for PlainStore {
 
     ghost Value = { State };
 
-    ghost view = { λ s. record { heads = s.heads.items; versions = s.versions.items; last = s.last; halted = None } };
+    ghost view = { λ s. record { heads = s.heads.items; versions = s.versions; last = s.last; halted = None } };
 
     ghost invariant = { λ s. (s.last.0 < 2 ^ 56) × (length s.heads.items ≤ 16) };
 }
@@ -106,7 +107,7 @@ impl PlainStore {
     {
         PlainStore {
             heads,
-            versions,
+            versions: Versions::of(versions),
             last,
         }
     }
@@ -118,7 +119,7 @@ impl PlainStore {
     {
         PlainStore {
             heads,
-            versions: Vec::new(alloc),
+            versions: Versions::of(Vec::new(alloc)),
             last: Seq(0),
         }
     }
@@ -233,7 +234,10 @@ impl PlainStore {
         requires batch { IsBatch (map op_of (drop count self.now.versions)) }
         ensures { IfOk result (λ batch. batch ≡ map op_of (drop count self.now.versions)) }
     {
-        batch_of(*self.versions.allocator(), &self.versions[count..])
+        batch_of(
+            self.versions.allocator(),
+            &self.versions.as_slice()[count..],
+        )
     }
 
     /// Adds the versions of a write, or finds its refusal; then some of them may have been added.
@@ -318,13 +322,8 @@ impl PlainStore {
         if op.ts.0 < floor.0 {
             return Ok(Some(Reply::Below { op: number, floor }));
         }
-        if let Some(newest) = plain_newest(&self.versions, family, op.key.bytes()) {
-            if op.ts.0 < newest.ts.0 {
-                return Ok(Some(Reply::Fell {
-                    op: number,
-                    newest: newest.ts,
-                }));
-            }
+        if let Some(newest) = self.versions.newest_above(family, op.key.bytes(), op.ts) {
+            return Ok(Some(Reply::Fell { op: number, newest }));
         }
         self.versions.push(Version {
             family,
@@ -346,8 +345,8 @@ impl PlainStore {
             return Ok(Reply::Unknown);
         };
         let read = plain_read(
-            *self.versions.allocator(),
-            &self.versions,
+            self.versions.allocator(),
+            self.versions.as_slice(),
             place.floor,
             place.family,
             key.bytes(),

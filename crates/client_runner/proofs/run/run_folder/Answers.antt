@@ -35,7 +35,8 @@ returns-clause-stopped g c =
     let leaves = h.leaves_at c.close_folder.new.self path in
     let before = h.faults c.args.host.now in
     let now = h.faults c.close_folder.new.self in
+    let commands = c.args.commands.items in
     let given = given_back d Failed (h.folder_at c.args.host.now) (h.folder_at c.open_folder.new.self) new leaves path _ (h.has_place c.open_folder.new.self path) c.in-Ok.opened first last c.in-Some.is
     c.in-Ok.ensures.opens c.in-Ok.ensures.clean c.in-Ok.ensures.place c.run_disk-disk.ensures.told c.close_folder.ensures.stands c.close_folder.ensures.crash in
-    IfErr-weaker c.run_disk-disk.result.1 (IsRunRefused d first last) (IsStoppedAt old new leaves before now)
-    (λ stop refused. run_stopped d new leaves first last old before (h.faults c.open_folder.new.self) now stop given c.in-Ok.ensures.cause.kept c.close_folder.ensures.faults refused) c.run_disk-disk.ensures.stopped
+    IfErr-weaker c.run_disk-disk.result.1 (IsRunRefused d first last commands) (IsStoppedAt old new leaves before now commands)
+    (λ stop refused. run_stopped d new leaves first last old before (h.faults c.open_folder.new.self) now commands stop given c.in-Ok.ensures.cause.kept c.close_folder.ensures.faults refused) c.run_disk-disk.ensures.stopped

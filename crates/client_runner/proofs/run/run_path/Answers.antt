@@ -32,5 +32,5 @@ returns-in-Ok-with_capacity-clause-stopped g c =
     let before = h.faults c.read_commands.new.host in
     let now = h.faults c.run_folder.new.host in
     let commands = c.in-Ok.commands.items in
-    IfErr-weaker c.run_folder.result (IsStoppedAt mid new leaves before now) (IsStoppedFrom standing old new leaves first now)
+    IfErr-weaker c.run_folder.result (IsStoppedAt mid new leaves before now commands) (IsStoppedFrom standing old new leaves first now)
     (λ stop stopped. stopped_from standing old mid new leaves first before now commands stop c.in-Ok.ensures.read (c.read_commands.ensures.folders path) c.read_commands.ensures.later stopped) c.run_folder.ensures.stopped
