@@ -6,10 +6,13 @@ use Rattle.ts_key.specs.declared.version.Version.{Version}
 use Rattle.udt_model.specs.declared.event.NamedOp.{NamedOp}
 use Rattle.udt_model.specs.declared.event.Event.TheVariants.{Write}
 use Rattle.udt_model.specs.declared.reply.Reply.{Reply}
-use Rattle.udt_model.specs.declared.reply.Reply.TheVariants.{OkAt, Fault, Halted, NoMemory}
-use Rattle.udt_model.specs.Steps.{IsReply, after, says_fault}
+use Rattle.udt_model.specs.declared.reply.Reply.TheVariants.{OkAt, DroppedFault, Fault, Halted, NoMemory}
+use Rattle.client_runner.specs.Named.{IsReply, after}
+use Rattle.udt_model.specs.Lines.{says_fault}
 use Rattle.client_lang.specs.Print.{IsBuiltReply}
-use Rattle.udt_model.specs.State.{State, accepted_unless, admitted, family_of, full, halt, made, place_of, refusal, refused, unknown, version_of, ◌or_else◌}
+use Rattle.udt_model.specs.State.{State}
+use Rattle.client_runner.specs.Named.{accepted_unless, admitted, family_of, full, made, place_of, refusal, refused, unknown, version_of}
+use Rattle.udt_model.specs.Refusals.{halt, ◌or_else◌}
 use Rattle.client_runner.specs.Adding.{Grows, IsRefusal, after_op, refusal_of, with_versions}
 
 -- the versions of the first i operations were added, and the refusal is that of the others
@@ -134,6 +137,7 @@ refusal_leaves m number os sync r h = refl
 pub refusal_sound : (r : Reply) → IsRefusal r → says_fault r ≡ false
 refusal_sound (OkAt n) h = absurd h
 refusal_sound Fault h = absurd h
+refusal_sound DroppedFault h = absurd h
 refusal_sound r h = refl
 
 pub told_sound : {E : Type 0} (r : Result Reply E) (reply : Reply) → IfOk r (λ x. says_fault x ≡ false) → IfOk r (λ told. reply ≡ told) → OnErr r (reply ≡ NoMemory) → says_fault reply ≡ false

@@ -1,6 +1,6 @@
 -- What a command meant, from what its parts answered.
 use Rattle.std.proofs.Common.{◌≡◌, ◌⊎◌, ℕ, false, List, [], ◌++◌, Option, refl, sym, ap, subst, ◌∙◌, inl, inr}
-use Rattle.std.specs.Prelude.{Some, None}
+use Rattle.std.specs.Prelude.{All, Some, None}
 use Rattle.std.specs.List.{list_any}
 use Rattle.udt_disk.specs.Causes.{Rose}
 use Rattle.udt_disk.specs.Opens.{Standing}
@@ -9,7 +9,7 @@ use Rattle.udt_model.specs.declared.line.FamilyHead.{FamilyHead}
 use Rattle.udt_model.specs.declared.line.Line.{Line}
 use Rattle.udt_model.specs.State.{State}
 use Rattle.udt_model.specs.Histories.{Point, Leads, start}
-use Rattle.client_lang.specs.Print.{print_header, print_lines}
+use Rattle.client_lang.specs.Print.{IsBuiltLine, print_header, print_lines}
 use Rattle.client_runner.specs.Commands.{IsRun}
 use Rattle.client_runner.specs.Ends.{IsEnd, IsInitWork, IsRunLeft, IsRunWork}
 use Rattle.client_runner.specs.Hosts.{IsFileOf, IsFolderOf, StaysElsewhere}
@@ -97,10 +97,10 @@ run_said standing old new leaves before now file stop s status text (inl said) =
 run_said standing old new leaves before now file stop s status text (inr want) = inr (record { stop = NoMemory; cause = inl tt; status_is = want.0; text_is = want.1; left = wanted_left (Spells standing) old new leaves stop s.left })
 
 -- the disk failed where a line tells it
-fault_rose : (before now : ℕ) (m : State) (lines : List Line) (end : Point) (status : Status) → m.halted ≡ None → Leads (start m) lines end → AreSoundUnless before now lines → status ≡ status_of_lines lines → status ≡ statuses.DiskFault → Rose before now
-fault_rose before now m lines end status works legal (inr rose) e fault = rose
-fault_rose before now m lines end status works legal (inl sound) e fault =
-    let none : list_any (λ l. tells_fault l.reply) lines ≡ false = none_told (start m) end lines works legal sound in
+fault_rose : (before now : ℕ) (m : State) (lines : List Line) (end : Point) (status : Status) → All IsBuiltLine lines → m.halted ≡ None → Leads (start m) lines end → AreSoundUnless before now lines → status ≡ status_of_lines lines → status ≡ statuses.DiskFault → Rose before now
+fault_rose before now m lines end status built works legal (inr rose) e fault = rose
+fault_rose before now m lines end status built works legal (inl sound) e fault =
+    let none : list_any (λ l. tells_fault l.reply) lines ≡ false = none_told (start m) end lines refl built works legal sound in
     absurd (cc (rw none at (sym e ∙ fault)))
 
 text_is : (r : Ready) (header : List ℕ) (lines : List Line) → r.buffer.items ≡ header → r.lines.items ≡ lines → text_of r ≡ header ++ print_lines lines
@@ -126,7 +126,7 @@ run_told standing old new leaves before now file r status from e =
         printed = text_is r (print_header run.m.last.0 run.m.heads) run.lines run.waits.header_is run.waits.lines_are;
       };
       status_is = lines_are;
-      cause = fault_rose before now run.m run.lines run.end status run.works run.history.legal run.sound lines_are;
+      cause = fault_rose before now run.m run.lines run.end status (subst (λ (ls : List Line). All IsBuiltLine ls) run.waits.lines_are run.waits.built) run.works run.history.legal run.sound lines_are;
       left = run.left;
     })
 

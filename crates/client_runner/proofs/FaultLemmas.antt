@@ -1,5 +1,5 @@
 -- A history in which no disk failed tells no fault.
-use Rattle.std.proofs.Common.{◌≡◌, ℕ, ◌+◌, Bool, true, false, List, [], ◌∷◌, ◌++◌, Option, Some, None, refl, sym, ap, subst, inl, inr}
+use Rattle.std.proofs.Common.{◌∙◌, ◌≡◌, ℕ, ◌+◌, Bool, true, false, List, [], ◌∷◌, ◌++◌, Option, Some, None, refl, sym, ap, subst, inl, inr}
 use Rattle.std.specs.Prelude.{All, option_map, nat_lt, if◌then◌else◌, length, ◌-◌, ◌^◌}
 use Rattle.std.specs.List.{list_any}
 use Rattle.std.proofs.lemmas.List.Elements.{All-head, All-tail}
@@ -15,10 +15,16 @@ use Rattle.udt_model.specs.declared.read.ModelRead.{ModelRead}
 use Rattle.udt_model.specs.declared.read.ModelRead.TheVariants as reads
 use Rattle.udt_model.specs.declared.reply.Reply.{Reply}
 use Rattle.udt_model.specs.declared.reply.Reply.TheVariants.{Fault, Halted, OkAt}
-use Rattle.udt_model.specs.State.{State, accepted_unless, admitted, done_unless, fell, full, got, halt, place_of, refusal, refused, reply_of_read, synced, unknown, unknown_place, ◌or_else◌, family_of, version_of}
-use Rattle.udt_model.specs.Steps.{IsReply, IsTold, after, says_fault}
+use Rattle.udt_model.specs.State.{State}
+use Rattle.client_runner.specs.Named.{accepted_unless, admitted, done_unless, full, place_of, refusal, refused, synced, unknown, family_of, version_of}
+use Rattle.udt_model.specs.Refusals.{fell, halt, unknown_place, ◌or_else◌}
+use Rattle.udt_model.specs.Steps.{got, reply_of_read}
+use Rattle.client_runner.specs.Named.{IsReply, IsTold, after}
+use Rattle.udt_model.specs.Lines.{says_fault}
 use Rattle.udt_model.specs.Versions.{newest_of, of_key}
 use Rattle.udt_model.specs.Histories.{Point, IsSound, Leads, behind}
+use Rattle.client_lang.specs.Print.{IsBuilt, IsBuiltLine}
+use Rattle.client_runner.proofs.Naming.{after_agrees, reply_agrees_back}
 use Rattle.client_runner.specs.Left.{tells_fault}
 
 -- a refusal that isn't that of a halted store
@@ -102,10 +108,12 @@ after_works m number (events.Write ops sync) (OkAt last) e sound = e
 after_works m number event Fault e sound = absurd (cc sound)
 after_works m number event reply e sound = e
 
-pub none_told : (p end : Point) (lines : List Line) → p.state.halted ≡ None → Leads p lines end → All IsSound lines → list_any (λ l. tells_fault l.reply) lines ≡ false
-none_told p end [] e h sound = refl
-none_told p end (l ∷ lines) e h sound =
+pub none_told : (p end : Point) (lines : List Line) → p.height ≡ 0 → All IsBuiltLine lines → p.state.halted ≡ None → Leads p lines end → All IsSound lines → list_any (λ l. tells_fault l.reply) lines ≡ false
+none_told p end [] low built e h sound = refl
+none_told p end (l ∷ lines) low built e h sound =
     let here : says_fault l.reply ≡ false = All-head IsSound l lines sound in
-    let calm : tells_fault l.reply ≡ false = sound_calm p.state l.event l.reply e h.0.reply here in
-    let works : (behind p l).state.halted ≡ None = after_works p.state (p.number + 1) l.event l.reply e here in
-    rw calm (none_told (behind p l) end lines works h.1 (All-tail IsSound l lines sound))
+    let event : IsBuilt l.event = (All-head IsBuiltLine l lines built).event in
+    let calm : tells_fault l.reply ≡ false = sound_calm p.state l.event l.reply e (reply_agrees_back p.height p.state (p.names l.who) l.event l.reply low event h.0.reply) here in
+    let works : (behind p l).state.halted ≡ None =
+    ap (λ (s : State). s.halted) (after_agrees p.state (p.names l.who) (p.number + 1) l.event l.reply event) ∙ after_works p.state (p.number + 1) l.event l.reply e here in
+    rw calm (none_told (behind p l) end lines low (All-tail IsBuiltLine l lines built) works h.1 (All-tail IsSound l lines sound))

@@ -1,5 +1,5 @@
 -- How a log keeps the history of its store, from call to call.
-use Rattle.std.proofs.Common.{◌≡◌, ◌⊎◌, inl, inr, ⊎_elim, ℕ, ◌+◌, ◌≤◌, Bool, true, false, List, [], ◌∷◌, ◌++◌, length, refl, sym, ap, ◌∙◌, subst, arith}
+use Rattle.std.proofs.Common.{◌≡◌, ◌⊎◌, inl, inr, ⊎_elim, ℕ, ◌+◌, ◌≤◌, Bool, true, false, List, [], ◌∷◌, ◌++◌, length, map, refl, sym, ap, ◌∙◌, subst, arith}
 use Rattle.std.proofs.Common.{Option, Some, None}
 use Rattle.std.specs.Prelude.{Contains, Ok, Err, if◌then◌else◌}
 use Rattle.std.proofs.lemmas.Option.{none-some}
@@ -10,13 +10,20 @@ use Rattle.udt_disk.specs.declared.file.DiskFile.{Ghosts}
 use Rattle.udt_disk.proofs.Moments.{started}
 use Rattle.udt_disk.proofs.Runs.{run_weaker}
 use Rattle.gate_log.specs.Tearing.{Leaves}
+use Rattle.ts_key.specs.declared.version.Version.{Version}
 use Rattle.udt_model.specs.declared.event.Event.{Event}
 use Rattle.udt_model.specs.declared.event.Event.TheVariants.{Write, Sync}
 use Rattle.udt_model.specs.declared.event.NamedOp.{NamedOp}
 use Rattle.udt_model.specs.declared.reply.Reply.{Reply}
 use Rattle.udt_model.specs.declared.reply.Reply.TheVariants.{OkAt, Fault, Done}
-use Rattle.udt_model.specs.State.{State, made}
-use Rattle.udt_model.specs.Crashes.{Course, IsOutcome, course_after, course_start, cut_at, with_failing}
+use Rattle.udt_model.specs.State.{State}
+use Rattle.client_runner.specs.Named.{made}
+use Rattle.udt_model.specs.Crashes.{Course, Failing, IsOutcome, course_start, cut_at, settled}
+use Rattle.udt_model.specs.Acts.Act.{write}
+use Rattle.udt_model.specs.Names.{op_of as named_op}
+use Rattle.udt_model.specs.Steps.{after as after_act, admitted as act_admitted}
+use Rattle.client_runner.specs.Named.{course_after}
+use Rattle.client_runner.proofs.Naming.{same_made}
 use Rattle.wal.specs.declared.numbered.Numbered.{Numbered}
 use Rattle.wal.specs.declared.wal.Wal.{Wal}
 use Rattle.wal.specs.Replays.{ReadsAs, IsBeforeOrAfter}
@@ -43,8 +50,8 @@ halted_at m number = record m { halted = Some number }
 abbrev pub course_taken : State → Course → List NamedOp → Bool → Course
 course_taken m c os sync = record c { ends = c.ends ++ (m.last.0 + length os) ∷ []; synced = if sync then m.last.0 + length os else c.synced }
 
-abbrev pub course_failed : State → Course → List NamedOp → Course
-course_failed m c os = record c { failing = Some (made m m.last.0 os) }
+abbrev pub course_failed : State → ℕ → Course → List NamedOp → Bool → Course
+course_failed m number c os sync = record c { failing = Some (record { state = m; number = number; act = write (map (named_op m.heads) os) sync }) }
 
 synced_within : (sync : Bool) (before last : ℕ) → before ≤ last → (if sync then last else before) ≤ last
 synced_within true before last le = omega arith
@@ -177,7 +184,7 @@ module _ {F : Type 0} (g : Ghosts F) where
         batches = live.batches;
         waiting = live.waiting ++ n ∷ [];
         holds = holds;
-        state_is = ap (λ (h : Option ℕ). let s : State = record { heads = m.heads; versions = m.versions ++ made m m.last.0 os; last = record { 0 = m.last.0 + length os }; halted = h } in s) works
+        state_is = ap (λ (h : Option ℕ). let s : State = record m { versions = m.versions ++ made m m.last.0 os; last = record { 0 = m.last.0 + length os }; halted = h } in s) works
             ∙ state_more fold m (live.batches ++ live.waiting) os live.state_is ∙ ap (state_of fold) (append_assoc live.batches live.waiting (n ∷ []));
         here = Contains-append_left c.ends ((m.last.0 + length os) ∷ []) (last_of fold.last.0 live.batches) live.here;
         all = Contains-push c.ends (m.last.0 + length os);
@@ -190,7 +197,7 @@ module _ {F : Type 0} (g : Ghosts F) where
       let n : Numbered = numbered_of m os in
       let all : List Numbered = live.batches ++ (live.waiting ++ n ∷ []) in
       let state : taken m os ≡ state_of fold all =
-      ap (λ (h : Option ℕ). let s : State = record { heads = m.heads; versions = m.versions ++ made m m.last.0 os; last = record { 0 = m.last.0 + length os }; halted = h } in s) works
+      ap (λ (h : Option ℕ). let s : State = record m { versions = m.versions ++ made m m.last.0 os; last = record { 0 = m.last.0 + length os }; halted = h } in s) works
       ∙ state_more fold m (live.batches ++ live.waiting) os live.state_is ∙ ap (state_of fold) (append_assoc live.batches live.waiting (n ∷ [])) in
       let last : m.last.0 + length os ≡ last_of fold.last.0 all = ap (λ (s : State). s.last.0) state in
       let up : c.synced ≤ m.last.0 + length os = omega (arith, live.synced, live_up fold old m c zero live) in
@@ -214,8 +221,8 @@ module _ {F : Type 0} (g : Ghosts F) where
   taken_live fold old new m os false c zero works live (inr holds) = (write_synced fold old new m os false c zero works live holds, append-nil (live.batches ++ (live.waiting ++ numbered_of m os ∷ [])))
 
   -- a write that was taken
-  pub write_on : (old new : Wal F g) (m : State) (os : List NamedOp) (sync : Bool) → m.halted ≡ None → IsLogged g old new (numbered_of m os) sync (Ok tt) → KeepsOn g old new m (taken m os) (Write os sync) (OkAt (m.last.0 + length os))
-  write_on old new m os sync works logged = record {
+  pub write_on : (old new : Wal F g) (m : State) (number : ℕ) (os : List NamedOp) (sync : Bool) → m.halted ≡ None → IsLogged g old new (numbered_of m os) sync (Ok tt) → KeepsOn g old new m (taken m os) number (Write os sync) (OkAt (m.last.0 + length os))
+  write_on old new m number os sync works logged = record {
     keeps = λ fold c zero sizes keeps.
         let live = keeps.live works in
         live_keeps fold new (taken m os) (course_taken m c os sync) zero (sizes ∙ sym logged.sizes) (taken_live fold old new m os sync c zero works live (logged.holds live.batches live.waiting live.holds)).0;
@@ -230,55 +237,55 @@ module _ {F : Type 0} (g : Ghosts F) where
   }
 
   -- the disk failed under a write: a crash leaves all before it, or it too
-  failed_outcome : (fold : Folded) (old : Wal F g) (m : State) (number : ℕ) (os : List NamedOp) (c : Course) → fold.last.0 ≡ 0 → stores.sizes_of fold ≡ sizes_of old → (live : IsLive g fold old m c) (image : Image)
-      → IsBeforeOrAfter (sizes_of old) live.batches (live.waiting ++ numbered_of m os ∷ []) image → ReadsAsOutcome fold (halted_at m number) (course_failed m c os) image
-  failed_outcome fold old m number os c zero sizes live image (inl before) =
+  failed_outcome : (fold : Folded) (old : Wal F g) (m : State) (number : ℕ) (os : List NamedOp) (sync : Bool) (c : Course) → OkAt (m.last.0 + length os) ≡ act_admitted m (map (named_op m.heads) os) → fold.last.0 ≡ 0 → stores.sizes_of fold ≡ sizes_of old → (live : IsLive g fold old m c) (image : Image)
+      → IsBeforeOrAfter (sizes_of old) live.batches (live.waiting ++ numbered_of m os ∷ []) image → ReadsAsOutcome fold (halted_at m number) (course_failed m number c os sync) image
+  failed_outcome fold old m number os sync c told zero sizes live image (inl before) =
       record { batches = live.batches; reads = subst (λ (s : List ℕ). ReadsAs s live.batches image) (sym sizes) before; outcome = inl (last_of fold.last.0 live.batches, live.here, live.synced, live_cut_is fold old m c zero live) }
-  failed_outcome fold old m number os c zero sizes live image (inr all_of) =
+  failed_outcome fold old m number os sync c told zero sizes live image (inr all_of) =
       let n : Numbered = numbered_of m os in
       let all : List Numbered = live.batches ++ (live.waiting ++ n ∷ []) in
-      let state : state_of fold all ≡ with_failing m (made m m.last.0 os) =
+      let state : state_of fold all ≡ settled (after_act m number (write (map (named_op m.heads) os) sync) (OkAt (m.last.0 + length os))) =
       ap (state_of fold) (sym (append_assoc live.batches live.waiting (n ∷ [])))
-      ∙ sym (state_more fold m (live.batches ++ live.waiting) os live.state_is)
-      ∙ ap (λ (k : ℕ). let s : State = record { heads = m.heads; versions = m.versions ++ made m m.last.0 os; last = record { 0 = m.last.0 + k }; halted = None } in s) (sym (length-made m m.last.0 os)) in
+      ∙ ap settled (sym (state_more fold m (live.batches ++ live.waiting) os live.state_is))
+      ∙ ap (λ (vs : List Version). let s : State = record m { versions = m.versions ++ vs; last = record { 0 = m.last.0 + length os } } in settled s) (sym (same_made m os m.last.0)) in
       record {
         batches = all;
         reads = subst (λ (s : List ℕ). ReadsAs s all image) (sym sizes) all_of;
-        outcome = inr (made m m.last.0 os, refl, state);
+        outcome = inr (OkAt (m.last.0 + length os), told, refl, state);
       }
 
-  pub write_fails : (old new : Wal F g) (m : State) (number : ℕ) (os : List NamedOp) (sync : Bool) → m.halted ≡ None → IsLogged g old new (numbered_of m os) sync (Err DiskFault) → KeepsOn g old new m (halted_at m number) (Write os sync) Fault
-  write_fails old new m number os sync works logged = record {
+  pub write_fails : (old new : Wal F g) (m : State) (number : ℕ) (os : List NamedOp) (sync : Bool) → m.halted ≡ None → OkAt (m.last.0 + length os) ≡ act_admitted m (map (named_op m.heads) os) → IsLogged g old new (numbered_of m os) sync (Err DiskFault) → KeepsOn g old new m (halted_at m number) number (Write os sync) Fault
+  write_fails old new m number os sync works told logged = record {
     keeps = λ fold c zero sizes keeps.
         let live = keeps.live works in
         record {
           live = λ wrong. absurd (none-some number (sym wrong));
-          outcomes = λ image left. failed_outcome fold old m number os c zero sizes live image ((logged.moments live.batches live.waiting live.holds).now image left);
+          outcomes = λ image left. failed_outcome fold old m number os sync c told zero sizes live image ((logged.moments live.batches live.waiting live.holds).now image left);
         };
     moments = λ fold c zero sizes keeps.
         let live = keeps.live works in
-        run_weaker g (file_of old) (file_of new) (IsBeforeOrAfter (sizes_of old) live.batches (live.waiting ++ numbered_of m os ∷ [])) (λ image. ReadsAsOutcome fold m c image ⊎ ReadsAsOutcome fold (halted_at m number) (course_failed m c os) image)
-        (λ image reads. inr (failed_outcome fold old m number os c zero sizes live image reads)) (logged.moments live.batches live.waiting live.holds);
+        run_weaker g (file_of old) (file_of new) (IsBeforeOrAfter (sizes_of old) live.batches (live.waiting ++ numbered_of m os ∷ [])) (λ image. ReadsAsOutcome fold m c image ⊎ ReadsAsOutcome fold (halted_at m number) (course_failed m number c os sync) image)
+        (λ image reads. inr (failed_outcome fold old m number os sync c told zero sizes live image reads)) (logged.moments live.batches live.waiting live.holds);
   }
 
   -- ---- events that leave the state
 
-  pub still_on : ((x : F) (image : Image) → g.left_since x (g.moment x) image → g.may_leave x image) → (old new : Wal F g) (m : State) (event : Event) (reply : Reply) → ((c : Course) → course_after m c event reply ≡ c)
-      → file_of new ≡ file_of old → ((bs ws : List Numbered) → Holds g old bs ws → Holds g new bs ws) → KeepsOn g old new m m event reply
-  still_on only_now old new m event reply course file holds = record {
+  pub still_on : ((x : F) (image : Image) → g.left_since x (g.moment x) image → g.may_leave x image) → (old new : Wal F g) (m : State) (number : ℕ) (event : Event) (reply : Reply) → ((c : Course) → course_after m number c event reply ≡ c)
+      → file_of new ≡ file_of old → ((bs ws : List Numbered) → Holds g old bs ws → Holds g new bs ws) → KeepsOn g old new m m number event reply
+  still_on only_now old new m number event reply course file holds = record {
     keeps = λ fold c zero sizes keeps. subst (Keeps g fold new m) (sym (course c)) (same_keeps fold old new m c file holds keeps);
-    moments = λ fold c zero sizes keeps. same_moments only_now fold old new m m c (course_after m c event reply) file keeps;
+    moments = λ fold c zero sizes keeps. same_moments only_now fold old new m m c (course_after m number c event reply) file keeps;
   }
 
-  pub sync_on : (old new : Wal F g) (m : State) → m.halted ≡ None → sizes_of new ≡ sizes_of old → ((bs ws : List Numbered) → Holds g old bs ws → Holds g new (bs ++ ws) [])
-      → ((bs ws : List Numbered) → Holds g old bs ws → Leaves g (file_of old) (file_of new) (IsBeforeOrAfter (sizes_of old) bs ws)) → KeepsOn g old new m m Sync Done
-  sync_on old new m works same holds run = record {
+  pub sync_on : (old new : Wal F g) (m : State) (number : ℕ) → m.halted ≡ None → sizes_of new ≡ sizes_of old → ((bs ws : List Numbered) → Holds g old bs ws → Holds g new (bs ++ ws) [])
+      → ((bs ws : List Numbered) → Holds g old bs ws → Leaves g (file_of old) (file_of new) (IsBeforeOrAfter (sizes_of old) bs ws)) → KeepsOn g old new m m number Sync Done
+  sync_on old new m number works same holds run = record {
     keeps = λ fold c zero sizes keeps. sync_keeps fold old new m c zero sizes same works holds keeps;
     moments = λ fold c zero sizes keeps. sync_moments fold old new m m c (record c { synced = m.last.0 }) zero sizes works run keeps;
   }
 
   pub sync_fails_on : (old new : Wal F g) (m : State) (number : ℕ) → m.halted ≡ None
-      → ((bs ws : List Numbered) → Holds g old bs ws → Leaves g (file_of old) (file_of new) (IsBeforeOrAfter (sizes_of old) bs ws)) → KeepsOn g old new m (halted_at m number) Sync Fault
+      → ((bs ws : List Numbered) → Holds g old bs ws → Leaves g (file_of old) (file_of new) (IsBeforeOrAfter (sizes_of old) bs ws)) → KeepsOn g old new m (halted_at m number) number Sync Fault
   sync_fails_on old new m number works run = record {
     keeps = λ fold c zero sizes keeps. sync_fails fold old new m number c zero sizes works run keeps;
     moments = λ fold c zero sizes keeps. sync_moments fold old new m (halted_at m number) c c zero sizes works run keeps;

@@ -23,3 +23,4 @@ pub mod HostLemmas
 pub mod FaultLemmas
 pub mod TopLemmas
 pub mod EndLemmas
+pub mod Naming

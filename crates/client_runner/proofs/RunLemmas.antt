@@ -20,10 +20,12 @@ use Rattle.ts_key.specs.declared.version.Version.{Version}
 use Rattle.udt_model.specs.declared.line.FamilyHead.{FamilyHead}
 use Rattle.udt_model.specs.declared.line.Line.{Line}
 use Rattle.udt_model.specs.declared.line.Who.TheVariants.{Client}
-use Rattle.udt_model.specs.State.{State}
-use Rattle.udt_model.specs.Steps.{IsReply, after}
+use Rattle.udt_model.specs.State.{State, unflushed}
+use Rattle.client_runner.specs.Named.{IsReply, after}
 use Rattle.udt_model.specs.Histories.{Point, start, IsLegal, behind, Leads, own}
-use Rattle.udt_model.specs.Crashes.{Course, IsOutcome, course_start, course_after, course_behind}
+use Rattle.udt_model.specs.Crashes.{Course, IsOutcome, course_start, course_behind}
+use Rattle.client_runner.specs.Named.{course_after}
+use Rattle.client_runner.proofs.Naming.{after_agrees, reply_agrees_back}
 use Rattle.gate_log.specs.Outcomes.{IsSameFile}
 use Rattle.wal.specs.declared.numbered.Numbered.{Numbered}
 use Rattle.wal.specs.declared.wal.Wal.{Wal}
@@ -37,7 +39,7 @@ use Rattle.manifest.specs.Folders.Meaning.{store}
 use Rattle.manifest.specs.Manifest.{file_of as manifest_file}
 use Rattle.manifest.specs.Moments.{holding, OnlyReads}
 use Rattle.client_lang.specs.declared.command.Command.{Command}
-use Rattle.client_lang.specs.Print.{print_header}
+use Rattle.client_lang.specs.Print.{IsBuilt, print_header}
 use Rattle.client_runner.specs.Expand.{IsRunHistory}
 use Rattle.client_runner.specs.Left.{MayBeLeft, status_of_lines, tells_fault}
 use Rattle.client_runner.specs.LoggedStores.{state_of, wal_of}
@@ -56,7 +58,7 @@ use Rattle.client_runner.specs.declared.status.Status.TheVariants as statuses
 use Rattle.client_runner.specs.declared.status.Stop.TheVariants.{NoMemory}
 use Rattle.client_runner.proofs.KeepingLemmas.{all_synced, opens_kept}
 use Rattle.client_runner.proofs.Opening.{chosen_isn't_log}
-use Rattle.client_runner.proofs.SoloLemmas.{course_push, sound_none}
+use Rattle.client_runner.proofs.SoloLemmas.{course_push, height_kept, sound_none}
 use Rattle.client_runner.proofs.States.{opened_stands}
 
 -- ---- where no line tells a fault, all is synced at the end
@@ -107,14 +109,17 @@ settled_by : (m : State) (lines : List Line) (line : Line) (end : Point) → Lea
     → (end.state.halted ≡ None) × ((course_behind (start m) (course_start m) (lines ++ line ∷ [])).synced ≡ end.state.last.0)
 settled_by m lines line end leads event none =
     let s = splits (start m) lines line end leads in
-    let reply : IsReply s.mid.state Sync line.reply = subst (λ (e : Event). IsReply s.mid.state e line.reply) event s.legal.reply in
+    let built : IsBuilt line.event = subst IsBuilt (sym event) tt in
+    let low : s.mid.height ≡ 0 = height_kept (start m) s.mid lines s.before in
+    let reply : IsReply s.mid.state Sync line.reply =
+    subst (λ (e : Event). IsReply s.mid.state e line.reply) event (reply_agrees_back s.mid.height s.mid.state (s.mid.names line.who) line.event line.reply low built s.legal.reply) in
     let done = sync_done s.mid.state.halted s.mid.state line.reply refl reply none in
     let state : end.state ≡ s.mid.state =
-    ap (λ (p : Point). p.state) s.end_is ∙ ap (λ (e : Event). after s.mid.state (s.mid.number + 1) e line.reply) event ∙ ap (λ (r : Reply). after s.mid.state (s.mid.number + 1) Sync r) done.1 in
+    ap (λ (p : Point). p.state) s.end_is ∙ after_agrees s.mid.state (s.mid.names line.who) (s.mid.number + 1) line.event line.reply built ∙ ap (λ (e : Event). after s.mid.state (s.mid.number + 1) e line.reply) event ∙ ap (λ (r : Reply). after s.mid.state (s.mid.number + 1) Sync r) done.1 in
     let c : Course = course_behind (start m) (course_start m) lines in
     let course : course_behind (start m) (course_start m) (lines ++ line ∷ []) ≡ record c { synced = s.mid.state.last.0 } =
-    course_push (start m) s.mid (course_start m) lines line s.before
-    ∙ ap (λ (e : Event). course_after s.mid.state c e line.reply) event ∙ ap (λ (r : Reply). course_after s.mid.state c Sync r) done.1 in
+    course_push (start m) s.mid (course_start m) lines line built s.before
+    ∙ ap (λ (e : Event). course_after s.mid.state (s.mid.number + 1) c e line.reply) event ∙ ap (λ (r : Reply). course_after s.mid.state (s.mid.number + 1) c Sync r) done.1 in
     (ap (λ (x : State). x.halted) state ∙ done.0, ap (λ (x : Course). x.synced) course ∙ ap (λ (x : State). x.last.0) (sym state))
 
 pub session_settles : (m : State) (commands : List Command) (lines : List Line) (end : Point) → IsRunHistory m commands lines end → Settles m lines end
@@ -175,7 +180,7 @@ waits_with (Err e) A lines header text a is none = tt
 -- ---- what is left
 
 abbrev with_state : List FamilyHead → List Version → Seq → State
-with_state heads versions last = record { heads = heads; versions = versions; last = last; halted = None }
+with_state heads versions last = unflushed heads versions last None
 
 module _ {D F : Type 0} (d : disk.Ghosts D F) (f : file.Ghosts F) where
   -- the files of the log and of the manifest were given back

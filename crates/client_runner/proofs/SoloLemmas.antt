@@ -1,9 +1,9 @@
 -- The history of one client, one command after another, and of the runner behind it.
-use Rattle.std.proofs.Common.{◌≡◌, ℕ, ◌+◌, ◌≤◌, true, List, [], ◌∷◌, ◌++◌, length, append-nil, refl, sym, ap, subst, ◌∙◌, append_assoc, inl, inr, arith}
+use Rattle.std.proofs.Common.{◌≡◌, ℕ, ◌+◌, ◌≤◌, Bool, true, false, List, [], ◌∷◌, ◌++◌, length, append-nil, refl, sym, ap, subst, ◌∙◌, append_assoc, inl, inr, arith}
 use Rattle.std.specs.Prelude.{All}
 use Rattle.std.proofs.lemmas.Bool.{cases_Bool}
 use Rattle.std.proofs.lemmas.List.{length_push}
-use Rattle.std.proofs.lemmas.List.Elements.{All-nil, All-push}
+use Rattle.std.proofs.lemmas.List.Elements.{All-cons, All-head, All-nil, All-push, All-tail}
 use Rattle.udt_disk.specs.Causes.{Rose}
 use Rattle.client_lang.specs.declared.command.Command.{Command}
 use Rattle.udt_model.specs.declared.line.Line.{Line}
@@ -11,14 +11,22 @@ use Rattle.udt_model.specs.declared.line.Mark.{Mark}
 use Rattle.udt_model.specs.declared.line.Who.{Who}
 use Rattle.udt_model.specs.declared.line.Who.TheVariants.{Client, Runner}
 use Rattle.udt_model.specs.State.{State}
-use Rattle.udt_model.specs.Steps.{IsReply, after, is_step, says_fault}
+use Rattle.client_runner.specs.Named.{IsReply, after}
+use Rattle.udt_model.specs.Lines.{is_step, says_fault}
 use Rattle.udt_model.specs.Histories.{Point, start, IsLegal, IsSound, next_mark, behind, Leads, is_same, own}
-use Rattle.udt_model.specs.Crashes.{Course, course_after, course_behind}
+use Rattle.udt_model.specs.Crashes.{Course, course_behind}
 use Rattle.client_lang.specs.declared.command.Command.TheVariants as kinds
 use Rattle.udt_model.specs.declared.event.Event.{Event}
-use Rattle.udt_model.specs.declared.event.Event.TheVariants.{Sync}
-use Rattle.client_runner.specs.Expand.{Expand, IsSoloHistory}
-use Rattle.client_lang.specs.Print.{IsBuiltLine}
+use Rattle.udt_model.specs.declared.event.Event.TheVariants.{Sync, Release}
+use Rattle.client_runner.specs.Expand.{Expand, IsClient, Task, IsSoloHistory, goes_on}
+use Rattle.client_runner.specs.Named.{course_after}
+use Rattle.udt_model.specs.Names.{act_of}
+use Rattle.udt_model.specs.Crashes.{course_after_or}
+use Rattle.udt_model.specs.Acts.{Act}
+use Rattle.udt_model.specs.Lines as lines
+use Rattle.client_runner.proofs.Naming.{act_agrees, after_agrees, is_named_built, none_held, reply_agrees}
+use Rattle.std.specs.Prelude.{if◌then◌else◌, map, Option}
+use Rattle.client_lang.specs.Print.{IsBuilt, IsBuiltLine}
 use Rattle.client_runner.specs.Solo.{mark_behind, no_mark, HasRun, HasSynced, AreSoundUnless}
 
 pub Leads-append : (a b c : Point) (xs ys : List Line) → Leads a xs b → Leads b ys c → Leads a (xs ++ ys) c
@@ -37,9 +45,39 @@ own-append who (x ∷ xs) ys =
       | inr e ↦ rw (e, own-append who xs ys) refl
     ]
 
+abbrev no_task : List Task
+no_task = []
+
+nothing_more : (b : Bool) → (if b then no_task else no_task) ≡ no_task
+nothing_more true = refl
+nothing_more false = refl
+
+no_release : (ls : List Line) → map (λ (l : Line). l.event) ls ≡ [] → ls ≡ []
+no_release [] e = refl
+no_release (l ∷ ls) e = absurd (cc e)
+
+built_front : (xs ys : List Line) → All IsBuiltLine (xs ++ ys) → All IsBuiltLine xs
+built_front [] ys built = All-nil IsBuiltLine
+built_front (x ∷ xs) ys built = All-cons IsBuiltLine x xs (All-head IsBuiltLine x (xs ++ ys) built) (built_front xs ys (All-tail IsBuiltLine x (xs ++ ys) built))
+
+-- a client that makes no snapshot has the lines of its commands alone
+pub client_lines : (cs : List Command) (ls : List Line) → All IsBuiltLine ls → IsClient cs ls → Expand cs ls
+client_lines cs ls built c =
+    let front_built : All IsBuiltLine c.0 = built_front c.0 c.1 (subst (λ (xs : List Line). All IsBuiltLine xs) c.4 built) in
+    let none : c.1 ≡ [] = no_release c.1 (c.3 ∙ ap (map Release) (none_held c.0 front_built)) in
+    subst (λ (xs : List Line). Expand cs xs) (sym (c.4 ∙ ap (λ (xs : List Line). c.0 ++ xs) none ∙ append-nil c.0)) c.2
+
+pub lines_client : (cs : List Command) (ls : List Line) → All IsBuiltLine ls → Expand cs ls → IsClient cs ls
+lines_client cs ls built e = (ls, [], e, ap (map Release) (sym (none_held ls built)), sym (append-nil ls))
+
+client_more : (cs : List Command) (event : Event) (ls : List Line) (line : Line) → All IsBuiltLine ls → IsBuiltLine line → line.event ≡ event → IsClient cs ls → IsClient (cs ++ kinds.Line event ∷ []) (ls ++ line ∷ [])
+client_more cs event ls line built one is c =
+    lines_client (cs ++ kinds.Line event ∷ []) (ls ++ line ∷ []) (All-push IsBuiltLine ls line built one)
+    (Expand-append cs (kinds.Line event ∷ []) ls (line ∷ []) (client_lines cs ls built c) (line ∷ [], [], (is, nothing_more (goes_on line.reply)), refl, refl))
+
 pub none_yet : (m : State) (lines : List Line) → lines ≡ [] → HasRun m [] lines m no_mark
 none_yet m lines e = subst (λ (ls : List Line). HasRun m [] ls m no_mark) (sym e)
-    (record { end = start m; run = record { legal = refl; once = refl; alone = refl }; state_is = refl; number_is = refl; last_is = refl; runner_is = refl; count = omega arith; printed = All-nil IsBuiltLine })
+    (record { end = start m; run = record { legal = refl; once = ([], [], refl, refl, refl); alone = refl }; state_is = refl; number_is = refl; last_is = refl; runner_is = refl; count = omega arith; printed = All-nil IsBuiltLine })
 
 -- what a line says that was made behind the step of this number
 pub record IsNext (store : State) (who : Who) (number : ℕ) (last : Mark) (event : Event) (line : Line) (new : State) : Type 0 where
@@ -76,26 +114,33 @@ count_behind last line n le =
       | inr e ↦ rw e (omega arith)
     ]
 
-legal_next : (p : Point) (who : Who) (number : ℕ) (last : Mark) (store new : State) (event : Event) (line : Line) → p.state ≡ store → p.number ≡ number → p.last who ≡ last → IsNext store who number last event line new → IsLegal p line
-legal_next p who number last store new event line s n l next = record {
+pub height_kept : (p end : Point) (ls : List Line) → Leads p ls end → end.height ≡ p.height
+height_kept p end [] h = ap (λ (q : Point). q.height) h
+height_kept p end (l ∷ ls) h = height_kept (behind p l) end ls h.1
+
+legal_next : (p : Point) (who : Who) (number : ℕ) (last : Mark) (store new : State) (event : Event) (line : Line) → p.height ≡ 0 → p.state ≡ store → p.number ≡ number → p.last who ≡ last → IsNext store who number last event line new → IsLegal p line
+legal_next p who number last store new event line low s n l next = record {
   mark = next.mark ∙ mark_is p who number last line n l next.who_is;
-  reply = subst (λ (x : State). IsReply x line.event line.reply) (sym s) next.reply;
+  named = is_named_built line.who (p.names line.who) line.event next.printed.event;
+  reply = subst (λ (h : ℕ). lines.IsReply h p.state (p.names line.who) line.event line.reply) (sym low)
+      (reply_agrees p.state (p.names line.who) line.event line.reply next.printed.event (subst (λ (x : State). IsReply x line.event line.reply) (sym s) next.reply));
 }
 
 state_next : (p : Point) (who : Who) (number : ℕ) (last : Mark) (store new : State) (event : Event) (line : Line) → p.state ≡ store → p.number ≡ number → IsNext store who number last event line new → (behind p line).state ≡ new
 state_next p who number last store new event line s n next =
-    ap (λ (k : ℕ). after p.state (k + 1) line.event line.reply) n ∙ ap (λ (x : State). after x (number + 1) line.event line.reply) s ∙ sym next.after_is
+    after_agrees p.state (p.names line.who) (p.number + 1) line.event line.reply next.printed.event
+    ∙ ap (λ (k : ℕ). after p.state (k + 1) line.event line.reply) n ∙ ap (λ (x : State). after x (number + 1) line.event line.reply) s ∙ sym next.after_is
 
 pub ran_more : (m : State) (commands : List Command) (lines : List Line) (store new : State) (last : Mark) (event : Event) (line : Line)
     → HasRun m commands lines store last → IsNext store (Client 1) last.number last event line new → HasRun m (commands ++ kinds.Line event ∷ []) (lines ++ line ∷ []) new line.mark
 ran_more m cs lines store new last event line r n =
-    let legal_line = legal_next r.end (Client 1) last.number last store new event line r.state_is r.number_is r.last_is n in
+    let legal_line = legal_next r.end (Client 1) last.number last store new event line (height_kept (start m) r.end lines r.run.legal) r.state_is r.number_is r.last_is n in
     let own_new : own (Client 1) (line ∷ []) ≡ line ∷ [] = own_line line n.who_is in
     record {
       end = behind r.end line;
       run = record {
         legal = Leads-append (start m) r.end (behind r.end line) lines (line ∷ []) r.run.legal (legal_line, refl);
-        once = rw (own-append (Client 1) lines (line ∷ []), own_new) (Expand-append cs (kinds.Line event ∷ []) (own (Client 1) lines) (line ∷ []) r.run.once (line ∷ [], [], n.event_is, refl, refl));
+        once = rw (own-append (Client 1) lines (line ∷ []), own_new) (client_more cs event (own (Client 1) lines) line (subst (λ (ls : List Line). All IsBuiltLine ls) (sym r.run.alone) r.printed) n.printed n.event_is r.run.once);
         alone = own-append (Client 1) lines (line ∷ []) ∙ ap (λ (ls : List Line). ls ++ own (Client 1) (line ∷ [])) r.run.alone ∙ ap (λ (ls : List Line). lines ++ ls) own_new;
       };
       state_is = state_next r.end (Client 1) last.number last store new event line r.state_is r.number_is n;
@@ -125,14 +170,14 @@ not_own line e = rw e refl
 pub synced_last : (m : State) (commands : List Command) (lines : List Line) (store new : State) (last : Mark) (line : Line)
     → HasRun m commands lines store last → IsNext store Runner last.number no_mark Sync line new → HasSynced m commands (lines ++ line ∷ []) new
 synced_last m cs lines store new last line r n =
-    let legal_line = legal_next r.end Runner last.number no_mark store new Sync line r.state_is r.number_is r.runner_is n in
+    let legal_line = legal_next r.end Runner last.number no_mark store new Sync line (height_kept (start m) r.end lines r.run.legal) r.state_is r.number_is r.runner_is n in
     let mine : own (Client 1) (lines ++ line ∷ []) ≡ lines =
     own-append (Client 1) lines (line ∷ []) ∙ ap (λ (ls : List Line). own (Client 1) lines ++ ls) (not_own line n.who_is) ∙ append-nil (own (Client 1) lines) ∙ r.run.alone in
     record {
       end = behind r.end line;
       history = record {
         legal = Leads-append (start m) r.end (behind r.end line) lines (line ∷ []) r.run.legal (legal_line, refl);
-        once = subst (λ (ls : List Line). Expand cs ls) (r.run.alone ∙ sym mine) r.run.once;
+        once = subst (λ (ls : List Line). IsClient cs ls) (r.run.alone ∙ sym mine) r.run.once;
         sync = line;
         is_sync = n.event_is;
         is_runner = n.who_is;
@@ -143,15 +188,21 @@ synced_last m cs lines store new last line r n =
 
 -- ---- courses
 
-pub course_push : (p end : Point) (c : Course) (lines : List Line) (line : Line) → Leads p lines end → course_behind p c (lines ++ line ∷ []) ≡ course_after end.state (course_behind p c lines) line.event line.reply
-course_push p end c [] line e = ap (λ (q : Point). course_after q.state c line.event line.reply) (sym e)
-course_push p end c (l ∷ lines) line h = course_push (behind p l) end (course_after p.state c l.event l.reply) lines line h.1
+pub course_push : (p end : Point) (c : Course) (lines : List Line) (line : Line) → IsBuilt line.event → Leads p lines end
+    → course_behind p c (lines ++ line ∷ []) ≡ course_after end.state (end.number + 1) (course_behind p c lines) line.event line.reply
+course_push p end c [] line built e =
+    ap (λ (a : Option Act). course_after_or p.state (p.number + 1) c a line.reply) (act_agrees p.state.heads (p.names line.who) line.event built)
+    ∙ ap (λ (q : Point). course_after q.state (q.number + 1) c line.event line.reply) (sym e)
+course_push p end c (l ∷ lines) line built h = course_push (behind p l) end (course_after_or p.state (p.number + 1) c (act_of p.state.heads (p.names l.who) l.event) l.reply) lines line built h.1
 
 -- what is kept before a line is kept behind it
-pub keeps_more : (Keeps : Course → Type 0) (m store : State) (commands : List Command) (last : Mark) (c : Course) (lines : List Line) (line : Line) → HasRun m commands lines store last
-    → Keeps (course_after store (course_behind (start m) c lines) line.event line.reply) → Keeps (course_behind (start m) c (lines ++ line ∷ []))
-keeps_more Keeps m store commands last c lines line r k =
-    subst Keeps (sym (course_push (start m) r.end c lines line r.run.legal ∙ ap (λ (s : State). course_after s (course_behind (start m) c lines) line.event line.reply) r.state_is)) k
+pub keeps_more : (Keeps : Course → Type 0) (m store : State) (commands : List Command) (last : Mark) (c : Course) (lines : List Line) (line : Line) (number : ℕ) → IsBuilt line.event → number ≡ last.number + 1 → HasRun m commands lines store last
+    → Keeps (course_after store number (course_behind (start m) c lines) line.event line.reply) → Keeps (course_behind (start m) c (lines ++ line ∷ []))
+keeps_more Keeps m store commands last c lines line number built is r k =
+    subst Keeps (sym (course_push (start m) r.end c lines line built r.run.legal
+        ∙ ap (λ (s : State). course_after s (r.end.number + 1) (course_behind (start m) c lines) line.event line.reply) r.state_is
+        ∙ ap (λ (j : ℕ). course_after store (j + 1) (course_behind (start m) c lines) line.event line.reply) r.number_is
+        ∙ ap (λ (j : ℕ). course_after store j (course_behind (start m) c lines) line.event line.reply) (sym is))) k
 
 -- ---- faults
 

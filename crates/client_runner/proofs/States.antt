@@ -10,7 +10,7 @@ use Rattle.udt_disk.specs.declared.name.FileName.TheVariants.{Log}
 use Rattle.udt_disk.specs.declared.file.DiskFile as file
 use Rattle.udt_disk.specs.declared.disk.Disk as disk
 use Rattle.udt_model.specs.declared.line.FamilyHead.{FamilyHead}
-use Rattle.udt_model.specs.State.{State}
+use Rattle.udt_model.specs.State.{State, unflushed}
 use Rattle.wal.specs.declared.numbered.Numbered.{Numbered}
 use Rattle.wal.specs.Replays.{ReadsAs}
 use Rattle.wal.proofs.Logs.{log_holds_one}
@@ -76,10 +76,10 @@ refused_stands folder NoMemory disk memory refused m stands = memory refl
 -- ---- folders that are opened
 
 abbrev with_state : List FamilyHead → List Version → Seq → State
-with_state heads versions last = record { heads = heads; versions = versions; last = last; halted = None }
+with_state heads versions last = unflushed heads versions last None
 
 -- a folder that was opened stands for what is told of it
-pub opened_stands : {D F : Type 0} (d : disk.Ghosts D F) (f : file.Ghosts F) (old : D) (parts : Parts D F f) → IsOpened d f old parts → FolderStands (d.stands old) (record { heads = parts.heads.items; versions = parts.versions.items; last = parts.last; halted = None })
+pub opened_stands : {D F : Type 0} (d : disk.Ghosts D F) (f : file.Ghosts F) (old : D) (parts : Parts D F f) → IsOpened d f old parts → FolderStands (d.stands old) (unflushed parts.heads.items parts.versions.items parts.last None)
 opened_stands d f old parts opened =
     let m : State = state_of opened.fold opened.batches in
     record {

@@ -23,7 +23,9 @@ use Rattle.udt_model.specs.declared.line.FamilyHead.{FamilyHead}
 use Rattle.udt_model.specs.declared.place.Place.{Place}
 use Rattle.udt_model.specs.declared.reply.Reply.{Reply}
 use Rattle.udt_model.specs.declared.reply.Reply.TheVariants as replies
-use Rattle.udt_model.specs.State.{State, accepted_unless, admitted, done_unless, family_of, family_or_first, made, place_from, place_of, unknown, unknown_place, version_of, ◌or_else◌}
+use Rattle.udt_model.specs.State.{State, place_from, family_or}
+use Rattle.client_runner.specs.Named.{accepted_unless, admitted, done_unless, family_of, made, place_of, unknown, version_of}
+use Rattle.udt_model.specs.Refusals.{unknown_place, ◌or_else◌}
 use Rattle.wal.specs.declared.numbered.Numbered.{Numbered}
 use Rattle.wal.specs.declared.wal.Wal.{Wal}
 use Rattle.wal.specs.Replays.{IsBeforeOrAfter}
@@ -32,8 +34,13 @@ use Rattle.client_lang.specs.Print.{IsBuilt}
 use Rattle.client_runner.specs.Adding.{IsAdmitted, op_of, refusal_of, with_versions}
 use Rattle.client_runner.specs.Logging.{HasRoom, HoldsLogged, IsLogged, batch_behind}
 use Rattle.client_runner.specs.LoggedStores.{IsInStep, IsStep}
-use Rattle.client_runner.proofs.Adding.{reply_found}
+use Rattle.udt_model.specs.Crashes.{Course}
+use Rattle.client_runner.specs.Adding.{IsRefusal}
+use Rattle.client_runner.specs.Named.{course_after}
+use Rattle.client_runner.specs.LoggedStores.{IsStepCause}
+use Rattle.client_runner.proofs.Adding.{refusal_built, refusal_leaves, refusal_sound, reply_found}
 use Rattle.client_runner.proofs.VersionLemmas.{length-ops, numbered_of}
+use Rattle.client_runner.proofs.Naming.{same_admitted}
 use Rattle.client_runner.proofs.KeepingLemmas.{halted_at, still_on, sync_fails_on, sync_on, taken, write_fails, write_on}
 
 -- ---- the batch of a write
@@ -63,22 +70,22 @@ none_second (Some r) b none = absurd (none-some r (sym none))
 pub all_known : (m : State) (os : List NamedOp) → refusal_of m os ≡ None → unknown m os ≡ None
 all_known m os none = none_first (unknown m os) _ (none_first (unknown m os or_else _) _ none)
 
-either_within : (b : Bool) (p q : Option Place) (k : ℕ) → (unknown_place p ≡ None → (family_or_first p).0 < k) → (unknown_place q ≡ None → (family_or_first q).0 < k)
-    → unknown_place (cond b p q) ≡ None → (family_or_first (cond b p q)).0 < k
-either_within true p q k first second known = first known
-either_within false p q k first second known = second known
+either_within : (b : Bool) (p q : Option Place) (j k : ℕ) → (unknown_place p ≡ None → (family_or j p).0 < k) → (unknown_place q ≡ None → (family_or j q).0 < k)
+    → unknown_place (cond b p q) ≡ None → (family_or j (cond b p q)).0 < k
+either_within true p q j k first second known = first known
+either_within false p q j k first second known = second known
 
-place_within : (n : ℕ) (heads : List FamilyHead) (name : List ℕ) → unknown_place (place_from n heads name) ≡ None → (family_or_first (place_from n heads name)).0 < n + length heads
-place_within n [] name known = absurd (none-some replies.Unknown (sym known))
-place_within n (head ∷ heads) name known =
-    either_within (bytes_eq head.name name) (Some (record { family = record { 0 = n }; floor = head.floor })) (place_from (n + 1) heads name) (n + length (head ∷ heads))
-    (λ _. omega arith) (λ behind. let within = place_within (n + 1) heads name behind in omega (arith, within)) known
+place_within : (n j : ℕ) (heads : List FamilyHead) (name : List ℕ) → unknown_place (place_from n heads name) ≡ None → (family_or j (place_from n heads name)).0 < n + length heads
+place_within n j [] name known = absurd (none-some replies.Unknown (sym known))
+place_within n j (head ∷ heads) name known =
+    either_within (bytes_eq head.name name) (Some (record { family = record { 0 = n }; floor = head.floor })) (place_from (n + 1) heads name) j (n + length (head ∷ heads))
+    (λ _. omega arith) (λ behind. let within = place_within (n + 1) j heads name behind in omega (arith, within)) known
 
 -- the families of a write's operations are among those of the store
 pub made_within : (m : State) (n k : ℕ) (os : List NamedOp) → k ≡ length m.heads → unknown m os ≡ None → All (λ (op : WriteOp). op.family.0 < k) (map op_of (made m n os))
 made_within m n k [] size known = All-nil (λ (op : WriteOp). op.family.0 < k)
 made_within m n k (o ∷ os) size known =
-    let first : (family_of m o).0 < 0 + length m.heads = place_within 0 m.heads o.family (none_first (unknown_place (place_of m o.family)) (unknown m os) known) in
+    let first : (family_of m o).0 < 0 + length m.heads = place_within 0 (length m.heads) m.heads o.family (none_first (unknown_place (place_of m o.family)) (unknown m os) known) in
     All-cons (λ (op : WriteOp). op.family.0 < k) (op_of (version_of (family_of m o) o (n + 1))) (map op_of (made m (n + 1) os)) (omega (arith, first, size)) (made_within m (n + 1) k os size (none_second (unknown_place (place_of m o.family)) (unknown m os) known))
 
 drop_front : (vs more : List Version) (n : ℕ) → n ≡ length vs → drop n (vs ++ more) ≡ more
@@ -129,6 +136,18 @@ added_back m now new count os added is =
 pub added_taken : (m now new : State) (count : ℕ) (os : List NamedOp) → IsAdded m now count os → new ≡ record now { last = record { 0 = now.last.0 + length os } } → new ≡ taken m os
 added_taken m now new count os added is = is ∙ ap (λ (s : State). let t : State = record s { last = record { 0 = s.last.0 + length os } } in t) added.is
 
+-- a write that is refused leaves the course
+course_stays : (m : State) (number : ℕ) (c : Course) (os : List NamedOp) (sync : Bool) (r : Reply) → IsRefusal r → course_after m number c (Write os sync) r ≡ c
+course_stays m number c os sync (replies.OkAt n) refusal = absurd refusal
+course_stays m number c os sync replies.Fault refusal = absurd refusal
+course_stays m number c os sync r refusal = refl
+
+pub refused_same : (old new : State) (os : List NamedOp) (found : Option Reply) (r : Reply) → found ≡ Some r → IsAdmitted old os found new → new ≡ old
+refused_same old new os found r some admitted = subst (λ (f : Option Reply). IsAdmitted old os f new) some admitted
+
+pub refused_told : (m : State) (os : List NamedOp) (found : Option Reply) (r : Reply) → m.halted ≡ None → found ≡ refusal_of m os → found ≡ Some r → r ≡ admitted m os
+refused_told m os found r works is some = ap (accepted_unless (m.last.0 + length os)) (sym some) ∙ reply_found m os found works is
+
 -- ---- steps
 
 module _ {F : Type 0} (g : Ghosts F) where
@@ -150,7 +169,7 @@ module _ {F : Type 0} (g : Ghosts F) where
         later = logged.later;
         same = logged.same;
         sizes = logged.sizes;
-        keeps_on = write_on g old new m os sync works logged;
+        keeps_on = write_on g old new m number os sync works logged;
       }
 
   -- the disk fails under a write
@@ -165,7 +184,7 @@ module _ {F : Type 0} (g : Ghosts F) where
     later = logged.later;
     same = logged.same;
     sizes = logged.sizes;
-    keeps_on = write_fails g old new m number os sync works logged;
+    keeps_on = write_fails g old new m number os sync works (told ∙ sym (same_admitted m os)) logged;
   }
 
   -- memory runs out under a write
@@ -180,12 +199,28 @@ module _ {F : Type 0} (g : Ghosts F) where
     later = logged.later;
     same = logged.same;
     sizes = logged.sizes;
-    keeps_on = still_on g only_now old new m (Write os sync) replies.NoMemory (λ c. refl) logged.goes_on.1 (holds_still sync logged.holds);
+    keeps_on = still_on g only_now old new m number (Write os sync) replies.NoMemory (λ c. refl) logged.goes_on.1 (holds_still sync logged.holds);
   }
     where
       holds_still : (sync : Bool) → ((bs ws : List Numbered) → Holds g old bs ws → HoldsLogged g new bs ws (numbered_of m os) sync (Err NoMemory)) → (bs ws : List Numbered) → Holds g old bs ws → Holds g new bs ws
       holds_still true holds = holds
       holds_still false holds = holds
+
+  -- a write is refused
+  pub step_refused : ((x : F) (image : Image) → g.left_since x (g.moment x) image → g.may_leave x image) → (wal : Wal F g) (m n : State) (number : ℕ) (os : List NamedOp) (sync : Bool) (r : Reply) → n ≡ m → IsInStep g wal m → r ≡ admitted m os → IsRefusal r
+      → IsStep g wal wal m n number (Write os sync) r
+  step_refused only_now wal m n number os sync r same in_step told refusal = step_at wal wal m m n m number (Write os sync) r refl same
+      (record {
+        legal = inl told;
+        after_is = sym (refusal_leaves m number os sync r refusal);
+        built = refusal_built r refusal;
+        in_step = in_step;
+        cause = subst (IsStepCause (g.faults (file_of wal)) (g.faults (file_of wal))) (sym (refusal_sound r refusal)) refl;
+        later = omega arith;
+        same = record { name = refl; told = refl; model = refl };
+        sizes = refl;
+        keeps_on = still_on g only_now wal wal m number (Write os sync) r (λ c. course_stays m number c os sync r refusal) refl (λ bs ws holds. holds);
+      })
 
   -- the store isn't halted, and a write was admitted and then logged with this result
   pub record Logs (old new : Wal F g) (m plain now : State) (count : ℕ) (os : List NamedOp) (sync : Bool) (result : Result (Unit {0}) LogFault) : Type 0 where
@@ -257,7 +292,7 @@ module _ {F : Type 0} (g : Ghosts F) where
     later = omega (arith, faults);
     same = same;
     sizes = sizes;
-    keeps_on = sync_on g old new m works sizes holds run;
+    keeps_on = sync_on g old new m number works sizes holds run;
   }
 
   -- the disk fails under a sync

@@ -11,7 +11,8 @@ use Rattle.ts_key.specs.declared.batch.WriteOp.{WriteOp}
 use Rattle.ts_key.specs.declared.version.Version.{Version}
 use Rattle.udt_disk.specs.declared.file.DiskFile.{Ghosts}
 use Rattle.udt_model.specs.declared.event.NamedOp.{NamedOp}
-use Rattle.udt_model.specs.State.{State, family_of, made, version_of}
+use Rattle.udt_model.specs.State.{State, unflushed}
+use Rattle.client_runner.specs.Named.{family_of, made, version_of}
 use Rattle.udt_model.specs.Crashes.{cut_at}
 use Rattle.wal.specs.declared.numbered.Numbered.{Numbered}
 use Rattle.wal.specs.declared.wal.Wal.{Wal}
@@ -118,14 +119,14 @@ cut_state fold bs ws above =
     ∙ ap (λ (vs : List Version). vs ++ filter (up_to end) (versions_of ws)) (versions_kept end fold.last.0 bs (above_front fold.last.0 bs ws above) (omega arith))
     ∙ ap (λ (vs : List Version). versions_of bs ++ vs) (versions_cut end end ws (above_behind fold.last.0 bs ws above) (omega arith))
     ∙ append-nil (versions_of bs) in
-    ap (λ (vs : List Version). let m : State = record { heads = map head_of fold.families; versions = vs; last = record { 0 = end }; halted = None } in m) (sym kept)
+    ap (λ (vs : List Version). let m : State = unflushed (map head_of fold.families) (vs) (record { 0 = end }) None in m) (sym kept)
 
 -- and all of them are all writes
 pub whole_state : (fold : Folded) (bs : List Numbered) → Above 0 bs → state_of fold bs ≡ cut_at (state_of fold bs) (last_of fold.last.0 bs)
 whole_state fold [] above = refl
 whole_state fold (b ∷ bs) above =
     let end : ℕ = last_of 0 (b ∷ bs) in
-    ap (λ (vs : List Version). let m : State = record { heads = map head_of fold.families; versions = vs; last = record { 0 = end }; halted = None } in m) (sym (versions_kept end 0 (b ∷ bs) above (omega arith)))
+    ap (λ (vs : List Version). let m : State = unflushed (map head_of fold.families) (vs) (record { 0 = end }) None in m) (sym (versions_kept end 0 (b ∷ bs) above (omega arith)))
 
 -- ---- a write, and its batch
 
@@ -147,10 +148,9 @@ logged_made m n (o ∷ os) = ap (λ (vs : List Version). version_of (family_of m
 
 -- what a write makes of the state of batches
 pub state_more : (fold : Folded) (m : State) (all : List Numbered) (os : List NamedOp) → m ≡ state_of fold all
-    → (let n : State = record { heads = m.heads; versions = m.versions ++ made m m.last.0 os; last = record { 0 = m.last.0 + length os }; halted = None } in n) ≡ state_of fold (all ++ numbered_of m os ∷ [])
+    → (let n : State = record m { versions = m.versions ++ made m m.last.0 os; last = record { 0 = m.last.0 + length os }; halted = None } in n) ≡ state_of fold (all ++ numbered_of m os ∷ [])
 state_more fold m all os is =
     let b : Numbered = numbered_of m os in
-    let heads : m.heads ≡ map head_of fold.families = ap (λ (s : State). s.heads) is in
     let versions : m.versions ++ made m m.last.0 os ≡ versions_of (all ++ b ∷ []) =
     ap (λ (s : State). s.versions ++ made m m.last.0 os) is
     ∙ ap (λ (vs : List Version). versions_of all ++ vs) (sym (logged_made m m.last.0 os) ∙ sym (append-nil (logged (m.last.0 + 1) b.batch)))
@@ -158,9 +158,9 @@ state_more fold m all os is =
     let last : m.last.0 + length os ≡ last_of fold.last.0 (all ++ b ∷ []) =
     let e : m.last.0 + length os ≡ m.last.0 + 1 + length b.batch - 1 = omega (arith, length-ops m m.last.0 os) in
     e ∙ sym (last_append fold.last.0 all (b ∷ [])) in
-    ap (λ (hs : List _). let n : State = record { heads = hs; versions = m.versions ++ made m m.last.0 os; last = record { 0 = m.last.0 + length os }; halted = None } in n) heads
-    ∙ ap (λ (vs : List Version). let n : State = record { heads = map head_of fold.families; versions = vs; last = record { 0 = m.last.0 + length os }; halted = None } in n) versions
-    ∙ ap (λ (k : ℕ). let n : State = record { heads = map head_of fold.families; versions = versions_of (all ++ b ∷ []); last = record { 0 = k }; halted = None } in n) last
+    ap (λ (s : State). let n : State = record s { versions = m.versions ++ made m m.last.0 os; last = record { 0 = m.last.0 + length os }; halted = None } in n) is
+    ∙ ap (λ (vs : List Version). let n : State = unflushed (map head_of fold.families) (vs) (record { 0 = m.last.0 + length os }) None in n) versions
+    ∙ ap (λ (k : ℕ). let n : State = unflushed (map head_of fold.families) (versions_of (all ++ b ∷ [])) (record { 0 = k }) None in n) last
 
 -- ---- the batches of a log
 

@@ -6,7 +6,9 @@ use Rattle.udt_model.specs.declared.reply.Reply.TheVariants.{OkAt, Fault}
 use Rattle.ts_key.specs.declared.batch.WriteOp.{WriteOp}
 use Rattle.ts_key.specs.declared.version.Version.{Version}
 use Rattle.client_lang.specs.Print.{IsBuiltReply}
-use Rattle.udt_model.specs.State.{State, family_of, full, made, refused, unknown, version_of, ◌or_else◌}
+use Rattle.udt_model.specs.State.{State}
+use Rattle.client_runner.specs.Named.{family_of, full, made, refused, unknown, version_of}
+use Rattle.udt_model.specs.Refusals.{◌or_else◌}
 
 -- the state with these versions
 abbrev pub with_versions : State → List Version → State

@@ -6,6 +6,7 @@ pub mod Keeping
 pub mod Logging
 pub mod LoggedStores
 pub mod Expand
+pub mod Named
 pub mod Adding
 pub mod VersionLists
 pub mod Transcripts
@@ -23,3 +24,4 @@ pub mod Ready
 pub mod Runs
 pub mod HostRuns
 pub mod Ends
+pub mod Judging

@@ -5,8 +5,10 @@ use Rattle.udt_disk.specs.declared.file.DiskFile.{Ghosts}
 use Rattle.udt_model.specs.declared.event.Event.{Event}
 use Rattle.udt_model.specs.declared.reply.Reply.{Reply}
 use Rattle.udt_model.specs.State.{State}
-use Rattle.udt_model.specs.Crashes.{Course, course_after}
-use Rattle.udt_model.specs.Steps.{IsReply, says_fault, after}
+use Rattle.udt_model.specs.Crashes.{Course}
+use Rattle.client_runner.specs.Named.{course_after}
+use Rattle.client_runner.specs.Named.{IsReply, after}
+use Rattle.udt_model.specs.Lines.{says_fault}
 use Rattle.gate_log.specs.Outcomes.{IsSameFile}
 use Rattle.gate_log.specs.Tearing.{Leaves}
 use Rattle.wal.specs.declared.wal.Wal.{Wal}
@@ -40,10 +42,10 @@ module _ {F : Type 0} (g : Ghosts F) where
 
   -- Where the old log kept the history, the new one keeps it with this event; and at each moment between them a crash left an
   -- outcome of the one or of the other. The families of the fold have the log's sizes.
-  pub record KeepsOn (old new : Wal F g) (m n : State) (event : Event) (reply : Reply) : Type 0 where
-    pub keeps : (fold : Folded) (c : Course) → fold.last.0 ≡ 0 → stores.sizes_of fold ≡ sizes_of old → Keeps g fold old m c → Keeps g fold new n (course_after m c event reply)
+  pub record KeepsOn (old new : Wal F g) (m n : State) (number : ℕ) (event : Event) (reply : Reply) : Type 0 where
+    pub keeps : (fold : Folded) (c : Course) → fold.last.0 ≡ 0 → stores.sizes_of fold ≡ sizes_of old → Keeps g fold old m c → Keeps g fold new n (course_after m number c event reply)
     pub moments : (fold : Folded) (c : Course) → fold.last.0 ≡ 0 → stores.sizes_of fold ≡ sizes_of old → Keeps g fold old m c
-        → Leaves g (file_of old) (file_of new) (λ image. ReadsAsOutcome fold m c image ⊎ ReadsAsOutcome fold n (course_after m c event reply) image)
+        → Leaves g (file_of old) (file_of new) (λ image. ReadsAsOutcome fold m c image ⊎ ReadsAsOutcome fold n (course_after m number c event reply) image)
 
   -- what the event of this number leaves of the log and the state with this reply, and that the reply is legal
   pub record IsStep (old new : Wal F g) (m n : State) (number : ℕ) (event : Event) (reply : Reply) : Type 0 where
@@ -55,4 +57,4 @@ module _ {F : Type 0} (g : Ghosts F) where
     pub later : g.faults (file_of old) ≤ g.faults (file_of new)
     pub same : IsSameFile g (file_of old) (file_of new)
     pub sizes : sizes_of new ≡ sizes_of old
-    pub keeps_on : KeepsOn old new m n event reply
+    pub keeps_on : KeepsOn old new m n number event reply

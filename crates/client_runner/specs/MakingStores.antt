@@ -6,7 +6,7 @@ use Rattle.udt_disk.specs.Joint.{Folder}
 use Rattle.udt_disk.specs.declared.name.FileName.{FileName}
 use Rattle.udt_disk.specs.declared.disk.Disk.{Ghosts}
 use Rattle.udt_model.specs.declared.line.FamilyHead.{FamilyHead}
-use Rattle.udt_model.specs.State.{State}
+use Rattle.udt_model.specs.State.{State, unflushed}
 use Rattle.manifest.specs.declared.fold.Folded.{Folded}
 use Rattle.manifest.specs.Folders.{Means}
 use Rattle.manifest.specs.Folders.Meaning.{no_store, bad_at, store}
@@ -16,7 +16,7 @@ use Rattle.client_runner.specs.declared.making.InitFault.TheVariants.{StoreExist
 
 -- the state of a store of these families in which nothing was written
 abbrev pub new_state : List FamilyHead → State
-new_state families = record { heads = families; versions = []; last = record { 0 = 0 }; halted = None }
+new_state families = unflushed families [] (record { 0 = 0 }) None
 
 -- there is no store, or the one of these families in which nothing was written
 abbrev pub IsNoneOrNew : List FamilyHead → Folder → Type 0

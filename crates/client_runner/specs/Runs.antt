@@ -6,7 +6,7 @@ use Rattle.udt_disk.specs.declared.name.FileName.{FileName}
 use Rattle.udt_disk.specs.declared.file.DiskFile as file
 use Rattle.udt_disk.specs.declared.disk.Disk as disk
 use Rattle.udt_model.specs.declared.line.Line.{Line}
-use Rattle.udt_model.specs.State.{State}
+use Rattle.udt_model.specs.State.{State, unflushed}
 use Rattle.udt_model.specs.Histories.{Point, Leads, start}
 use Rattle.client_lang.specs.declared.command.Command.{Command}
 use Rattle.client_lang.specs.Print.{IsBuiltLine, print_header}
@@ -56,7 +56,7 @@ stop_of_opening faults.NoMemory = NoMemory
 
 -- what the parts of a store that was opened say
 abbrev pub state_of_parts : {D F : Type 0} {f : file.Ghosts F} → Parts D F f → State
-state_of_parts parts = record { heads = parts.heads.items; versions = parts.versions.items; last = parts.last; halted = None }
+state_of_parts parts = unflushed parts.heads.items parts.versions.items parts.last None
 
 -- the files that the parts hold
 abbrev pub files_of : {D F : Type 0} {f : file.Ghosts F} → Parts D F f → List F

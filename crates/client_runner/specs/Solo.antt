@@ -7,7 +7,7 @@ use Rattle.udt_model.specs.declared.line.Line.{Line}
 use Rattle.udt_model.specs.declared.line.Mark.{Mark}
 use Rattle.udt_model.specs.declared.line.Who.TheVariants.{Client, Runner}
 use Rattle.udt_model.specs.State.{State}
-use Rattle.udt_model.specs.Steps.{is_step}
+use Rattle.udt_model.specs.Lines.{is_step}
 use Rattle.udt_model.specs.Histories.{Point, IsSound}
 use Rattle.client_lang.specs.declared.command.Command.{Command}
 use Rattle.client_lang.specs.Print.{IsBuiltLine}

@@ -5,7 +5,7 @@ use Rattle.ts_key.specs.declared.version.Version.{Version}
 use Rattle.udt_disk.specs.Joint.{Folder}
 use Rattle.udt_disk.specs.declared.name.FileName.TheVariants.{Log}
 use Rattle.udt_model.specs.declared.line.FamilyHead.{FamilyHead}
-use Rattle.udt_model.specs.State.{State}
+use Rattle.udt_model.specs.State.{State, unflushed}
 use Rattle.wal.specs.declared.numbered.Numbered.{Numbered}
 use Rattle.wal.specs.Replays.{ReadsAs}
 use Rattle.manifest.specs.declared.fold.FamilyFold.{FamilyFold}
@@ -39,7 +39,7 @@ sizes_of fold = map (λ f. 8) fold.families
 -- The state that a manifest's fold and the batches of its live log stand for. Until there are tables every version is in the
 -- log.
 abbrev pub state_of : Folded → List Numbered → State
-state_of fold batches = record { heads = map head_of fold.families; versions = versions_of batches; last = record { 0 = last_of fold.last.0 batches }; halted = None }
+state_of fold batches = unflushed (map head_of fold.families) (versions_of batches) (record { 0 = last_of fold.last.0 batches }) None
 
 -- The folder stands for this state: its manifest has a fold, its live log holds batches, and the state is theirs.
 pub record FolderStands (folder : Folder) (m : State) : Type 0 where

@@ -3,7 +3,7 @@ use Rattle.std.specs.Prelude.{◌≡◌, ℕ, List, [], ◌∷◌, ◌++◌, cod
 use Rattle.ts_key.specs.declared.version.Form.TheVariants.{Persist}
 use Rattle.client_lang.specs.declared.command.Command.{Command}
 use Rattle.udt_model.specs.declared.line.Line.{Line}
-use Rattle.udt_model.specs.State.{State}
+use Rattle.udt_model.specs.State.{State, unflushed}
 use Rattle.udt_model.specs.Histories.{IsSound, Point}
 use Rattle.client_runner.specs.Expand.{IsSoloHistory, IsRunHistory}
 use Rattle.client_lang.specs.Print.{print_header, print_lines}
@@ -11,7 +11,7 @@ use Rattle.client_lang.specs.Grammar.{IsFile}
 
 -- the one family d, which keeps its timestamps, at floor 0, and no version
 abbrev pub fresh : State
-fresh = record { heads = record { name = codes "d"; form = Persist; floor = record { 0 = 0 } } ∷ []; versions = []; last = record { 0 = 0 }; halted = None }
+fresh = unflushed (record { name = codes "d"; form = Persist; floor = record { 0 = 0 } } ∷ []) [] (record { 0 = 0 }) None
 
 -- The file spells these commands and no others, and the text is the header and the printed lines of a legal history of
 -- them from the empty list.

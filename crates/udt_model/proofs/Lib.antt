@@ -1,1 +1,5 @@
 pub mod Newest
+pub mod Rows
+pub mod Laws
+pub mod CrashRows
+pub mod Limits

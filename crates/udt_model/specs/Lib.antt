@@ -1,6 +1,16 @@
 pub mod Versions
+pub mod Orders
 pub mod Reads
+pub mod Scans
+pub mod Collecting
 pub mod State
+pub mod Acts
+pub mod Refusals
+pub mod Jobs
 pub mod Steps
+pub mod Names
+pub mod Lines
 pub mod Histories
 pub mod Crashes
+pub mod Standing
+pub mod Entries

@@ -1,9 +1,11 @@
 -- Versions of keys, and which one a read sees.
-use Rattle.std.specs.Prelude.{ℕ, Bool, ◌==◌, nat_lt, nat_le, ◌&&◌, ◌||◌, if◌then◌else◌, List, [], ◌∷◌, filter, Option, Some, None}
+use Rattle.std.specs.Prelude.{ℕ, Bool, true, false, ◌==◌, nat_lt, nat_le, ◌&&◌, ◌||◌, if◌then◌else◌, List, [], ◌∷◌, filter, Option, Some, None}
 use Rattle.std.specs.Str.{bytes_eq}
 use Rattle.ts_key.specs.declared.numbers.Family.{Family}
 use Rattle.ts_key.specs.declared.numbers.Ts.{Ts}
 use Rattle.ts_key.specs.declared.numbers.Seq.{Seq}
+use Rattle.ts_key.specs.declared.version.Op.{Op}
+use Rattle.ts_key.specs.declared.version.Op.TheVariants.{Put, Del}
 use Rattle.ts_key.specs.declared.version.Version.{Version}
 
 -- it has a larger timestamp, or the same and a larger sequence
@@ -36,3 +38,17 @@ is_within t s v = nat_le v.ts.0 t.0 && nat_le v.seq.0 s.0
 -- among the versions of the key with timestamps up to t and sequences up to s the newest
 abbrev pub visible : List Version → Family → List ℕ → Ts → Seq → Option Version
 visible w family key t s = newest_of (filter (is_within t s) (of_key w family key))
+
+-- ---- parts of a list
+
+-- the versions with sequences up to s
+abbrev pub up_to : ℕ → List Version → List Version
+up_to s w = filter (λ v. nat_le v.seq.0 s) w
+
+-- the versions of a family with sequences above low, up to high
+abbrev pub between : Family → ℕ → ℕ → List Version → List Version
+between family low high w = filter (λ v. v.family.0 == family.0 && nat_lt low v.seq.0 && nat_le v.seq.0 high) w
+
+abbrev pub puts : Op → Bool
+puts (Put value) = true
+puts Del = false

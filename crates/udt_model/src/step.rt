@@ -1,6 +1,6 @@
 //! Which lines are steps of a history.
 ghost use Rattle.std.specs.Prelude.{◌≡◌};
-ghost use Rattle.udt_model.specs.Steps.{is_numbered as event_is_numbered, is_read as event_is_read, is_step as line_is_step};
+ghost use Rattle.udt_model.specs.Lines.{is_numbered as event_is_numbered, is_read as event_is_read, is_step as line_is_step};
 
 use crate::event::Event;
 use crate::reply::Reply;

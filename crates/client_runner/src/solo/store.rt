@@ -1,8 +1,11 @@
 //! The store of one client: a plain list of every version that was written. A look-up scans the list, for now; a write
 //! at or above the latest timestamp needs none.
 ghost use Rattle.std.specs.Prelude.{◌≡◌, ℕ, ◌+◌, ◌-◌, ◌^◌, ◌<◌, ◌≤◌, [], false, nat_lt, if◌then◌else◌, length, take, drop, map, Bool, None, Ok, IfOk, IfSome, OnErr};
-ghost use Rattle.udt_model.specs.State.{place_of, got, admitted, synced, refusal, refused, reply_of_read as told_reply, unknown as unknown_of};
-ghost use Rattle.udt_model.specs.Steps.{IsReply, says_fault, after as state_after};
+ghost use Rattle.client_runner.specs.Named.{place_of, admitted, synced, refusal, refused, unknown as unknown_of};
+ghost use Rattle.udt_model.specs.State.{unflushed};
+ghost use Rattle.udt_model.specs.Steps.{got, reply_of_read as told_reply};
+ghost use Rattle.client_runner.specs.Named.{IsReply, after as state_after};
+ghost use Rattle.udt_model.specs.Lines.{says_fault};
 ghost use Rattle.client_lang.specs.Print.{IsBuilt, IsBuiltReply};
 ghost use Rattle.ts_key.specs.Batches.{IsBatch};
 ghost use Rattle.client_runner.specs.Adding.{Grows, IsAdded, IsAdmitted, IsRefusal, after_op, op_of, refusal_of, with_versions};
@@ -89,11 +92,11 @@ pub struct PlainStore {
 
 impl Model for PlainStore {
     ghost use Rattle.std.specs.Prelude.{◌<◌, ◌≤◌, ◌^◌, length, None};
-    ghost use Rattle.udt_model.specs.State.{State};
+    ghost use Rattle.udt_model.specs.State.{State, unflushed};
 
     ghost Value = { State };
 
-    ghost view = { λ s. record { heads = s.heads.items; versions = s.versions; last = s.last; halted = None } };
+    ghost view = { λ s. unflushed s.heads.items s.versions s.last None };
 
     ghost invariant = { λ s. (s.last.0 < 2 ^ 56) × (length s.heads.items ≤ 16) };
 }
@@ -103,7 +106,7 @@ impl PlainStore {
     pub fn of(heads: Vec<FamilyHead>, versions: Vec<Version>, last: Seq) -> PlainStore
         requires few { length heads.items ≤ 16 }
         requires last { last.0 < 2 ^ 56 }
-        ensures { result ≡ record { heads = heads.items; versions = versions.items; last = last; halted = None } }
+        ensures { result ≡ unflushed heads.items versions.items last None }
     {
         PlainStore {
             heads,
@@ -115,7 +118,7 @@ impl PlainStore {
     /// A store of these families, without a version.
     pub fn new(alloc: Global, heads: Vec<FamilyHead>) -> PlainStore
         requires { length heads.items ≤ 16 }
-        ensures { result ≡ record { heads = heads.items; versions = []; last = record { 0 = 0 }; halted = None } }
+        ensures { result ≡ unflushed heads.items [] (record { 0 = 0 }) None }
     {
         PlainStore {
             heads,

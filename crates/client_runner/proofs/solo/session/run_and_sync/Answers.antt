@@ -1,4 +1,4 @@
-use Rattle.std.proofs.Common.{◌+◌, arith}
+use Rattle.std.proofs.Common.{◌+◌, refl, arith}
 use Rattle.std.proofs.lemmas.List.Elements.{All-push}
 use Rattle.client_lang.specs.Print.{IsBuiltLine}
 use Rattle.client_runner.specs.LoggedStores.{state_of}
@@ -22,7 +22,7 @@ returns-clause-session g c =
       run =
           synced_last (state_of c.args.store.now) c.args.commands.items c.run_logged-lines.result.lines.items (state_of c.run_logged-lines.new.store) (state_of c.perform-sync.new.store) last c.perform-sync.result r.run
           (record { event_is = line.event; who_is = line.who; mark = line.mark; reply = line.step.legal; after_is = line.step.after_is; printed = line.printed });
-      log = goes_on g.F.DiskFile c.args.store.now c.run_logged-lines.new.store c.perform-sync.new.store c.args.commands.items c.run_logged-lines.result.lines.items last (last.number + 1) c.perform-sync.result r.run r.log line.step;
+      log = goes_on g.F.DiskFile c.args.store.now c.run_logged-lines.new.store c.perform-sync.new.store c.args.commands.items c.run_logged-lines.result.lines.items last (last.number + 1) c.perform-sync.result line.printed.event refl r.run r.log line.step;
     })
 
 pub returns-clause-printed : goal.returns-clause-printed

@@ -1,4 +1,4 @@
-use Rattle.std.proofs.Common.{◌+◌, length, ap, arith}
+use Rattle.std.proofs.Common.{◌+◌, length, ap, refl, arith}
 use Rattle.client_runner.specs.LoggedStores.{state_of}
 use Rattle.client_runner.proofs.SoloLemmas.{none_yet, ran_more, counted_more}
 use Rattle.client_runner.proofs.SessionLemmas.{goes_nowhere, goes_on}
@@ -23,7 +23,7 @@ loop-command-preserved g c =
         run =
             ran_more (state_of c.args.store.now) c.loop-command.yielded c.loop-command.lines.items (state_of c.loop-command.store) (state_of c.perform-line.new.store) c.loop-command.last c.event_of.result c.perform-line.result r.run
             (record { event_is = line.event; who_is = line.who; mark = line.mark; reply = line.step.legal; after_is = line.step.after_is; printed = line.printed });
-        log = goes_on g.F.DiskFile c.args.store.now c.loop-command.store c.perform-line.new.store c.loop-command.yielded c.loop-command.lines.items c.loop-command.last (c.loop-command.last.number + 1) c.perform-line.result r.run r.log line.step;
+        log = goes_on g.F.DiskFile c.args.store.now c.loop-command.store c.perform-line.new.store c.loop-command.yielded c.loop-command.lines.items c.loop-command.last (c.loop-command.last.number + 1) c.perform-line.result line.printed.event refl r.run r.log line.step;
         counted = counted_more c.loop-command.yielded c.loop-command.lines.items c.event_of.result c.perform-line.result r.counted;
       },
       (let room = c.add_line.ensures.room in omega (arith, c.loop-command.invariant.1)),

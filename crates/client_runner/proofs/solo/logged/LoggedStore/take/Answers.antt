@@ -1,10 +1,12 @@
-use Rattle.std.proofs.Common.{ℕ, Option, ap, sym, ◌∙◌}
-use Rattle.std.specs.Prelude.{Ok, Err}
+use Rattle.std.proofs.Common.{◌≡◌, ℕ, Option, ap, sym, subst, ◌∙◌}
+use Rattle.std.specs.Prelude.{Ok, Err, Some, IfSome}
 use Rattle.udt_disk.specs.Crash.{Image}
 use Rattle.gate_log.specs.declared.fault.LogFault.TheVariants as faults
 use Rattle.udt_model.specs.State.{State}
+use Rattle.client_runner.specs.Adding.{IsRefusal}
+use Rattle.client_runner.specs.Named.{admitted}
 use Rattle.client_runner.specs.LoggedStores.{state_of, wal_of}
-use Rattle.client_runner.proofs.StepLemmas.{added_batch, added_last, added_within, is_added, is_logged, logs_failed, logs_nothing, logs_taken}
+use Rattle.client_runner.proofs.StepLemmas.{added_batch, added_last, added_within, is_added, is_logged, logs_failed, logs_nothing, logs_taken, refused_same, refused_told, step_refused}
 use Rattle.client_runner.proofs.solo.logged.LoggedStore.take.Goals as goal
 
 pub log_behind-requires-clause-batch : goal.log_behind-requires-clause-batch
@@ -52,3 +54,18 @@ returns-in-Err-DiskFault g c =
     let logs = is_logged g.F.DiskFile (wal_of s) c.log_behind.new.wal s.plain c.admit.new.self s.halted c.count-count.result c.args.ops.now found.field-0 c.args.sync c.log_behind.result (Err faults.DiskFault)
     c.requires.works found.ensures.works found.field-0-is found.ensures.ok found.ensures.refusal c.count-count.ensures (c.in-Err-DiskFault.is ∙ ap Err c.in-Err-DiskFault.field-0-is) c.log_behind.ensures c.requires.in_step in
     logs_failed g.F.DiskFile (wal_of s) c.log_behind.new.wal (state_of s) s.plain c.admit.new.self back.new.self c.count-count.result c.args.number c.args.ops.now c.args.sync logs back.ensures
+
+pub returns-in-Ok-Some : goal.returns-in-Ok-Some
+returns-in-Ok-Some g c =
+    let only_now = λ (x : g.row.F.Denot) (image : Image) (left : g.F.DiskFile.left_since x (g.F.DiskFile.moment x) image). (g.met.F.DiskFile g.world.𝓛 g.world.𝓜 g.world.𝓡 ((λ s x. x), (λ x. x), (λ x. x), λ x. x)).only_now x image left in
+    let s = c.args.self.now in
+    let found = c.in-Ok-Some in
+    let works : s.plain.halted ≡ _ = found.ensures.works in
+    let back : c.admit.new.self ≡ s.plain = refused_same s.plain c.admit.new.self c.args.ops.now found.field-0 found.refusal found.field-0-is found.ensures.ok in
+    let state : state_of s ≡ s.plain = ap (λ (h : Option ℕ). let m : State = record s.plain { halted = h } in m) (c.requires.works ∙ sym works) in
+    let told = ap (λ (m : State). admitted m c.args.ops.now) (sym state) in
+    step_refused g.F.DiskFile only_now (wal_of s) (state_of s) _ c.args.number c.args.ops.now c.args.sync found.refusal
+    (ap (λ (m : State). let n : State = record m { halted = s.halted } in n) back)
+    c.requires.in_step
+    (refused_told s.plain c.args.ops.now found.field-0 found.refusal works found.ensures.refusal found.field-0-is ∙ told)
+    (subst (λ (f : Option _). IfSome f IsRefusal) found.field-0-is found.ensures.built)

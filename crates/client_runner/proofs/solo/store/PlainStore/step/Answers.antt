@@ -1,7 +1,7 @@
 use Rattle.std.proofs.Common.{◌≡◌, List, subst}
 use Rattle.udt_model.specs.declared.event.Event.TheVariants.{Write}
 use Rattle.udt_model.specs.declared.event.NamedOp.{NamedOp}
-use Rattle.udt_model.specs.Steps.{after}
+use Rattle.client_runner.specs.Named.{after}
 use Rattle.client_runner.proofs.Adding.{written, told_sound}
 use Rattle.client_runner.proofs.solo.store.PlainStore.step.Goals as goal
 

@@ -1,5 +1,5 @@
 use Rattle.std.proofs.Common.{◌≡◌, drop}
-use Rattle.udt_model.specs.State.{unknown}
+use Rattle.client_runner.specs.Named.{unknown}
 use Rattle.client_runner.proofs.solo.store.PlainStore.unknown.Given as goal
 
 abbrev pub invariant-loop-op : goal.invariant-loop-op

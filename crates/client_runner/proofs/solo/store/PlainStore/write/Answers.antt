@@ -1,5 +1,5 @@
 use Rattle.std.proofs.Common.{◌≡◌, ◌+◌, ◌∙◌, length, ap, sym}
-use Rattle.udt_model.specs.State.{accepted_unless}
+use Rattle.client_runner.specs.Named.{accepted_unless}
 use Rattle.client_runner.proofs.Adding.{reply_found, refusal_leaves, refusal_sound}
 use Rattle.client_runner.proofs.solo.store.PlainStore.write.Goals as goal
 

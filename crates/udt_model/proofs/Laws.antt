@@ -1,0 +1,124 @@
+-- Laws of the definitions.
+use Rattle.std.proofs.Common.{arith, ◌≡◌, ◌≢◌, ℕ, zero, suc, ◌+◌, ◌<◌, true, false, not, List, [], ◌∷◌, ◌++◌, length, map, Option, Some, None, refl, sym, ap, ◌∙◌, subst, inl, inr}
+use Rattle.std.specs.Prelude.{AllPairs, filter, option_map, slice_get, slice_index_or}
+use Rattle.std.specs.Str.{bytes_eq}
+use Rattle.std.proofs.lemmas.Bool.{cases_Bool}
+use Rattle.ts_key.specs.declared.numbers.Family.{Family}
+use Rattle.ts_key.specs.declared.numbers.Ts.{Ts}
+use Rattle.ts_key.specs.declared.version.Form.TheVariants.{Persist}
+use Rattle.ts_key.specs.declared.version.Version.{Version}
+use Rattle.udt_model.specs.declared.line.FamilyHead.{FamilyHead}
+use Rattle.udt_model.specs.declared.line.Line.{Line}
+use Rattle.udt_model.specs.declared.reply.KeySpan.{KeySpan}
+use Rattle.udt_model.specs.declared.place.Place.{Place}
+use Rattle.udt_model.specs.Versions.{visible}
+use Rattle.udt_model.specs.Orders.{is_in_some, stored}
+use Rattle.udt_model.specs.Collecting.{collect, collect_all, is_useless, seen_of}
+use Rattle.udt_model.specs.Standing.{AreAlike, Stands}
+use Rattle.udt_model.specs.State.{State, family_of, family_or, place_at, place_from, place_of_head}
+use Rattle.udt_model.specs.declared.event.Event.{Event}
+use Rattle.udt_model.specs.declared.event.Event.TheVariants.{Snap, Release}
+use Rattle.udt_model.specs.declared.reply.Reply.{Reply}
+use Rattle.udt_model.specs.Names.{Names, SnapName, given_snap, names_after, snap_names, snaps_behind}
+use Rattle.udt_model.specs.Histories.{Leads, Point, behind}
+
+-- ---- collecting
+
+-- a key that lies deeper keeps its deletes
+pub deeper_stays : (kept : List Version) (floor : Ts) (deeper : List KeySpan) (v : Version) → is_in_some deeper v.key ≡ true → is_useless kept floor deeper v ≡ false
+deeper_stays kept floor deeper v inside = grind (arith)
+
+all_stay : (kept : List Version) (floor : Ts) (deeper : List KeySpan) → ((v : Version) → is_in_some deeper v.key ≡ true) → (vs : List Version) → filter (λ v. not (is_useless kept floor deeper v)) vs ≡ vs
+all_stay kept floor deeper everywhere [] = refl
+all_stay kept floor deeper everywhere (v ∷ vs) =
+    let stays : not (is_useless kept floor deeper v) ≡ true = ap not (deeper_stays kept floor deeper v (everywhere v)) in
+    rw (stays, all_stay kept floor deeper everywhere vs) refl
+
+-- with spans that hold every key a compaction keeps what a flush keeps
+pub collect_everywhere : (vs : List Version) (floor : Ts) (seqs : List ℕ) (deeper : List KeySpan) → ((v : Version) → is_in_some deeper v.key ≡ true) → collect vs floor seqs deeper ≡ collect_all vs floor seqs
+collect_everywhere vs floor seqs deeper everywhere = ap stored (all_stay (seen_of vs floor seqs) floor deeper everywhere (seen_of vs floor seqs))
+
+-- ---- families by name and by number
+
+abbrev numbered : ℕ → Family
+numbered n = record { 0 = n }
+
+-- the family of a name stands at its place, as it is found there by name
+pub record Found (n : ℕ) (heads : List FamilyHead) (name : List ℕ) : Type 0 where
+  pub at : ℕ
+  pub family : family_or (n + length heads) (place_from n heads name) ≡ numbered (n + at)
+  pub place : option_map (place_of_head (numbered (n + at))) (slice_get heads at) ≡ place_from n heads name
+
+found : (n : ℕ) (heads : List FamilyHead) (name : List ℕ) → Found n heads name
+found n [] name = record { at = 0; family = refl; place = refl }
+found n (head ∷ heads) name =
+    let here : n + 0 ≡ n = omega arith in
+    elim (cases_Bool (bytes_eq head.name name)) [
+      | inl x ↦ record { at = 0; family = rw x (ap numbered (sym here)); place = rw x (ap (λ (k : ℕ). let p : Option Place = Some (place_of_head (numbered k) head) in p) here) }
+      | inr x ↦
+        let more = found (n + 1) heads name in
+        let next : n + 1 + more.at ≡ n + suc more.at = omega arith in
+        let size : n + length (head ∷ heads) ≡ n + 1 + length heads = omega arith in
+        record {
+          at = suc more.at;
+          family = rw x (ap (λ (k : ℕ). family_or k (place_from (n + 1) heads name)) size ∙ more.family ∙ ap numbered next);
+          place = rw x (ap (λ (k : ℕ). option_map (place_of_head (numbered k)) (slice_get heads more.at)) (sym next) ∙ more.place);
+        }
+    ]
+
+-- the place of the family of a name is that of the name
+pub place_of_name : (m : State) (name : List ℕ) → place_at m (family_of m.heads name) ≡ place_from 0 m.heads name
+place_of_name m name =
+    let it = found 0 m.heads name in
+    let size : 0 + length m.heads ≡ length m.heads = omega arith in
+    let at : 0 + it.at ≡ it.at = omega arith in
+    let family : family_of m.heads name ≡ numbered it.at = ap (λ (k : ℕ). family_or k (place_from 0 m.heads name)) (sym size) ∙ it.family ∙ ap numbered at in
+    ap (place_at m) family ∙ ap (λ (k : ℕ). option_map (place_of_head (numbered k)) (slice_get m.heads it.at)) (sym at) ∙ it.place
+
+-- ---- standing
+
+same_image : (w : List Version) (floor : Ts) (family : Family) (a : Option Version) → AreAlike Persist floor a a
+same_image w floor family None = tt
+same_image w floor family (Some v) = refl
+
+-- a list whose sequences differ stands for itself
+pub stands_itself : (family : Family) (w : List Version) (floor : Ts) (seqs : List ℕ) → AllPairs (λ (a b : Version). a.seq.0 ≢ b.seq.0) w → Stands family Persist w w floor seqs
+stands_itself family w floor seqs apart = record {
+  images = λ k d within. (slice_index_or w k d, (k, within, inside w k d within), refl);
+  apart = apart;
+  alike = λ key t s above sight. same_image w floor family (visible w family key t s);
+}
+  where
+    inside : (w : List Version) (k : ℕ) (d : Version) → k < length w → slice_index_or w k (slice_index_or w k d) ≡ slice_index_or w k d
+    inside [] k d within = refl
+    inside (v ∷ vs) zero d within = refl
+    inside (v ∷ vs) (suc k) d within = let less : k < length vs = omega (arith, within) in inside vs k d less
+
+-- ---- names
+
+module _ (T : Type 0) (name_of : T → List ℕ) (name : List ℕ) where
+  -- names that are given up leave both lists
+  pub names_left : (xs : List T) → map name_of (filter (λ x. not (bytes_eq (name_of x) name)) xs) ≡ filter (λ n. not (bytes_eq n name)) (map name_of xs)
+  names_left [] = refl
+  names_left (x ∷ xs) =
+      elim (cases_Bool (bytes_eq (name_of x) name)) [
+        | inl e ↦ rw e (names_left xs)
+        | inr e ↦ rw e (ap (λ (ns : List (List ℕ)). name_of x ∷ ns) (names_left xs))
+      ]
+
+pub snaps_pushed : (bs : List SnapName) (b : SnapName) → map (λ (b : SnapName). b.name) (bs ++ b ∷ []) ≡ map (λ (b : SnapName). b.name) bs ++ b.name ∷ []
+snaps_pushed [] b = refl
+snaps_pushed (x ∷ bs) b = ap (λ (ns : List (List ℕ)). x.name ∷ ns) (snaps_pushed bs b)
+
+-- the names in use go by the events alone, whatever the replies
+pub snaps_by_event : (m : State) (number : ℕ) (names : Names) (event : Event) (reply : Reply) → snap_names (names_after m number names event reply) ≡ snaps_behind (snap_names names) event
+snaps_by_event m number names (Snap name) reply = snaps_pushed names.snaps (record { name = name; event = given_snap number reply })
+snaps_by_event m number names (Release name) reply = names_left SnapName (λ b. b.name) name names.snaps
+snaps_by_event m number names event reply = refl
+
+-- ---- histories
+
+-- what leads on from where others led
+pub leads_on : (a b c : Point) (xs ys : List Line) → Leads a xs b → Leads b ys c → Leads a (xs ++ ys) c
+leads_on a b c [] ys front back = subst (λ (p : Point). Leads p ys c) front back
+leads_on a b c (x ∷ xs) ys front back = (front.0, leads_on (behind a x) b c xs ys front.1 back)

@@ -1,0 +1,57 @@
+-- Which versions a collection keeps, and what becomes of timestamps that are stripped.
+use Rattle.std.specs.Prelude.{ℕ, ◌+◌, max, Bool, not, nat_le, ◌&&◌, ◌||◌, List, [], ◌∷◌, map, filter}
+use Rattle.std.specs.List.{list_any}
+use Rattle.ts_key.specs.declared.numbers.Ts.{Ts}
+use Rattle.ts_key.specs.declared.version.Version.{Version}
+use Rattle.udt_model.specs.declared.reply.KeySpan.{KeySpan}
+use Rattle.udt_model.specs.Versions.{is_newer, is_of, puts, up_to}
+use Rattle.udt_model.specs.Orders.{is_in_some, stored}
+
+-- o hides v from every read at or above the floor that sees both: it is a newer version of the key, at most as far up as v or the floor
+abbrev pub hides : Ts → Version → Version → Bool
+hides floor o v = is_of v.family v.key o && is_newer o v && nat_le o.ts.0 (max v.ts.0 floor.0)
+
+-- one of the list hides it
+abbrev pub is_hidden : List Version → Ts → Version → Bool
+is_hidden vs floor v = list_any (λ o. hides floor o v) vs
+
+-- none of the list hides it, or none of those up to some sequence of a snapshot that sees it
+abbrev pub is_seen : List Version → Ts → List ℕ → Version → Bool
+is_seen vs floor seqs v = not (is_hidden vs floor v) || list_any (λ s. nat_le v.seq.0 s && not (is_hidden (up_to s vs) floor v)) seqs
+
+abbrev pub seen_of : List Version → Ts → List ℕ → List Version
+seen_of vs floor seqs = filter (is_seen vs floor seqs) vs
+
+-- a put that an older version of its key may need hidden
+abbrev pub is_put_below : Version → Version → Bool
+is_put_below v p = puts p.op && is_of v.family v.key p && is_newer v p
+
+-- A delete up to the floor has no use where its key lies in no deeper span and no put of the key below it is kept.
+abbrev pub is_useless : List Version → Ts → List KeySpan → Version → Bool
+is_useless kept floor deeper v = not (puts v.op) && nat_le v.ts.0 floor.0 && not (is_in_some deeper v.key) && not (list_any (is_put_below v) kept)
+
+abbrev pub without_useless : Ts → List KeySpan → List Version → List Version
+without_useless floor deeper kept = filter (λ v. not (is_useless kept floor deeper v)) kept
+
+-- what a compaction keeps of versions of one family, in the stored order
+abbrev pub collect : List Version → Ts → List ℕ → List KeySpan → List Version
+collect vs floor seqs deeper = stored (without_useless floor deeper (seen_of vs floor seqs))
+
+-- what a flush keeps: every key may have versions deeper, so no delete is taken out
+abbrev pub collect_all : List Version → Ts → List ℕ → List Version
+collect_all vs floor seqs = stored (seen_of vs floor seqs)
+
+-- ---- stripping
+
+-- the version with the timestamp 0
+abbrev pub without_ts : Version → Version
+without_ts v = record v { ts = record { 0 = 0 } }
+
+-- each timestamp becomes 0
+abbrev pub stripped : List Version → List Version
+stripped vs = stored (map without_ts vs)
+
+-- one above the greatest timestamp, 0 where there is no version
+abbrev pub cutoff : List Version → ℕ
+cutoff [] = 0
+cutoff (v ∷ vs) = max (v.ts.0 + 1) (cutoff vs)

@@ -1,0 +1,89 @@
+-- Entries of the history of the threads: events by numbers, with their replies.
+use Rattle.std.specs.Prelude.{◌≡◌, ℕ, ◌+◌, ◌<◌, ◌≤◌, ◌&&◌, Bool, true, false, not, IsTrue, ⊤, List, [], ◌∷◌, Option, Some, None}
+use Rattle.udt_model.specs.declared.reply.Reply.{Reply}
+use Rattle.udt_model.specs.declared.reply.Reply.TheVariants.{OkAt, Files, DroppedFault, DroppedFiles, Fault}
+use Rattle.udt_model.specs.State.{State}
+use Rattle.udt_model.specs.Acts.{Act, takes_commit}
+use Rattle.udt_model.specs.Acts.Act.{get, scan, release, flush_start, flush_end, compact_end}
+use Rattle.udt_model.specs.Steps.{IsReplyTo, after, file_limit}
+
+-- how often the disk had failed, and the number of the engine's next file
+pub record Counts : Type 0 where
+  pub faults : ℕ
+  pub files : ℕ
+
+-- A read stands without its reply, which changes nothing. What takes the commit has the counts that it left.
+pub data Entry : Type 0 where
+  reads : (act : Act) → Entry
+  says : (act : Act) (reply : Reply) → Entry
+  works : (act : Act) (reply : Reply) (counts : Counts) → Entry
+
+abbrev pub is_get : Act → Bool
+is_get (get family key t snap) = true
+is_get (scan family range t limit forward snap) = true
+is_get act = false
+
+-- a fault comes only where the disk's count rose
+abbrev pub HasRisen : Reply → ℕ → ℕ → Type 0
+HasRisen Fault before now = before < now
+HasRisen DroppedFault before now = before < now
+HasRisen reply before now = ⊤
+
+-- that there are no files is told only where it is so
+abbrev pub HasRunOut : Reply → ℕ → Type 0
+HasRunOut (Files next) files = files ≡ file_limit
+HasRunOut (DroppedFiles next) files = files ≡ file_limit
+HasRunOut reply files = ⊤
+
+-- a flush starts only where there was a file left
+abbrev pub HasFile : Act → Reply → ℕ → Type 0
+HasFile (flush_start family) (OkAt through) files = files < file_limit
+HasFile act reply files = ⊤
+
+pub record IsWorked (m : State) (old new : Counts) (act : Act) (reply : Reply) : Type 0 where
+  pub takes : IsTrue (takes_commit act)
+  pub legal : IsReplyTo m act reply
+  pub faults : old.faults ≤ new.faults
+  pub files : old.files ≤ new.files
+  pub risen : HasRisen reply old.faults new.faults
+  pub run_out : HasRunOut reply new.files
+  pub file : HasFile act reply old.files
+
+-- the entry may follow in a state, with these counts
+abbrev pub IsEntry : State → Counts → Entry → Type 0
+IsEntry m counts (reads act) = IsTrue (is_get act)
+IsEntry m counts (says act reply) = IsTrue (not (takes_commit act) && not (is_get act)) × IsReplyTo m act reply
+IsEntry m counts (works act reply new) = IsWorked m counts new act reply
+
+abbrev pub after_entry : State → ℕ → Entry → State
+after_entry m number (reads act) = m
+after_entry m number (says act reply) = after m number act reply
+after_entry m number (works act reply counts) = after m number act reply
+
+abbrev pub counts_after : Counts → Entry → Counts
+counts_after old (works act reply counts) = counts
+counts_after old entry = old
+
+-- these entries, numbered from the one above `number`, are legal one after the other
+abbrev pub AreEntries : State → Counts → ℕ → List Entry → Type 0
+AreEntries m counts number [] = ⊤
+AreEntries m counts number (e ∷ es) = IsEntry m counts e × AreEntries (after_entry m (number + 1) e) (counts_after counts e) (number + 1) es
+
+-- the entry changes the registered snapshots alone, or nothing
+abbrev pub leaves_commit : Entry → Bool
+leaves_commit (works act reply counts) = false
+leaves_commit entry = true
+
+-- ---- what a seat needs
+
+abbrev pub act_of_entry : Entry → Act
+act_of_entry (reads act) = act
+act_of_entry (says act reply) = act
+act_of_entry (works act reply counts) = act
+
+-- a release stands with the seat that has its snapshot, and the end of a job with the one that has its start
+abbrev pub needed : Act → Option ℕ
+needed (release event) = Some event
+needed (flush_end family start) = Some start
+needed (compact_end family start) = Some start
+needed act = None
