@@ -1,7 +1,9 @@
 -- What a command leaves of the files and folders that it doesn't name.
-use Rattle.std.specs.Prelude.{◌≡◌, ◌≢◌, ◌⊎◌, ℕ, List}
+use Rattle.std.specs.Prelude.{◌≡◌, ◌≢◌, ◌⊎◌, ℕ, ◌≤◌, List}
 use Rattle.udt_disk.specs.Crash.{Image, NoMore}
-use Rattle.udt_disk.specs.Opens.{Standing, without_source}
+use Rattle.udt_disk.specs.Opens.{Standing, StaysBut, without_source}
+use Rattle.udt_disk.specs.OpensFolder.{KeepsFolders, KeepsFoldersBut, LeavesNoMoreBut}
+use Rattle.udt_disk.specs.declared.traits.Host.{Ghosts}
 use Rattle.udt_disk.specs.declared.name.FileName.{FileName}
 use Rattle.udt_model.specs.declared.line.FamilyHead.{FamilyHead}
 use Rattle.client_runner.specs.Commands.{IsTry, IsInit, IsRun}
@@ -29,3 +31,23 @@ FileStaysOrGoes file folder old new = file ≢ folder → StaysOrGoes (old file)
 
 abbrev pub LeavesNoMoreElsewhere : List ℕ → List ℕ → (List ℕ → FileName → Image → Type 0) → (List ℕ → FileName → Image → Type 0) → Type 0
 LeavesNoMoreElsewhere file folder old new = (path : List ℕ) (n : FileName) → path ≢ file → path ≢ folder → NoMore (old path n) (new path n)
+
+-- ---- one folder of a host
+
+module _ {H D F I : Type 0} (h : Ghosts H D F I) where
+  -- A command that uses the folder under this path alone: what stands under other paths, and every source there, stays, a crash
+  -- leaves no more there, and the count doesn't fall.
+  pub record UsesFolder (path : List ℕ) (old new : H) : Type 0 where
+    pub folders : KeepsFoldersBut path (h.folder_at old) (h.folder_at new)
+    pub leaves : LeavesNoMoreBut path (h.leaves_at old) (h.leaves_at new)
+    pub sources : StaysBut path (h.standing old) (h.standing new)
+    pub later : h.faults old ≤ h.faults new
+
+  -- A command that uses the file under this path alone: it stays there or is taken out, what stands under other paths stays, and
+  -- so do all folders.
+  pub record UsesFile (path : List ℕ) (old new : H) : Type 0 where
+    pub others : StaysBut path (h.standing old) (h.standing new)
+    pub taken : StaysOrGoes (h.standing old path) (h.standing new path)
+    pub folders : KeepsFolders (h.folder_at old) (h.folder_at new)
+    pub leaves : LeavesNoMoreBut path (h.leaves_at old) (h.leaves_at new)
+    pub later : h.faults old ≤ h.faults new

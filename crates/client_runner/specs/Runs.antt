@@ -1,5 +1,7 @@
 -- Runs over a store, and over a folder.
-use Rattle.std.specs.Prelude.{◌≡◌, ◌⊎◌, ℕ, ◌≤◌, List, [], ◌∷◌, All, IsTrue, IfOk, Result, None}
+use Rattle.std.specs.Prelude.{◌≡◌, ◌⊎◌, ℕ, ◌-◌, ◌^◌, ◌<◌, ◌≤◌, List, [], ◌∷◌, All, IsTrue, IfOk, Result, None, Vec, length, vec_capacity}
+use Rattle.std.specs.declared.alloc.Global.{Global}
+use Rattle.client_lang.specs.Stamps.{IsStampedCommand}
 use Rattle.udt_disk.specs.Causes.{Rose}
 use Rattle.udt_disk.specs.Crash.{Image}
 use Rattle.udt_disk.specs.declared.name.FileName.{FileName}
@@ -9,7 +11,7 @@ use Rattle.udt_model.specs.declared.line.Line.{Line}
 use Rattle.udt_model.specs.State.{State, unflushed}
 use Rattle.udt_model.specs.Histories.{Point, Leads, start}
 use Rattle.client_lang.specs.declared.command.Command.{Command}
-use Rattle.client_lang.specs.Print.{IsBuiltLine, print_header}
+use Rattle.client_lang.specs.Print.{IsBuiltCommand, IsBuiltLine, print_header}
 use Rattle.client_runner.specs.Expand.{IsRunHistory}
 use Rattle.client_runner.specs.Left.{IsLeft}
 use Rattle.client_runner.specs.MakingStores.{IsClean}
@@ -29,6 +31,14 @@ use Rattle.client_runner.specs.declared.recovery.OpenFault.{OpenFault}
 use Rattle.client_runner.specs.declared.recovery.OpenFault.TheVariants as faults
 use Rattle.client_runner.specs.declared.status.Stop.{Stop}
 use Rattle.client_runner.specs.declared.status.Stop.TheVariants.{NoStore, BadManifest, BadLog, DiskFault, NoMemory}
+
+-- the commands may be made: each is printable and stamped, no line was made yet, and there is room for theirs and the runner's
+pub record CanRun (commands : List Command) (lines : Vec Line Global) : Type 0 where
+  pub built : All IsBuiltCommand commands
+  pub stamped : All IsStampedCommand commands
+  pub few : length commands < 2 ^ 32 - 1
+  pub empty : lines.items ≡ []
+  pub room : length commands < vec_capacity lines
 
 -- these lines wait behind this header, and the buffer has the room to write them
 pub record Waits (header : List ℕ) (lines : List Line) (r : Ready) : Type 0 where

@@ -3,6 +3,7 @@ ghost use Rattle.std.specs.Prelude.{◌≡◌, ◌⊎◌, ◌≤◌, OnOk, IfErr
 ghost use Rattle.udt_disk.specs.Opens.{StaysBut};
 ghost use Rattle.udt_disk.specs.OpensFolder.{KeepsFoldersBut, LeavesNoMoreBut};
 ghost use Rattle.manifest.specs.Heads.{AreNew};
+ghost use Rattle.client_runner.specs.Hosts.{UsesFolder};
 ghost use Rattle.client_runner.specs.Inits.{stop_of_making, IsInitLeft};
 ghost use Rattle.client_runner.specs.Left.{IsMadeAt};
 ghost use Rattle.client_runner.specs.Stops.{IsInitStop};
@@ -35,10 +36,7 @@ pub fn init_folder<H: Host>(
     ensures made { OnOk result (IsMadeAt (H.folder_at host.old path.now) (H.folder_at host.new path.now) (H.leaves_at host.new path.now) head.now.families) }
     ensures stopped { IfErr result (IsInitStop (H.folder_at host.old path.now) (H.faults host.old) (H.faults host.new)) }
     ensures unmade { IfErr result (IsInitLeft (H.folder_at host.old path.now) (H.folder_at host.new path.now) (H.leaves_at host.new path.now) (H.faults host.old) (H.faults host.new) head.now.families) }
-    ensures folders { KeepsFoldersBut path.now (H.folder_at host.old) (H.folder_at host.new) }
-    ensures leaves { LeavesNoMoreBut path.now (H.leaves_at host.old) (H.leaves_at host.new) }
-    ensures sources { StaysBut path.now (H.standing host.old) (H.standing host.new) }
-    ensures later { H.faults host.old ≤ H.faults host.new }
+    ensures uses { UsesFolder H.Host path.now host.old host.new }
 {
     let Ok(opened) = host.open_folder(path, true) else {
         return Err(Stop::DiskFault);

@@ -2,7 +2,7 @@
 ghost use Rattle.std.specs.Prelude.{◌≡◌, ◌≤◌, Some, IfOk, IfErr};
 ghost use Rattle.udt_disk.specs.Opens.{Stands, StaysBut};
 ghost use Rattle.udt_disk.specs.OpensFolder.{KeepsFolders, LeavesNoMoreBut};
-ghost use Rattle.client_runner.specs.Hosts.{StaysOrGoes};
+ghost use Rattle.client_runner.specs.Hosts.{UsesFile, StaysOrGoes};
 ghost use Rattle.client_runner.specs.Ready.{IsReadAs, stop_of_read};
 ghost use Rattle.client_runner.specs.Stops.{IsFileStop};
 
@@ -16,11 +16,7 @@ use udt_disk::{Host, Text};
 fn read_file<H: Host>(alloc: Global, path: &Text, host: &mut H) -> Result<Vec<u8>, Stop>
     ensures ok { IfOk result (λ bytes. Stands (H.standing host.old path.now) (Some bytes.items)) }
     ensures stopped { IfErr result (IsFileStop (H.standing host.old path.now) (H.faults host.old) (H.faults host.new)) }
-    ensures others { StaysBut path.now (H.standing host.old) (H.standing host.new) }
-    ensures taken { StaysOrGoes (H.standing host.old path.now) (H.standing host.new path.now) }
-    ensures folders { KeepsFolders (H.folder_at host.old) (H.folder_at host.new) }
-    ensures leaves { LeavesNoMoreBut path.now (H.leaves_at host.old) (H.leaves_at host.new) }
-    ensures later { H.faults host.old ≤ H.faults host.new }
+    ensures uses { UsesFile H.Host path.now host.old host.new }
 {
     let Ok(opened) = host.open_source(path) else {
         return Err(Stop::SourceFault);
@@ -57,16 +53,9 @@ pub fn read_commands<H: Host>(
 ) -> Result<Vec<Command>, Stop>
     ensures read { IfOk result (λ commands. IsReadAs (H.standing host.old path.now) commands.items) }
     ensures stopped { IfErr result (IsFileStop (H.standing host.old path.now) (H.faults host.old) (H.faults host.new)) }
-    ensures others { StaysBut path.now (H.standing host.old) (H.standing host.new) }
-    ensures taken { StaysOrGoes (H.standing host.old path.now) (H.standing host.new path.now) }
-    ensures folders { KeepsFolders (H.folder_at host.old) (H.folder_at host.new) }
-    ensures leaves { LeavesNoMoreBut path.now (H.leaves_at host.old) (H.leaves_at host.new) }
-    ensures later { H.faults host.old ≤ H.faults host.new }
+    ensures uses { UsesFile H.Host path.now host.old host.new }
 {
-    let bytes = match read_file(alloc, path, host) {
-        Ok(bytes) => bytes,
-        Err(stop) => return Err(stop),
-    };
+    let bytes = read_file(alloc, path, host)?;
     match read_client(alloc, &bytes) {
         Ok(commands) => Ok(commands),
         Err(fault) => Err(stop_of_fault(fault)),

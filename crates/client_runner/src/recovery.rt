@@ -147,20 +147,6 @@ fn versions_of(alloc: Global, batches: &[Numbered]) -> Result<Vec<Version>, NoMe
     Ok(versions)
 }
 
-/// May each operation of the batch have its sequence?
-fn is_within(numbered: &Numbered) -> bool
-    ensures { IsTrue result ↔ IsNumberedWithin numbered.now }
-{
-    numbered.first.0 <= SEQUENCE_END - numbered.batch.ops().len() as u64
-}
-
-/// May each operation of the batches have its sequence?
-fn are_within(batches: &[Numbered]) -> bool
-    ensures { IsTrue result ↔ All IsNumberedWithin batches.now }
-{
-    batches.iter().all(is_within)
-}
-
 /// The last sequence of batches, or this one where there is none.
 fn last_sequence(last: Seq, batches: &[Numbered]) -> Seq
     requires last { last.0 < 2 ^ 56 }
@@ -238,10 +224,6 @@ fn replay_log<F: DiskFile>(
         Ok(read) => read,
         Err((file, fault)) => return Err((file, log_fault(number, fault))),
     };
-    // Where the file tells what it holds, its batches are within.
-    if !are_within(&batches) {
-        return Err((wal.into_file(), OpenFault::BadLog { number, at: 0 }));
-    }
     match said_of(alloc, fold, &batches) {
         Ok(said) => Ok((wal, said)),
         Err(_) => Err((wal.into_file(), OpenFault::NoMemory)),

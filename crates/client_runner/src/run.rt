@@ -9,11 +9,11 @@ ghost use Rattle.udt_disk.specs.declared.name.FileName.{FileName as NameOf};
 ghost use Rattle.wal.specs.Wals.{file_of as wal_file, sizes_of, pending_of, MayGoOn};
 ghost use Rattle.client_lang.specs.Print.{IsBuiltCommand};
 ghost use Rattle.client_lang.specs.Stamps.{IsStampedCommand};
-ghost use Rattle.client_runner.specs.Hosts.{StaysElsewhere, FileStaysOrGoes, LeavesNoMoreElsewhere};
+ghost use Rattle.client_runner.specs.Hosts.{UsesFolder, StaysElsewhere, FileStaysOrGoes, LeavesNoMoreElsewhere};
 ghost use Rattle.client_runner.specs.HostRuns.{IsRunAt, IsRunFrom, IsStoppedAt, IsStoppedFrom};
 ghost use Rattle.client_runner.specs.Left.{status_of_lines as status_of_list, tells_fault as reply_tells};
 ghost use Rattle.client_runner.specs.LoggedStores.{IsInStep, state_of, wal_of};
-ghost use Rattle.client_runner.specs.Runs.{HasRunOver, HasRunParts, IsRunReady, IsRunRefused, stop_of_opening};
+ghost use Rattle.client_runner.specs.Runs.{CanRun, HasRunOver, HasRunParts, IsRunReady, IsRunRefused, stop_of_opening};
 
 use crate::output::{Ready, header_of, ready_of};
 use crate::reading::read_commands;
@@ -59,12 +59,8 @@ fn run_over<F: DiskFile>(
     lines: Vec<Line>,
     header: Vec<u8>,
 ) -> Result<Ready, NoMemory>
-    requires built { All IsBuiltCommand commands.items }
-    requires stamped { All IsStampedCommand commands.items }
-    requires few { length commands.items < 2 ^ 32 - 1 }
+    requires can_run { CanRun commands.items lines }
     requires in_step { IsInStep F.DiskFile (wal_of store.old) (state_of store.old) }
-    requires empty { lines.items ≡ [] }
-    requires room { length commands.items < vec_capacity lines }
     ensures { HasRunOver F.DiskFile store.old store.new commands.items header.items result }
 {
     let lines = run_and_sync(store, commands, lines);
@@ -97,11 +93,7 @@ fn run_parts<D: Disk>(
     commands: Vec<Command>,
     lines: Vec<Line>,
 ) -> (D, Result<Ready, NoMemory>)
-    requires built { All IsBuiltCommand commands.items }
-    requires stamped { All IsStampedCommand commands.items }
-    requires few { length commands.items < 2 ^ 32 - 1 }
-    requires empty { lines.items ≡ [] }
-    requires room { length commands.items < vec_capacity lines }
+    requires can_run { CanRun commands.items lines }
     requires heads { length parts.heads.items ≤ 16 }
     requires sizes { length (sizes_of parts.wal) ≡ length parts.heads.items }
     requires pending { pending_of parts.wal ≡ 0 }
@@ -151,11 +143,7 @@ fn run_disk<D: Disk>(
     commands: Vec<Command>,
     lines: Vec<Line>,
 ) -> (D, Result<Ready, Stop>)
-    requires built { All IsBuiltCommand commands.items }
-    requires stamped { All IsStampedCommand commands.items }
-    requires few { length commands.items < 2 ^ 32 - 1 }
-    requires empty { lines.items ≡ [] }
-    requires room { length commands.items < vec_capacity lines }
+    requires can_run { CanRun commands.items lines }
     ensures ready { IfOk result.1 (IsRunReady D.Disk disk result.0 commands.items) }
     ensures stopped { IfErr result.1 (IsRunRefused D.Disk disk result.0 commands.items) }
     ensures told { D.is_told result.0 ≡ D.is_told disk }
@@ -182,17 +170,10 @@ fn run_folder<H: Host>(
     lines: Vec<Line>,
     host: &mut H,
 ) -> Result<Ready, Stop>
-    requires built { All IsBuiltCommand commands.items }
-    requires stamped { All IsStampedCommand commands.items }
-    requires few { length commands.items < 2 ^ 32 - 1 }
-    requires empty { lines.items ≡ [] }
-    requires room { length commands.items < vec_capacity lines }
+    requires can_run { CanRun commands.items lines }
     ensures ready { IfOk result (IsRunAt (H.folder_at host.old path.now) (H.folder_at host.new path.now) (H.leaves_at host.new path.now) (H.faults host.old) (H.faults host.new) commands.items) }
     ensures stopped { IfErr result (IsStoppedAt (H.folder_at host.old path.now) (H.folder_at host.new path.now) (H.leaves_at host.new path.now) (H.faults host.old) (H.faults host.new) commands.items) }
-    ensures folders { KeepsFoldersBut path.now (H.folder_at host.old) (H.folder_at host.new) }
-    ensures leaves { LeavesNoMoreBut path.now (H.leaves_at host.old) (H.leaves_at host.new) }
-    ensures sources { StaysBut path.now (H.standing host.old) (H.standing host.new) }
-    ensures later { H.faults host.old ≤ H.faults host.new }
+    ensures uses { UsesFolder H.Host path.now host.old host.new }
 {
     let Ok(opened) = host.open_folder(path, false) else {
         return Err(Stop::DiskFault);
@@ -221,10 +202,7 @@ pub fn run_path<H: Host>(
     ensures leaves { LeavesNoMoreElsewhere file.now folder.now (H.leaves_at host.old) (H.leaves_at host.new) }
     ensures later { H.faults host.old ≤ H.faults host.new }
 {
-    let commands = match read_commands(alloc, file, host) {
-        Ok(commands) => commands,
-        Err(stop) => return Err(stop),
-    };
+    let commands = read_commands(alloc, file, host)?;
     match Vec::with_capacity(alloc, commands.len() + 1) {
         Ok(lines) => run_folder(alloc, folder, commands, lines, host),
         Err(_) => Err(Stop::NoMemory),

@@ -9,7 +9,7 @@ ghost use Rattle.manifest.specs.Heads.{AreNew};
 ghost use Rattle.client_lang.specs.Print.{IsBuiltCommand, IsBuiltLine};
 ghost use Rattle.client_lang.specs.Stamps.{IsStampedCommand};
 ghost use Rattle.client_runner.specs.Ends.{IsAnswered, IsComplete, IsEnd, IsFileWork, IsInitComplete, IsInitRefused, IsInitWork, IsOpenRefused, IsPrinted, IsRefused, IsRunComplete, IsRunWork, IsStopped, IsWork};
-ghost use Rattle.client_runner.specs.Hosts.{IsFileOf, IsFolderOf, StaysElsewhere, FileStaysOrGoes, LeavesNoMoreElsewhere, StaysOrGoes};
+ghost use Rattle.client_runner.specs.Hosts.{UsesFile, UsesFolder, IsFileOf, IsFolderOf, StaysElsewhere, FileStaysOrGoes, LeavesNoMoreElsewhere, StaysOrGoes};
 ghost use Rattle.client_runner.specs.Output.{HasRoom};
 ghost use Rattle.client_runner.specs.Ready.{IsMessage, IsTranscribed, IsTried, text_of};
 ghost use Rattle.client_runner.specs.Stops.{IsFileStop, message, status_of as status_of_stop};
@@ -47,16 +47,9 @@ fn transcribe(alloc: Global, commands: Vec<client_lang::Command>) -> Result<Read
 fn try_path<H: Host>(alloc: Global, path: &Text, host: &mut H) -> Result<Ready, Stop>
     ensures ready { IfOk result (IsTried (H.standing host.old path.now)) }
     ensures stopped { IfErr result (IsFileStop (H.standing host.old path.now) (H.faults host.old) (H.faults host.new)) }
-    ensures others { StaysBut path.now (H.standing host.old) (H.standing host.new) }
-    ensures taken { StaysOrGoes (H.standing host.old path.now) (H.standing host.new path.now) }
-    ensures folders { KeepsFolders (H.folder_at host.old) (H.folder_at host.new) }
-    ensures leaves { LeavesNoMoreBut path.now (H.leaves_at host.old) (H.leaves_at host.new) }
-    ensures later { H.faults host.old ≤ H.faults host.new }
+    ensures uses { UsesFile H.Host path.now host.old host.new }
 {
-    let commands = match read_commands(alloc, path, host) {
-        Ok(commands) => commands,
-        Err(stop) => return Err(stop),
-    };
+    let commands = read_commands(alloc, path, host)?;
     match transcribe(alloc, commands) {
         Ok(ready) => Ok(ready),
         Err(_) => Err(Stop::NoMemory),
@@ -167,11 +160,7 @@ fn say_ready<K: Sink>(out: &mut K, mut ready: Ready, status: Status) -> Status
 fn try_file<H: Host, K: Sink>(alloc: Global, path: &Text, host: &mut H, out: &mut K) -> Status
     ensures ends { IsEnd (IsFileWork (H.standing host.old path.now) (H.faults host.old) (H.faults host.new) path.now)
         result (K.taken out.old) (K.taken out.new) (Rose (K.faults out.old) (K.faults out.new)) }
-    ensures others { StaysBut path.now (H.standing host.old) (H.standing host.new) }
-    ensures taken { StaysOrGoes (H.standing host.old path.now) (H.standing host.new path.now) }
-    ensures folders { KeepsFolders (H.folder_at host.old) (H.folder_at host.new) }
-    ensures leaves { LeavesNoMoreBut path.now (H.leaves_at host.old) (H.leaves_at host.new) }
-    ensures later { H.faults host.old ≤ H.faults host.new }
+    ensures uses { UsesFile H.Host path.now host.old host.new }
 {
     match try_path(alloc, path, host) {
         Ok(ready) => say_ready(out, ready, Status::Done),
@@ -190,10 +179,7 @@ fn init<H: Host, K: Sink>(
     requires { AreNew head.now.families }
     ensures ends { IsEnd (IsInitWork (H.folder_at host.old path.now) (H.folder_at host.new path.now) (H.leaves_at host.new path.now) (H.faults host.old) (H.faults host.new) head.now.families)
         result (K.taken out.old) (K.taken out.new) (Rose (K.faults out.old) (K.faults out.new)) }
-    ensures folders { KeepsFoldersBut path.now (H.folder_at host.old) (H.folder_at host.new) }
-    ensures leaves { LeavesNoMoreBut path.now (H.leaves_at host.old) (H.leaves_at host.new) }
-    ensures sources { StaysBut path.now (H.standing host.old) (H.standing host.new) }
-    ensures later { H.faults host.old ≤ H.faults host.new }
+    ensures uses { UsesFolder H.Host path.now host.old host.new }
 {
     // The line is made first: no memory is wanted once the store is.
     let mut text = Vec::new(alloc);

@@ -17,6 +17,7 @@ ghost use Rattle.ts_key.specs.declared.batch.WriteOp.{WriteOp as Operation};
 ghost use Rattle.wal.specs.Records.{batch_bytes};
 ghost use Rattle.wal.specs.Bodies.{front_bytes};
 ghost use Rattle.wal.specs.Writing.{Extends, IsShortOp};
+ghost use Rattle.wal.specs.Sequences.{IsNumberedWithin};
 ghost use Rattle.wal.specs.Making.{IsWhileMade, IsMakingCause, joint, held_after};
 ghost use Rattle.wal.specs.Reserving.{IsReserved};
 ghost use Rattle.wal.specs.Replays.{LogHolds, IsBeforeOrAfter, IsReplayFault, IsReplayCause, log_fault_of};
@@ -178,6 +179,7 @@ impl<F: DiskFile> Wal<F> {
         ensures at_rest { IfOk result (λ r. IsTrue (F.is_told file) → Only (F.seen file) (F.may_leave file) → Holds F.DiskFile r.0 r.1.items []) }
         ensures sizes { IfOk result (λ r. sizes_of r.0 ≡ sizes) }
         ensures pending { IfOk result (λ r. pending_of r.0 ≡ 0) }
+        ensures within { IfOk result (λ r. All IsNumberedWithin r.1.items) }
         ensures refused { IfErr result (λ e. IsTrue (F.is_told file) → IsReplayFault sizes number (F.seen file) e.1) }
         ensures same { IsOnlyRead F.DiskFile file (file_after (λ r. file_of r.0) result) }
         ensures kept { IfOk result (λ r. F.faults (file_of r.0) ≡ F.faults file) }

@@ -15,10 +15,3 @@ returns-in-Err-clause-refused g c told =
 
 pub returns-in-Err-clause-cause : goal.returns-in-Err-clause-cause
 returns-in-Err-clause-cause g c = c.log_fault.ensures.cause _ _ c.in-Err.ensures.cause
-
-pub returns-then-not-are_within-clause-refused : goal.returns-then-not-are_within-clause-refused
-returns-then-not-are_within-clause-refused g c told =
-    let read = c.in-Ok-replay.ensures.read told in
-    let all : All IsNumberedWithin c.deref.result.now = subst (All IsNumberedWithin) (sym c.deref.ensures.value) (holds_within c.in-Ok.sizes read.bodies c.in-Ok-replay.read.1.items read.held) in
-    let within : c.are_within.result ≡ true = c.are_within.ensures.1 all in
-    absurd (cc)

@@ -3,8 +3,8 @@ use Rattle.client_runner.specs.HostRuns.{IsRunAt, IsRunFrom, IsStoppedAt, IsStop
 use Rattle.client_runner.proofs.HostLemmas.{run_from, stopped_from}
 use Rattle.client_runner.proofs.run.run_path.Goals as goal
 
-pub returns-in-Ok-with_capacity-clause-ready : goal.returns-in-Ok-with_capacity-clause-ready
-returns-in-Ok-with_capacity-clause-ready g c =
+pub returns-in-Ok-clause-ready : goal.returns-in-Ok-clause-ready
+returns-in-Ok-clause-ready g c =
     let h = g.H.Host in
     let path = c.args.folder.now in
     let standing = h.standing c.args.host.now c.args.file.now in
@@ -15,12 +15,12 @@ returns-in-Ok-with_capacity-clause-ready g c =
     let first = h.faults c.args.host.now in
     let before = h.faults c.read_commands.new.host in
     let now = h.faults c.run_folder.new.host in
-    let commands = c.in-Ok.commands.items in
+    let commands = c.in_ok-commands.commands.items in
     IfOk-weaker c.run_folder.result (IsRunAt mid new leaves before now commands) (IsRunFrom standing old new leaves first now)
-    (λ r run. run_from standing old mid new leaves first before now commands r c.in-Ok.ensures.read (c.read_commands.ensures.folders path) c.read_commands.ensures.later run) c.run_folder.ensures.ready
+    (λ r run. run_from standing old mid new leaves first before now commands r c.in_ok-commands.ensures.read (c.read_commands.ensures.uses.folders path) c.read_commands.ensures.uses.later run) c.run_folder.ensures.ready
 
-pub returns-in-Ok-with_capacity-clause-stopped : goal.returns-in-Ok-with_capacity-clause-stopped
-returns-in-Ok-with_capacity-clause-stopped g c =
+pub returns-in-Ok-clause-stopped : goal.returns-in-Ok-clause-stopped
+returns-in-Ok-clause-stopped g c =
     let h = g.H.Host in
     let path = c.args.folder.now in
     let standing = h.standing c.args.host.now c.args.file.now in
@@ -31,6 +31,6 @@ returns-in-Ok-with_capacity-clause-stopped g c =
     let first = h.faults c.args.host.now in
     let before = h.faults c.read_commands.new.host in
     let now = h.faults c.run_folder.new.host in
-    let commands = c.in-Ok.commands.items in
+    let commands = c.in_ok-commands.commands.items in
     IfErr-weaker c.run_folder.result (IsStoppedAt mid new leaves before now commands) (IsStoppedFrom standing old new leaves first now)
-    (λ stop stopped. stopped_from standing old mid new leaves first before now commands stop c.in-Ok.ensures.read (c.read_commands.ensures.folders path) c.read_commands.ensures.later stopped) c.run_folder.ensures.stopped
+    (λ stop stopped. stopped_from standing old mid new leaves first before now commands stop c.in_ok-commands.ensures.read (c.read_commands.ensures.uses.folders path) c.read_commands.ensures.uses.later stopped) c.run_folder.ensures.stopped

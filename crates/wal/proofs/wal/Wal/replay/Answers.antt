@@ -3,6 +3,7 @@ use Rattle.gate_log.specs.Placed.{Placed}
 use Rattle.gate_log.specs.Reads.{body_of}
 use Rattle.wal.specs.Bodies.{HoldsBatches}
 use Rattle.wal.specs.Replays.{IsReplayFault, IsReplayCause}
+use Rattle.wal.proofs.Bodies.{holds_within}
 use Rattle.wal.proofs.Logs.{reading_only, reading_refused, fault_cause}
 use Rattle.wal.proofs.wal.Wal.replay.Goals as goal
 
@@ -23,3 +24,6 @@ pub returns-in-Err-batches_of-clause-cause : goal.returns-in-Err-batches_of-clau
 returns-in-Err-batches_of-clause-cause g c =
     let file = c.into_file.ensures in
     subst (IsReplayCause (g.F.DiskFile.faults c.args.file) (g.F.DiskFile.faults c.into_file.result)) (sym c.log_fault.ensures) (fault_cause c.args.number (g.F.DiskFile.faults c.args.file) (g.F.DiskFile.faults c.into_file.result) c.in-Err-batches_of.fault (ap g.F.DiskFile.faults file ∙ c.in-Ok.ensures.kept))
+
+pub returns-in-Ok-batches_of-clause-within : goal.returns-in-Ok-batches_of-clause-within
+returns-in-Ok-batches_of-clause-within g c = holds_within c.args.sizes _ c.in-Ok-batches_of.batches.items c.in-Ok-batches_of.ensures
