@@ -1,3 +1,4 @@
+//! Files of the operating system.
 ghost use Rattle.std.specs.Prelude.{◌≡◌, [], true, false};
 ghost use Rattle.udt_disk.specs.Real.{not_told};
 
@@ -70,8 +71,8 @@ impl DiskFile for HostFile {
         counted(self.file.write_all_at(bytes, at), &mut self.faults)
     }
 
-    /// Reaches the device.
+    /// Reaches the device: the bytes, and the length where the file grew.
     fn sync(&mut self) -> Result<(), Failed> {
-        counted(self.file.sync_all(), &mut self.faults)
+        counted(self.file.sync_data(), &mut self.faults)
     }
 }

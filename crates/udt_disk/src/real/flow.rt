@@ -1,3 +1,4 @@
+//! Sources and sinks over readers and writers of the operating system.
 ghost use Rattle.std.specs.Prelude.{◌≡◌, None};
 
 use super::counted;

@@ -1,3 +1,4 @@
+//! The host of the process: the files and folders of the operating system by their paths.
 ghost use Rattle.std.specs.Prelude.{◌≡◌, None, true, false};
 
 use super::{HostFolder, HostSource, counted};
@@ -23,7 +24,8 @@ impl<'a, R: Files> RealHost<'a, R> {
     }
 }
 
-/// The folder at a path, made where there is none and one is asked for.
+/// The folder at a path, made where there is none and one is asked for. It is locked, so that no other process opens it
+/// as long as it is held, and its names have reached the device; so has its own name where it may just have been made.
 fn try_folder<'a, R: Files<File = File> + AllocGlobal>(
     rt: &'a R,
     path: &str,
@@ -32,8 +34,7 @@ fn try_folder<'a, R: Files<File = File> + AllocGlobal>(
     let alloc = rt.alloc();
     let metadata = match fs::metadata(rt, path) {
         Err(e) if e.kind() == ErrorKind::NotFound && make => {
-            fs::create_dir(rt, path)?;
-            sync_parent(rt, path)?;
+            make_folder(rt, path)?;
             fs::metadata(rt, path)?
         }
         metadata => metadata?,
@@ -41,12 +42,30 @@ fn try_folder<'a, R: Files<File = File> + AllocGlobal>(
     if !metadata.is_dir() {
         return Err(ErrorKind::NotADirectory.into());
     }
+    let handle = fs::open(rt, path)?;
+    handle.try_lock()?;
+    handle.sync_all()?;
+    if make {
+        sync_parent(rt, path)?;
+    }
     Ok(HostFolder {
         rt,
         alloc,
         path: String::from_str(alloc, path)?,
+        handle,
         faults: 0,
     })
+}
+
+/// Makes a folder. A call that a signal interrupts is made again.
+fn make_folder<R: Files>(rt: &R, path: &str) -> io::Result<()> {
+    for _ in 0..u64::MAX {
+        match fs::create_dir(rt, path) {
+            Err(e) if e.kind() == ErrorKind::Interrupted => {}
+            made => return made,
+        }
+    }
+    Err(ErrorKind::Interrupted.into())
 }
 
 /// Makes the name of a folder reach the device.
@@ -78,7 +97,8 @@ impl<'a, R: Files<File = File> + AllocGlobal + Sync> Host for RealHost<'a, R> {
 
     ghost faults = { λ h. h.faults };
 
-    /// Fails too where the path is no UTF-8: such a folder can't be named here, though there may be one.
+    /// Fails too where another process holds the folder, and where the path is no UTF-8: such a folder can't be named
+    /// here, though there may be one.
     fn open_folder(
         &mut self,
         path: &Text,
