@@ -5,7 +5,7 @@ ghost use Rattle.std.specs.Prelude.{◌≡◌, None, IfOk, IfSome, true, false};
 ghost use Rattle.udt_disk.specs.Folder.{opened};
 ghost use Rattle.udt_disk.specs.Real.{not_told};
 
-use super::{HostFile, counted};
+use super::{Faults, HostFile};
 use crate::{Disk, Failed, FileName, NoMemory};
 use std::alloc::Global;
 use std::fs::{File, OpenOptions};
@@ -21,7 +21,7 @@ pub struct HostFolder<'a, R: Files<File = File>> {
     pub(super) path: String,
     /// The folder itself, which holds the lock.
     pub(super) handle: File,
-    pub(super) faults: u64,
+    pub(super) faults: Faults,
 }
 
 /// Makes what the file holds reach the device, and drops the system's copies of it.
@@ -48,7 +48,7 @@ fn path_of(alloc: Global, folder: &str, name: FileName) -> Result<String, NoMemo
 impl<'a, R: Files<File = File>> HostFolder<'a, R> {
     fn try_create(&self, name: FileName) -> io::Result<HostFile>
         ensures name { IfOk result (λ f. f.name ≡ name) }
-        ensures fresh { IfOk result (λ f. f.faults ≡ 0) }
+        ensures fresh { IfOk result (λ f. f.faults.count ≡ 0) }
     {
         let path = path_of(self.alloc, &self.path, name)?;
         let file = OpenOptions::new()
@@ -61,13 +61,13 @@ impl<'a, R: Files<File = File>> HostFolder<'a, R> {
         Ok(HostFile {
             file,
             name,
-            faults: 0,
+            faults: Faults::new(),
         })
     }
 
     fn try_open(&self, name: FileName) -> io::Result<Option<HostFile>>
         ensures name { IfSome (opened result) (λ f. f.name ≡ name) }
-        ensures fresh { IfSome (opened result) (λ f. f.faults ≡ 0) }
+        ensures fresh { IfSome (opened result) (λ f. f.faults.count ≡ 0) }
     {
         let path = path_of(self.alloc, &self.path, name)?;
         let file = match OpenOptions::new()
@@ -85,7 +85,7 @@ impl<'a, R: Files<File = File>> HostFolder<'a, R> {
         Ok(Some(HostFile {
             file,
             name,
-            faults: 0,
+            faults: Faults::new(),
         }))
     }
 
@@ -102,7 +102,7 @@ impl<'a, R: Files<File = File>> HostFolder<'a, R> {
 impl<'a, R: Files<File = File> + Sync> Disk for HostFolder<'a, R> {
     type File = HostFile;
 
-    ghost faults = { λ d. d.faults };
+    ghost faults = { λ d. d.faults.count };
 
     ghost is_told = { λ _. false };
 
@@ -126,20 +126,23 @@ impl<'a, R: Files<File = File> + Sync> Disk for HostFolder<'a, R> {
 
     /// The name reaches the device too.
     fn create(&mut self, name: FileName) -> Result<HostFile, Failed> {
-        counted(self.try_create(name), &mut self.faults)
+        let answer = self.try_create(name);
+        self.faults.counted(answer)
     }
 
     fn open_file(&mut self, name: FileName) -> Result<Option<HostFile>, Failed> {
-        counted(self.try_open(name), &mut self.faults)
+        let answer = self.try_open(name);
+        self.faults.counted(answer)
     }
 
     /// That the name is gone reaches the device too.
     fn remove(&mut self, name: FileName) -> Result<(), Failed> {
-        counted(self.try_remove(name), &mut self.faults)
+        let answer = self.try_remove(name);
+        self.faults.counted(answer)
     }
 
     fn retire(&mut self, file: HostFile) {
-        self.faults = self.faults.saturating_add(file.faults);
+        self.faults.add(file.faults);
     }
 }
 

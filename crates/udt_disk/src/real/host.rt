@@ -1,7 +1,7 @@
 //! The host of the process: the files and folders of the operating system by their paths.
 ghost use Rattle.std.specs.Prelude.{◌≡◌, None, true, false};
 
-use super::{HostFolder, HostSource, counted};
+use super::{Faults, HostFolder, HostSource};
 use crate::{Failed, Host, Text};
 use std::fs::File;
 use std::io::ErrorKind;
@@ -12,15 +12,23 @@ use std::{fs, io};
 /// The host of the process: files and folders by their paths. It tells nothing of what stands under them.
 pub struct RealHost<'a, R: Files> {
     rt: &'a R,
-    faults: u64,
+    faults: Faults,
 }
 
 impl<'a, R: Files> RealHost<'a, R> {
+    /// Why the last call failed that did, of the host's or of what was given back to it.
+    pub fn last_error(&self) -> Option<ErrorKind> {
+        self.faults.last
+    }
+
     /// The host of the process whose runtime this is.
     pub fn new(rt: &'a R) -> RealHost<'a, R>
-        ensures { result.faults ≡ 0 }
+        ensures { result.faults.count ≡ 0 }
     {
-        RealHost { rt, faults: 0 }
+        RealHost {
+            rt,
+            faults: Faults::new(),
+        }
     }
 }
 
@@ -53,7 +61,7 @@ fn try_folder<'a, R: Files<File = File> + AllocGlobal>(
         alloc,
         path: String::from_str(alloc, path)?,
         handle,
-        faults: 0,
+        faults: Faults::new(),
     })
 }
 
@@ -95,7 +103,7 @@ impl<'a, R: Files<File = File> + AllocGlobal + Sync> Host for RealHost<'a, R> {
 
     ghost keeps_model = { λ _. false };
 
-    ghost faults = { λ h. h.faults };
+    ghost faults = { λ h. h.faults.count };
 
     /// Fails too where another process holds the folder, and where the path is no UTF-8: such a folder can't be named
     /// here, though there may be one.
@@ -104,35 +112,35 @@ impl<'a, R: Files<File = File> + AllocGlobal + Sync> Host for RealHost<'a, R> {
         path: &Text,
         make: bool,
     ) -> Result<Option<HostFolder<'a, R>>, Failed> {
-        if let Ok(path) = str::from_utf8(path.bytes()) {
-            match try_folder(self.rt, path, make) {
-                Ok(folder) => return Ok(Some(folder)),
-                Err(e) if e.kind() == ErrorKind::NotFound && !make => return Ok(None),
-                Err(_) => {}
-            }
+        let Ok(path) = str::from_utf8(path.bytes()) else {
+            return self.faults.counted(Err(ErrorKind::InvalidInput.into()));
+        };
+        match try_folder(self.rt, path, make) {
+            Ok(folder) => Ok(Some(folder)),
+            Err(e) if e.kind() == ErrorKind::NotFound && !make => Ok(None),
+            Err(e) => self.faults.counted(Err(e)),
         }
-        counted(Err(Failed), &mut self.faults)
     }
 
     fn close_folder(&mut self, path: &Text, folder: HostFolder<'a, R>) {
         let _ = path;
-        self.faults = self.faults.saturating_add(folder.faults);
+        self.faults.add(folder.faults);
     }
 
     /// Fails too where the path is no UTF-8: such a file can't be named here, though there may be one.
     fn open_source(&mut self, path: &Text) -> Result<Option<HostSource<File>>, Failed> {
-        if let Ok(path) = str::from_utf8(path.bytes()) {
-            match fs::open(self.rt, path) {
-                Ok(inner) => return Ok(Some(HostSource::new(inner))),
-                Err(e) if e.kind() == ErrorKind::NotFound => return Ok(None),
-                Err(_) => {}
-            }
+        let Ok(path) = str::from_utf8(path.bytes()) else {
+            return self.faults.counted(Err(ErrorKind::InvalidInput.into()));
+        };
+        match fs::open(self.rt, path) {
+            Ok(inner) => Ok(Some(HostSource::new(inner))),
+            Err(e) if e.kind() == ErrorKind::NotFound => Ok(None),
+            Err(e) => self.faults.counted(Err(e)),
         }
-        counted(Err(Failed), &mut self.faults)
     }
 
     fn close_source(&mut self, input: HostSource<File>) {
-        self.faults = self.faults.saturating_add(input.faults());
+        self.faults.add(input.faults());
     }
 }
 
