@@ -125,6 +125,7 @@ fn check_op<'a, 'b>(alloc: Global, words: &'a [&'b [u8]]) -> Result<&'a [&'b [u8
     match words {
         [verb, behind @ ..] if *verb == b"put".as_slice() => check_put(alloc, behind),
         [verb, behind @ ..] if *verb == b"del".as_slice() => check_del(alloc, behind),
+        [] => Err(Wrong::Semicolon),
         [verb, ..] if is_joined(verb) => Err(Wrong::Semicolon),
         _ => Err(Wrong::Verb),
     }
@@ -162,9 +163,9 @@ fn check_tail<'a, 'b>(words: &'a [&'b [u8]]) -> Result<Option<&'a [&'b [u8]]>, W
     }
 }
 
-/// Does a `;` stand at a word without a space?
+/// Does a `;` stand in a word?
 fn is_joined(word: &[u8]) -> bool {
-    word.starts_with(b";") || word.ends_with(b";")
+    word.contains(&b';')
 }
 
 fn check_target(alloc: Global, family: &[u8], key: &[u8]) -> Result<(), Wrong> {
