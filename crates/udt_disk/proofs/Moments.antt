@@ -13,16 +13,17 @@ use Rattle.udt_disk.specs.declared.disk.Disk as disk
 use Rattle.udt_disk.proofs.Joints.{ran_on, ran_more}
 use Rattle.udt_disk.proofs.Names.{same_or_other}
 
--- what a step does with a held file whose name isn't touched: it is held on, or was only read, or was given back
-pub data Kept {D F : Type 0} (d : disk.Ghosts D F) (f : file.Ghosts F) (j k : Joint D F) (x : F) : Type 0 where
-  on : IsHeld k.files x → Kept d f j k x
-  read : (y : F) → IsHeld k.files y → IsOnlyRead f x y → Kept d f j k x
-  given : IsFree d f k (f.name x) → NoMore (f.may_leave x) (d.may_leave k.disk (f.name x)) → (IsTrue (d.is_told j.disk) → d.stands k.disk (f.name x) ≡ Some (f.seen x)) → Kept d f j k x
+-- What a step does with a held file whose name isn't touched: it is held on, or was only read, or was given back. Where it has S
+-- its contents stand.
+pub data Kept {D F : Type 0} (d : disk.Ghosts D F) (f : file.Ghosts F) (S : Type 0) (j k : Joint D F) (x : F) : Type 0 where
+  on : IsHeld k.files x → Kept d f S j k x
+  read : (y : F) → IsHeld k.files y → IsOnlyRead f x y → Kept d f S j k x
+  given : IsFree d f k (f.name x) → NoMore (f.may_leave x) (d.may_leave k.disk (f.name x)) → (S → d.stands k.disk (f.name x) ≡ Some (f.seen x)) → Kept d f S j k x
 
 -- and with a name that nobody holds and that isn't touched: nothing, or its file was taken
-pub data Left {D F : Type 0} (d : disk.Ghosts D F) (f : file.Ghosts F) (j k : Joint D F) (n : FileName) : Type 0 where
-  free : IsFree d f k n → d.stands k.disk n ≡ d.stands j.disk n → NoMore (d.may_leave j.disk n) (d.may_leave k.disk n) → ((c : Image) → d.left_since k.disk (d.moment j.disk) n c → d.may_leave j.disk n c) → Left d f j k n
-  taken : (y : F) → IsHeld k.files y → f.name y ≡ n → NoMore (d.may_leave j.disk n) (f.may_leave y) → (IsTrue (d.is_told j.disk) → d.stands j.disk n ≡ Some (f.seen y)) → Left d f j k n
+pub data Left {D F : Type 0} (d : disk.Ghosts D F) (f : file.Ghosts F) (S : Type 0) (j k : Joint D F) (n : FileName) : Type 0 where
+  free : IsFree d f k n → d.stands k.disk n ≡ d.stands j.disk n → NoMore (d.may_leave j.disk n) (d.may_leave k.disk n) → ((c : Image) → d.left_since k.disk (d.moment j.disk) n c → d.may_leave j.disk n c) → Left d f S j k n
+  taken : (y : F) → IsHeld k.files y → f.name y ≡ n → NoMore (d.may_leave j.disk n) (f.may_leave y) → (S → d.stands j.disk n ≡ Some (f.seen y)) → Left d f S j k n
 
 -- a file was opened
 pub record Opening {D F : Type 0} (d : disk.Ghosts D F) (f : file.Ghosts F) (touched : FileName) (old new : D) (x : F) : Type 0 where
@@ -93,6 +94,13 @@ module _ {D F : Type 0} (d : disk.Ghosts D F) (f : file.Ghosts F) where
     pub leaves_held : (x : F) → IsHeld files x → ((y : F) → IsHeld files y → f.name y ≡ f.name x → x ≡ y) → NoMore (d.may_leave old (f.name x)) (f.may_leave x)
     leaves_held x held one c left = (only.no_more (f.name x) c (λ no. no) (record { held = λ y there is. subst (λ (z : F). f.may_leave z c) (one y there is) left; free = λ out. absurd (out x held refl) })).free (none_held (f.name x))
 
+  -- where none is held
+  pub stands_all : (old new : D) → OnlyReads d f (alone old) (alone new) → IsTrue (d.is_told old) → (n : FileName) → d.stands new n ≡ d.stands old n
+  stands_all old new only told n = stands_free old new [] only told n (λ x held. absurd held)
+
+  pub leaves_all : (old new : D) → OnlyReads d f (alone old) (alone new) → (n : FileName) (c : Image) → d.may_leave new n c → d.may_leave old n c
+  leaves_all old new only n c left = leaves_free old new [] only n c (λ x held. absurd held) left
+
   module _ (disk_now : (x : D) (n : FileName) (c : Image) → d.left_since x (d.moment x) n c → d.may_leave x n c) (file_now : (x : F) (c : Image) → f.left_since x (f.moment x) c → f.may_leave x c) where
     -- under a name that isn't touched a crash in the run left what it might have left before
     pub untouched : (T : FileName → Type 0) (old new : D) → Touches d T old new → (n : FileName) (c : Image) → ¬ T n → d.left_since new (d.moment old) n c → d.may_leave old n c
@@ -100,37 +108,37 @@ module _ {D F : Type 0} (d : disk.Ghosts D F) (f : file.Ghosts F) where
 
     -- ---- one step
 
-    module _ (T : FileName → Type 0) (j k : Joint D F) where
-      kept_between : (folder : Folder) → IsBetween d f j k folder → (x : F) → IsHeld j.files x → Kept d f j k x → f.may_leave x (folder (f.name x))
+    module _ (T : FileName → Type 0) (S : Type 0) (j k : Joint D F) where
+      kept_between : (folder : Folder) → IsBetween d f j k folder → (x : F) → IsHeld j.files x → Kept d f S j k x → f.may_leave x (folder (f.name x))
       kept_between folder image x held (on there) = file_now x (folder (f.name x)) (image.held x x held there refl)
       kept_between folder image x held (read y there only) = only.moments.each (folder (f.name x)) (image.held x y held there only.name)
       kept_between folder image x held (given out no_more stands) = ⊎_elim (λ left. left) (λ left. no_more (folder (f.name x)) left) (image.given x held out)
 
-      left_between : (folder : Folder) → IsBetween d f j k folder → (n : FileName) → IsFree d f j n → Left d f j k n → d.may_leave j.disk n (folder n)
+      left_between : (folder : Folder) → IsBetween d f j k folder → (n : FileName) → IsFree d f j n → Left d f S j k n → d.may_leave j.disk n (folder n)
       left_between folder image n out (free there same no_more since) = since (folder n) (image.others n out there)
       left_between folder image n out (taken y held is no_more stood) =
           subst (λ (m : FileName). d.may_leave j.disk m (folder m)) is (⊎_elim (λ left. left)
           (λ left. subst (λ (m : FileName). d.may_leave j.disk m (folder (f.name y))) (sym is) (no_more (folder (f.name y)) left)) (image.taken y held (subst (IsFree d f j) (sym is) out)))
 
-      kept_leaves : (n : FileName) (c : Image) → MayLeave d f k n c → (x : F) → f.name x ≡ n → Kept d f j k x → f.may_leave x c
+      kept_leaves : (n : FileName) (c : Image) → MayLeave d f k n c → (x : F) → f.name x ≡ n → Kept d f S j k x → f.may_leave x c
       kept_leaves n c left x is (on there) = left.held x there is
       kept_leaves n c left x is (read y there only) = only.no_more c (left.held y there (only.name ∙ is))
       kept_leaves n c left x is (given out no_more stands) = no_more c (subst (λ (m : FileName). d.may_leave k.disk m c) (sym is) (left.free (subst (IsFree d f k) is out)))
 
-      left_leaves : (n : FileName) (c : Image) → MayLeave d f k n c → Left d f j k n → d.may_leave j.disk n c
+      left_leaves : (n : FileName) (c : Image) → MayLeave d f k n c → Left d f S j k n → d.may_leave j.disk n c
       left_leaves n c left (free there same no_more since) = no_more c (left.free there)
       left_leaves n c left (taken y held is no_more stood) = no_more c (left.held y held is)
 
-      kept_stands : IsTrue (d.is_told j.disk) → (n : FileName) (c : Image) → StandsUnder d f k n c → (x : F) → f.name x ≡ n → Kept d f j k x → c ≡ Some (f.seen x)
+      kept_stands : S → (n : FileName) (c : Image) → StandsUnder d f k n c → (x : F) → f.name x ≡ n → Kept d f S j k x → c ≡ Some (f.seen x)
       kept_stands told n c under x is (on there) = under.held x there is
       kept_stands told n c under x is (read y there only) = under.held y there (only.name ∙ is) ∙ ap Some only.seen
       kept_stands told n c under x is (given out no_more stands) = under.free (subst (IsFree d f k) is out) ∙ ap (d.stands k.disk) (sym is) ∙ stands told
 
-      left_stands : IsTrue (d.is_told j.disk) → (n : FileName) (c : Image) → StandsUnder d f k n c → Left d f j k n → c ≡ d.stands j.disk n
+      left_stands : S → (n : FileName) (c : Image) → StandsUnder d f k n c → Left d f S j k n → c ≡ d.stands j.disk n
       left_stands told n c under (free there same no_more since) = under.free there ∙ same
       left_stands told n c under (taken y held is no_more stood) = under.held y held is ∙ sym (stood told)
 
-      module _ (kept : (x : F) → IsHeld j.files x → ¬ T (f.name x) → Kept d f j k x) (left : (n : FileName) → IsFree d f j n → ¬ T n → Left d f j k n) where
+      module _ (kept : (x : F) → IsHeld j.files x → ¬ T (f.name x) → Kept d f S j k x) (left : (n : FileName) → IsFree d f j n → ¬ T n → Left d f S j k n) where
         not_touched : (x : F) (n : FileName) → f.name x ≡ n → ¬ T n → ¬ T (f.name x)
         not_touched x n is apart touched = apart (subst T is touched)
 
@@ -149,17 +157,24 @@ module _ {D F : Type 0} (d : disk.Ghosts D F) (f : file.Ghosts F) where
         pub step_after : (folder : Folder) → IsImage d f k folder → AsAtBut d f T j folder
         step_after folder image n apart = step_leaves n (folder n) apart (image_leaves k folder image n)
 
-        pub step : d.is_told k.disk ≡ d.is_told j.disk → d.keeps_model k.disk ≡ d.keeps_model j.disk → OnlyTouches d f T j k
-        step told model = record {
+    pub step : (T : FileName → Type 0) (j k : Joint D F) → ((x : F) → IsHeld j.files x → ¬ T (f.name x) → Kept d f (IsTrue (d.is_told j.disk)) j k x) → ((n : FileName) → IsFree d f j n → ¬ T n → Left d f (IsTrue (d.is_told j.disk)) j k n)
+        → d.is_told k.disk ≡ d.is_told j.disk → d.keeps_model k.disk ≡ d.keeps_model j.disk → OnlyTouches d f T j k
+    step T j k kept left told model =
+        let S : Type 0 = IsTrue (d.is_told j.disk) in
+        record {
           stands = λ is n c apart under. record {
-            held = λ x held same. kept_stands is n c under x same (kept x held (not_touched x n same apart));
-            free = λ out. left_stands is n c under (left n out apart);
+            held = λ x held same. kept_stands T S j k is n c under x same (kept x held (not_touched T S j k kept left x n same apart));
+            free = λ out. left_stands T S j k is n c under (left n out apart);
           };
-          no_more = step_leaves;
-          run = then_to j k (rests (λ folder image n apart. image_leaves j folder image n)) step_between step_after;
+          no_more = step_leaves T S j k kept left;
+          run = then_to j k (rests (λ folder image n apart. image_leaves j folder image n)) (step_between T S j k kept left) (step_after T S j k kept left);
           told = told;
           model = model;
         }
+
+    -- a name that isn't touched, and that nobody holds afterwards
+    pub left_by : (T : FileName → Type 0) (S : Type 0) (j k : Joint D F) → Touches d T j.disk k.disk → (n : FileName) → ¬ T n → IsFree d f k n → Left d f S j k n
+    left_by T S j k run n apart out = free out (run.same n apart) (λ c. run.no_more n c apart) (λ c. untouched T j.disk k.disk run n c apart)
 
     -- ---- single calls, whatever other files are held
 
@@ -174,14 +189,16 @@ module _ {D F : Type 0} (d : disk.Ghosts D F) (f : file.Ghosts F) where
       -- the disk keeps to itself: nothing is taken or given
       pub disk_step : (T : FileName → Type 0) (x y : D) → Touches d T x y → OnlyTouches d f T (holding x files) (holding y files)
       disk_step T x y run =
-          step T (holding x files) (holding y files) (λ z held apart. on held)
-          (λ n out apart. free out (run.same n apart) (λ c. run.no_more n c apart) (λ c. untouched T x y run n c apart)) run.told run.model
+          let j : Joint D F = holding x files in
+          let k : Joint D F = holding y files in
+          step T j k (λ z held apart. on held) (λ n out apart. left_by T (IsTrue (d.is_told x)) j k run n apart out) run.told run.model
 
       -- a file of a touched name is taken
       pub take_step : (T : FileName → Type 0) (x y : D) (a : F) → Touches d T x y → T (f.name a) → OnlyTouches d f T (holding x files) (holding y (a ∷ files))
       take_step T x y a run touched =
-          step T (holding x files) (holding y (a ∷ files)) (λ z held apart. on (inr held))
-          (λ n out apart. free (free_with y a n (λ is. apart (subst T (sym is) touched)) out) (run.same n apart) (λ c. run.no_more n c apart) (λ c. untouched T x y run n c apart)) run.told run.model
+          let j : Joint D F = holding x files in
+          let k : Joint D F = holding y (a ∷ files) in
+          step T j k (λ z held apart. on (inr held)) (λ n out apart. left_by T (IsTrue (d.is_told x)) j k run n apart (free_with y a n (λ is. apart (subst T (sym is) touched)) out)) run.told run.model
 
       -- and written
       pub write_step : (T : FileName → Type 0) (x : D) (a b : F) → f.name b ≡ f.name a → T (f.name a) → OnlyTouches d f T (holding x (a ∷ files)) (holding x (b ∷ files))
@@ -192,23 +209,25 @@ module _ {D F : Type 0} (d : disk.Ghosts D F) (f : file.Ghosts F) where
       -- and given back
       pub give_step : (T : FileName → Type 0) (x y : D) (a : F) → Touches d T x y → T (f.name a) → OnlyTouches d f T (holding x (a ∷ files)) (holding y files)
       give_step T x y a run touched =
-          step T (holding x (a ∷ files)) (holding y files) (λ z held apart. ⊎_elim (λ is. absurd (apart (subst (λ (w : F). T (f.name w)) is touched))) (λ there. on there) held)
-          (λ n out apart. free (λ z there. out z (inr there)) (run.same n apart) (λ c. run.no_more n c apart) (λ c. untouched T x y run n c apart)) run.told run.model
+          let j : Joint D F = holding x (a ∷ files) in
+          let k : Joint D F = holding y files in
+          step T j k (λ z held apart. ⊎_elim (λ is. absurd (apart (subst (λ (w : F). T (f.name w)) is touched))) (λ there. on there) held)
+          (λ n out apart. left_by T (IsTrue (d.is_told x)) j k run n apart (λ z there. out z (inr there))) run.told run.model
 
       -- a file is opened
       pub open_step : (touched : FileName) (x y : D) (a : F) → Opening d f touched x y a → OnlyReads d f (holding x files) (holding y (a ∷ files))
       open_step touched x y a opening =
           let run = opening.touches in
-          let here : (n : FileName) → n ≡ touched → Left d f (holding x files) (holding y (a ∷ files)) n = λ n is. taken a (inl refl) (opening.name ∙ sym is)
+          let here : (n : FileName) → n ≡ touched → Left d f (IsTrue (d.is_told x)) (holding x files) (holding y (a ∷ files)) n = λ n is. taken a (inl refl) (opening.name ∙ sym is)
           (λ c left. subst (λ (m : FileName). d.may_leave x m c) (sym is) (opening.crash c left)) (λ told. ap (d.stands x) is ∙ opening.stood told) in
-          let elsewhere : (n : FileName) → IsFree d f (holding x files) n → n ≢ touched → Left d f (holding x files) (holding y (a ∷ files)) n = λ n out apart. free (free_with y a n (λ is. apart (is ∙ opening.name)) out) (run.same n apart)
+          let elsewhere : (n : FileName) → IsFree d f (holding x files) n → n ≢ touched → Left d f (IsTrue (d.is_told x)) (holding x files) (holding y (a ∷ files)) n = λ n out apart. free (free_with y a n (λ is. apart (is ∙ opening.name)) out) (run.same n apart)
           (λ c. run.no_more n c apart) (λ c. untouched (λ m. m ≡ touched) x y run n c apart) in
           step (λ n. ⊥) (holding x files) (holding y (a ∷ files)) (λ z held apart. on (inr held)) (λ n out none. ⊎_elim (here n) (elsewhere n out) (same_or_other touched n)) run.told run.model
 
       -- and read
       pub read_step : (x : D) (a b : F) → IsOnlyRead f a b → OnlyReads d f (holding x (a ∷ files)) (holding x (b ∷ files))
       read_step x a b only =
-          step (λ n. ⊥) (holding x (a ∷ files)) (holding x (b ∷ files)) (λ z held apart. ⊎_elim (λ is. subst (Kept d f (holding x (a ∷ files)) (holding x (b ∷ files))) is (read b (inl refl) only)) (λ there. on (inr there)) held)
+          step (λ n. ⊥) (holding x (a ∷ files)) (holding x (b ∷ files)) (λ z held apart. ⊎_elim (λ is. subst (Kept d f (IsTrue (d.is_told x)) (holding x (a ∷ files)) (holding x (b ∷ files))) is (read b (inl refl) only)) (λ there. on (inr there)) held)
           (λ n out apart. free (free_with x b n (λ is. out a (inl refl) (is ∙ only.name)) (λ z there. out z (inr there))) refl (λ c left. left) (λ c left. disk_now x n c left)) refl refl
 
       -- and given back as it was
@@ -217,12 +236,12 @@ module _ {D F : Type 0} (d : disk.Ghosts D F) (f : file.Ghosts F) where
           let run = giving.touches in
           let j : Joint D F = holding x (a ∷ files) in
           let k : Joint D F = holding y files in
-          step (λ n. ⊥) j k (λ z held apart. ⊎_elim (λ is. subst (Kept d f j k) is (given alone giving.crash (λ is_told. giving.stands is_told (subst IsTrue (sym told) is_told)))) (λ there. on there) held)
-          (λ n out apart. free (λ z there. out z (inr there)) (run.same n (out a (inl refl))) (λ c. run.no_more n c (out a (inl refl))) (λ c. untouched (λ m. m ≡ f.name a) x y run n c (out a (inl refl)))) run.told run.model
+          step (λ n. ⊥) j k (λ z held apart. ⊎_elim (λ is. subst (Kept d f (IsTrue (d.is_told x)) j k) is (given alone giving.crash (λ is_told. giving.stands is_told (subst IsTrue (sym told) is_told)))) (λ there. on there) held)
+          (λ n out apart. left_by (λ m. m ≡ f.name a) (IsTrue (d.is_told x)) j k run n (out a (inl refl)) (λ z there. out z (inr there))) run.told run.model
 
       -- all three
-      pub look : (touched : FileName) (x y z : D) (a b : F) → Opening d f touched x y a → IsOnlyRead f a b → Giving d f y z b → IsApart touched → OnlyReads d f (holding x files) (holding z files)
-      look touched x y z a b opening only giving alone =
+      pub look_step : (touched : FileName) (x y z : D) (a b : F) → Opening d f touched x y a → IsOnlyRead f a b → Giving d f y z b → IsApart touched → OnlyReads d f (holding x files) (holding z files)
+      look_step touched x y z a b opening only giving alone =
           let named : f.name b ≡ touched = only.name ∙ opening.name in
           only_then (λ n. ⊥) (holding x files) (holding y (a ∷ files)) (holding z files) (open_step touched x y a opening)
           (only_then (λ n. ⊥) (holding y (a ∷ files)) (holding y (b ∷ files)) (holding z files) (read_step y a b only)
