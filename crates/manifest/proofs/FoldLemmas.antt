@@ -76,6 +76,6 @@ manifest_usable [] fold means = absurd means
 manifest_usable (body ∷ []) fold means =
     let families = means.0 in
     let new = means.1.new in
-    let long : length (fold_of families).families ≡ length families = length-map family_fold families in
+    let long : length (fold_of families).families ≡ length families = simp length-map in
     subst (λ (f : Folded). (number : ℕ) × IsUsable f number) (sym means.2) (1, record { live = refl; some = omega (arith, long, new.some); few = omega (arith, long, new.few); last = omega arith })
 manifest_usable (body ∷ next ∷ bodies) fold means = absurd means
