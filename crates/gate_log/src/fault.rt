@@ -1,3 +1,5 @@
+//! Why a log is not made, or not read.
+
 use crate::Frame;
 
 /// Why a log wasn't made: a gate log, or a log that stands on one.

@@ -1,9 +1,11 @@
 //! Whole reads of a file, and the frames in its bytes.
 
 ghost use Rattle.std.specs.Prelude.{◌≡◌, ℕ, ◌+◌, ◌≢◌, ◌<◌, ◌≤◌, [], ◌∷◌, ◌++◌, length, take, drop, slice_index, IfOk, IfErr, IfSome, IfNone, OnOk, IsTrue};
-ghost use Rattle.gate_log.specs.Faults.{IsLogCause};
+ghost use Rattle.udt_disk.specs.Causes.{IsCause};
+ghost use Rattle.udt_disk.specs.Runs.{IsOnlyRead};
+ghost use Rattle.gate_log.specs.Faults.{is_log_disk_fault};
 ghost use Rattle.gate_log.specs.Reads.{IsWhole, IsFront};
-ghost use Rattle.gate_log.specs.Outcomes.{IsOnlyRead, IsFrontFault};
+ghost use Rattle.gate_log.specs.Outcomes.{IsFrontFault};
 
 use crate::frame::OPEN;
 use crate::{FRAME_LIMIT, Frame, FramesFault, LogFault, NoMemory};
@@ -15,7 +17,7 @@ pub(crate) fn read_whole<F: DiskFile>(alloc: Global, file: &mut F) -> Result<Vec
     ensures bytes { IfOk result (λ bytes. IsTrue (F.is_told file.old) → bytes.items ≡ F.seen file.old) }
     ensures same { IsOnlyRead F.DiskFile file.old file.new }
     ensures kept { OnOk result (F.faults file.new ≡ F.faults file.old) }
-    ensures cause { IfErr result (IsLogCause (F.faults file.old) (F.faults file.new)) }
+    ensures cause { IfErr result (λ fault. IsCause (is_log_disk_fault fault) (F.faults file.old) (F.faults file.new)) }
 {
     let Ok(len) = file.len() else {
         return Err(LogFault::DiskFault);

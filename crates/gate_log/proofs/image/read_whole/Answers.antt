@@ -1,5 +1,5 @@
 use Rattle.udt_disk.specs.Crash.{Image}
-use Rattle.gate_log.proofs.OnlyReads.{one_read, read_then}
+use Rattle.udt_disk.proofs.Runs.{one_read, read_then}
 use Rattle.gate_log.proofs.image.read_whole.Goals as goal
 
 pub returns-in-Ok-read_at-clause-same : goal.returns-in-Ok-read_at-clause-same
