@@ -174,3 +174,24 @@ fn a_missing_folder_is_made_by_init_alone(rt: HostRuntime) -> Result<(), Fail> {
     fs::remove_dir_all(&rt, path.as_str())?;
     Ok(())
 }
+
+#[test]
+fn what_stands_behind_a_log_costs_nothing(rt: HostRuntime) -> Result<(), Fail> {
+    let alloc = rt.alloc();
+    let path = temporary(&rt, "tail")?;
+    let folder = format!(in alloc; "{path}/X")?;
+    let file = format!(in alloc; "{path}/F")?;
+    let log = format!(in alloc; "{path}/X/1.log")?;
+    fs::write(&rt, file.as_str(), "put d a 1 x sync\n")?;
+    let mut host = RealHost::new(&rt);
+    let made = init(alloc, &mut host, &folder)?;
+    assert!(rt; made.is(Status::Done, "made 2\n"), "{made:?}");
+    for opened in ["opened 0\n", "opened 1\n", "opened 2\n"] {
+        let ran = run(alloc, &mut host, &folder, &file)?;
+        assert!(rt; ran.status == Status::Done && ran.tells(opened), "{ran:?}");
+        let grown = fs::OpenOptions::new().write(true).open(&rt, log.as_str())?;
+        grown.set_len(3 << 30)?;
+    }
+    fs::remove_dir_all(&rt, path.as_str())?;
+    Ok(())
+}
