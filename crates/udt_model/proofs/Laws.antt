@@ -1,17 +1,18 @@
 -- Laws of the definitions.
 use Rattle.std.proofs.Common.{arith, ◌≡◌, ◌≢◌, ℕ, zero, suc, ◌+◌, ◌<◌, true, false, not, List, [], ◌∷◌, ◌++◌, length, map, Option, Some, None, refl, sym, ap, ◌∙◌, subst, inl, inr}
-use Rattle.std.specs.Prelude.{AllPairs, filter, option_map, slice_get, slice_index_or}
+use Rattle.std.specs.Prelude.{All, AllPairs, filter, option_map, slice_get, slice_index_or}
 use Rattle.std.specs.Str.{bytes_eq}
 use Rattle.std.proofs.lemmas.Bool.{cases_Bool}
 use Rattle.ts_key.specs.declared.numbers.Family.{Family}
 use Rattle.ts_key.specs.declared.numbers.Ts.{Ts}
+use Rattle.ts_key.specs.declared.numbers.Seq.{Seq}
 use Rattle.ts_key.specs.declared.version.Form.TheVariants.{Persist}
 use Rattle.ts_key.specs.declared.version.Version.{Version}
 use Rattle.udt_model.specs.declared.line.FamilyHead.{FamilyHead}
 use Rattle.udt_model.specs.declared.line.Line.{Line}
 use Rattle.udt_model.specs.declared.reply.KeySpan.{KeySpan}
 use Rattle.udt_model.specs.declared.place.Place.{Place}
-use Rattle.udt_model.specs.Versions.{visible}
+use Rattle.udt_model.specs.Versions.{AreRising, visible}
 use Rattle.udt_model.specs.Orders.{is_in_some, stored}
 use Rattle.udt_model.specs.Collecting.{collect, collect_all, is_useless, seen_of}
 use Rattle.udt_model.specs.Standing.{AreAlike, Stands}
@@ -35,7 +36,7 @@ all_stay kept floor deeper everywhere (v ∷ vs) =
     rw (stays, all_stay kept floor deeper everywhere vs) refl
 
 -- with spans that hold every key a compaction keeps what a flush keeps
-pub collect_everywhere : (vs : List Version) (floor : Ts) (seqs : List ℕ) (deeper : List KeySpan) → ((v : Version) → is_in_some deeper v.key ≡ true) → collect vs floor seqs deeper ≡ collect_all vs floor seqs
+pub collect_everywhere : (vs : List Version) (floor : Ts) (seqs : List Seq) (deeper : List KeySpan) → ((v : Version) → is_in_some deeper v.key ≡ true) → collect vs floor seqs deeper ≡ collect_all vs floor seqs
 collect_everywhere vs floor seqs deeper everywhere = ap stored (all_stay (seen_of vs floor seqs) floor deeper everywhere (seen_of vs floor seqs))
 
 -- ---- families by name and by number
@@ -56,14 +57,14 @@ found n (head ∷ heads) name =
     elim (cases_Bool (bytes_eq head.name name)) [
       | inl x ↦ record { at = 0; family = rw x (ap numbered (sym here)); place = rw x (ap (λ (k : ℕ). let p : Option Place = Some (place_of_head (numbered k) head) in p) here) }
       | inr x ↦
-        let more = found (n + 1) heads name in
-        let next : n + 1 + more.at ≡ n + suc more.at = omega arith in
-        let size : n + length (head ∷ heads) ≡ n + 1 + length heads = omega arith in
-        record {
-          at = suc more.at;
-          family = rw x (ap (λ (k : ℕ). family_or k (place_from (n + 1) heads name)) size ∙ more.family ∙ ap numbered next);
-          place = rw x (ap (λ (k : ℕ). option_map (place_of_head (numbered k)) (slice_get heads more.at)) (sym next) ∙ more.place);
-        }
+          let more = found (n + 1) heads name in
+          let next : n + 1 + more.at ≡ n + suc more.at = omega arith in
+          let size : n + length (head ∷ heads) ≡ n + 1 + length heads = omega arith in
+          record {
+            at = suc more.at;
+            family = rw x (ap (λ (k : ℕ). family_or k (place_from (n + 1) heads name)) size ∙ more.family ∙ ap numbered next);
+            place = rw x (ap (λ (k : ℕ). option_map (place_of_head (numbered k)) (slice_get heads more.at)) (sym next) ∙ more.place);
+          }
     ]
 
 -- the place of the family of a name is that of the name
@@ -81,11 +82,12 @@ same_image : (w : List Version) (floor : Ts) (family : Family) (a : Option Versi
 same_image w floor family None = tt
 same_image w floor family (Some v) = refl
 
--- a list whose sequences differ stands for itself
-pub stands_itself : (family : Family) (w : List Version) (floor : Ts) (seqs : List ℕ) → AllPairs (λ (a b : Version). a.seq.0 ≢ b.seq.0) w → Stands family Persist w w floor seqs
-stands_itself family w floor seqs apart = record {
-  images = λ k d within. (slice_index_or w k d, (k, within, inside w k d within), refl);
+-- the versions of one family stand for themselves, where their sequences differ and their timestamps rise
+pub stands_itself : (family : Family) (w : List Version) (floor : Ts) (seqs : List Seq) → All (λ (v : Version). v.family ≡ family) w → AllPairs (λ (a b : Version). a.seq.0 ≢ b.seq.0) w → AreRising w → Stands family Persist w w floor seqs
+stands_itself family w floor seqs own apart rising = record {
+  images = λ k d within. (slice_index_or w k d, (k, within, inside w k d within), own k d within, refl);
   apart = apart;
+  rising = rising;
   alike = λ key t s above sight. same_image w floor family (visible w family key t s);
 }
   where
