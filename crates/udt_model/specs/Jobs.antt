@@ -76,10 +76,14 @@ is_amid a b c = (nat_lt a b && nat_lt b c) || (nat_lt c b && nat_lt b a)
 abbrev pub goes_with : ℕ → LiveTable → LiveTable → Bool
 goes_with level input t = t.level == level || is_amid input.level t.level level || (input.level == 0 && t.level == 0)
 
+-- the hull of the keys of tables; where there is none, the span of the empty key
+abbrev pub hull_of : List LiveTable → KeySpan
+hull_of [] = span_of []
+hull_of (t ∷ ts) = hull_with (span_of t.versions) (spans_of ts)
+
 -- the table meets the hull of the inputs and has to be taken in with one of them
 abbrev pub is_wanted : ℕ → List LiveTable → LiveTable → Bool
-is_wanted level [] t = false
-is_wanted level (i ∷ is) t = meets (span_of t.versions) (hull_with (span_of i.versions) (spans_of is)) && list_any (λ input. goes_with level input t) (i ∷ is)
+is_wanted level inputs t = meets (span_of t.versions) (hull_of inputs) && list_any (λ input. goes_with level input t) inputs
 
 -- the live tables of a family that are inputs
 abbrev pub inputs_of : State → Family → List ℕ → List LiveTable
