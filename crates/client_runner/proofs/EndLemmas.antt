@@ -7,7 +7,7 @@ use Rattle.udt_disk.specs.Opens.{Standing}
 use Rattle.udt_disk.specs.OpensFolder.{Holding}
 use Rattle.udt_model.specs.declared.line.FamilyHead.{FamilyHead}
 use Rattle.udt_model.specs.declared.line.Line.{Line}
-use Rattle.udt_model.specs.State.{State}
+use Rattle.udt_model.specs.State.{State, heads_of}
 use Rattle.udt_model.specs.Histories.{Point, Leads, start}
 use Rattle.client_lang.specs.Print.{IsBuiltLine, print_header, print_lines}
 use Rattle.client_runner.specs.Commands.{IsRun}
@@ -123,7 +123,7 @@ run_told standing old new leaves before now file r status from e =
         spelled = from.read.spelled;
         only = from.read.only;
         history = run.history;
-        printed = text_is r (print_header run.m.last.0 run.m.heads) run.lines run.waits.header_is run.waits.lines_are;
+        printed = text_is r (print_header run.m.last.0 (heads_of run.m)) run.lines run.waits.header_is run.waits.lines_are;
       };
       status_is = lines_are;
       cause = fault_rose before now run.m run.lines run.end status (subst (λ (ls : List Line). All IsBuiltLine ls) run.waits.lines_are run.waits.built) run.works run.history.legal run.sound lines_are;

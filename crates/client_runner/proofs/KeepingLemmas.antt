@@ -16,7 +16,7 @@ use Rattle.udt_model.specs.declared.event.Event.TheVariants.{Write, Sync}
 use Rattle.udt_model.specs.declared.event.NamedOp.{NamedOp}
 use Rattle.udt_model.specs.declared.reply.Reply.{Reply}
 use Rattle.udt_model.specs.declared.reply.Reply.TheVariants.{OkAt, Fault, Done}
-use Rattle.udt_model.specs.State.{State}
+use Rattle.udt_model.specs.State.{State, heads_of}
 use Rattle.client_runner.specs.Named.{made}
 use Rattle.udt_model.specs.Crashes.{Course, Failing, IsOutcome, course_start, cut_at, settled}
 use Rattle.udt_model.specs.Acts.Act.{write}
@@ -36,7 +36,7 @@ use Rattle.client_runner.specs.Logging.{HoldsLogged, IsLogged}
 use Rattle.client_runner.specs.LoggedStores.{KeepsOn}
 use Rattle.client_runner.specs.Stores.{last_of, state_of}
 use Rattle.client_runner.specs.Stores as stores
-use Rattle.client_runner.proofs.VersionLemmas.{Above, above_behind, cut_state, last_append, last_behind, last_up, length-made, numbered_of, state_more, wal_above, whole_state}
+use Rattle.client_runner.proofs.VersionLemmas.{Above, above_behind, cut_state, last_append, last_behind, last_up, length-made, numbered_of, settled_state, state_more, wal_above, whole_state}
 
 -- the state after a write that was taken
 abbrev pub taken : State → List NamedOp → State
@@ -51,7 +51,7 @@ abbrev pub course_taken : State → Course → List NamedOp → Bool → Course
 course_taken m c os sync = record c { ends = c.ends ++ (m.last.0 + length os) ∷ []; synced = if sync then m.last.0 + length os else c.synced }
 
 abbrev pub course_failed : State → ℕ → Course → List NamedOp → Bool → Course
-course_failed m number c os sync = record c { failing = Some (record { state = m; number = number; act = write (map (named_op m.heads) os) sync }) }
+course_failed m number c os sync = record c { failing = Some (record { state = m; number = number; act = write (map (named_op (heads_of m)) os) sync }) }
 
 synced_within : (sync : Bool) (before last : ℕ) → before ≤ last → (if sync then last else before) ≤ last
 synced_within true before last le = omega arith
@@ -237,15 +237,16 @@ module _ {F : Type 0} (g : Ghosts F) where
   }
 
   -- the disk failed under a write: a crash leaves all before it, or it too
-  failed_outcome : (fold : Folded) (old : Wal F g) (m : State) (number : ℕ) (os : List NamedOp) (sync : Bool) (c : Course) → OkAt (m.last.0 + length os) ≡ act_admitted m (map (named_op m.heads) os) → fold.last.0 ≡ 0 → stores.sizes_of fold ≡ sizes_of old → (live : IsLive g fold old m c) (image : Image)
+  failed_outcome : (fold : Folded) (old : Wal F g) (m : State) (number : ℕ) (os : List NamedOp) (sync : Bool) (c : Course) → OkAt (m.last.0 + length os) ≡ act_admitted m (map (named_op (heads_of m)) os) → fold.last.0 ≡ 0 → stores.sizes_of fold ≡ sizes_of old → (live : IsLive g fold old m c) (image : Image)
       → IsBeforeOrAfter (sizes_of old) live.batches (live.waiting ++ numbered_of m os ∷ []) image → ReadsAsOutcome fold (halted_at m number) (course_failed m number c os sync) image
   failed_outcome fold old m number os sync c told zero sizes live image (inl before) =
       record { batches = live.batches; reads = subst (λ (s : List ℕ). ReadsAs s live.batches image) (sym sizes) before; outcome = inl (last_of fold.last.0 live.batches, live.here, live.synced, live_cut_is fold old m c zero live) }
   failed_outcome fold old m number os sync c told zero sizes live image (inr all_of) =
       let n : Numbered = numbered_of m os in
       let all : List Numbered = live.batches ++ (live.waiting ++ n ∷ []) in
-      let state : state_of fold all ≡ settled (after_act m number (write (map (named_op m.heads) os) sync) (OkAt (m.last.0 + length os))) =
+      let state : state_of fold all ≡ settled (after_act m number (write (map (named_op (heads_of m)) os) sync) (OkAt (m.last.0 + length os))) =
       ap (state_of fold) (sym (append_assoc live.batches live.waiting (n ∷ [])))
+      ∙ sym (settled_state fold ((live.batches ++ live.waiting) ++ n ∷ []))
       ∙ ap settled (sym (state_more fold m (live.batches ++ live.waiting) os live.state_is))
       ∙ ap (λ (vs : List Version). let s : State = record m { versions = m.versions ++ vs; last = record { 0 = m.last.0 + length os } } in settled s) (sym (same_made m os m.last.0)) in
       record {
@@ -254,7 +255,7 @@ module _ {F : Type 0} (g : Ghosts F) where
         outcome = inr (OkAt (m.last.0 + length os), told, refl, state);
       }
 
-  pub write_fails : (old new : Wal F g) (m : State) (number : ℕ) (os : List NamedOp) (sync : Bool) → m.halted ≡ None → OkAt (m.last.0 + length os) ≡ act_admitted m (map (named_op m.heads) os) → IsLogged g old new (numbered_of m os) sync (Err DiskFault) → KeepsOn g old new m (halted_at m number) number (Write os sync) Fault
+  pub write_fails : (old new : Wal F g) (m : State) (number : ℕ) (os : List NamedOp) (sync : Bool) → m.halted ≡ None → OkAt (m.last.0 + length os) ≡ act_admitted m (map (named_op (heads_of m)) os) → IsLogged g old new (numbered_of m os) sync (Err DiskFault) → KeepsOn g old new m (halted_at m number) number (Write os sync) Fault
   write_fails old new m number os sync works told logged = record {
     keeps = λ fold c zero sizes keeps.
         let live = keeps.live works in

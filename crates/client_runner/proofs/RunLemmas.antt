@@ -1,6 +1,6 @@
 -- What a run over the store in a folder leaves there.
 use Rattle.std.proofs.Common.{◌⊎◌, ◌≡◌, ◌≢◌, inl, inr, ⊎_elim, ℕ, ◌+◌, ◌≤◌, Bool, true, false, if◌then◌else◌, ◌||◌, List, [], ◌∷◌, ◌++◌, refl, sym, ap, ◌∙◌, subst, arith}
-use Rattle.std.specs.Prelude.{Some, None, Option, IsTrue, IfOk, Result, Ok, Err}
+use Rattle.std.specs.Prelude.{map, Some, None, Option, IsTrue, IfOk, Result, Ok, Err}
 use Rattle.std.specs.List.{list_any}
 use Rattle.std.proofs.lemmas.List.Folds.{list_any-append}
 use Rattle.udt_disk.specs.Causes.{plus_faults, Rose}
@@ -23,7 +23,8 @@ use Rattle.udt_model.specs.declared.line.Who.TheVariants.{Client}
 use Rattle.udt_model.specs.State.{State, unflushed}
 use Rattle.client_runner.specs.Named.{IsReply, after}
 use Rattle.udt_model.specs.Histories.{Point, start, IsLegal, behind, Leads, own}
-use Rattle.udt_model.specs.Crashes.{Course, IsOutcome, course_start, course_behind}
+use Rattle.udt_model.specs.Crashes.{Course, IsOutcome, course_start, course_behind, settled}
+use Rattle.udt_model.proofs.Laws.{heads_unflushed}
 use Rattle.client_runner.specs.Named.{course_after}
 use Rattle.client_runner.proofs.Naming.{after_agrees, reply_agrees_back}
 use Rattle.gate_log.specs.Outcomes.{IsSameFile}
@@ -57,6 +58,7 @@ use Rattle.client_runner.specs.declared.solo.logged.LoggedStore.{LoggedStore}
 use Rattle.client_runner.specs.declared.status.Status.TheVariants as statuses
 use Rattle.client_runner.specs.declared.status.Stop.TheVariants.{NoMemory}
 use Rattle.client_runner.proofs.KeepingLemmas.{all_synced, opens_kept}
+use Rattle.client_runner.proofs.VersionLemmas.{settled_state}
 use Rattle.client_runner.proofs.Opening.{chosen_isn't_log}
 use Rattle.client_runner.proofs.SoloLemmas.{course_push, height_kept, sound_none}
 use Rattle.client_runner.proofs.States.{opened_stands}
@@ -235,7 +237,8 @@ module _ {D F : Type 0} (d : disk.Ghosts D F) (f : file.Ghosts F) where
   parts_say : (opened : D) (parts : Parts D F f) → (o : IsOpened d f opened parts) → state_of_parts parts ≡ stores.state_of o.fold o.batches
   parts_say opened parts o =
       let m : State = stores.state_of o.fold o.batches in
-      ap (λ (heads : List FamilyHead). with_state heads parts.versions.items parts.last) o.heads ∙ ap (λ (versions : List Version). with_state m.heads versions parts.last) o.versions ∙ ap (with_state m.heads m.versions) o.last
+      let heads : List FamilyHead = map stores.head_of o.fold.families in
+      ap (λ (heads : List FamilyHead). with_state heads parts.versions.items parts.last) o.heads ∙ ap (λ (versions : List Version). with_state heads versions parts.last) o.versions ∙ ap (with_state heads m.versions) o.last
 
   -- at the opening the log keeps the history that begins there
   opened_keeps : (opened : D) (parts : Parts D F f) (first : LoggedStore F f) → IsClean d opened → (o : IsOpened d f opened parts) → state_of first ≡ state_of_parts parts → wal_of first ≡ parts.wal
@@ -286,7 +289,7 @@ module _ {D F : Type 0} (d : disk.Ghosts D F) (f : file.Ghosts F) where
   whole_left : (opened new : D) (parts : Parts D F f) (first now : LoggedStore F f) (lines : List Line) (end : Point) → IsTrue (d.is_told opened) → IsClean d opened → (o : IsOpened d f opened parts)
       → OnlyReads d f opened parts.disk (files_of parts) → d.is_told parts.disk ≡ d.is_told opened → f.is_told (wal_file parts.wal) ≡ d.is_told opened → f.is_told (manifest_file parts.manifest) ≡ d.is_told opened
       → wal_of first ≡ parts.wal → HasMade first now (state_of_parts parts) lines end → IsClosed parts.disk new (wal_file (wal_of now)) (manifest_file parts.manifest)
-      → status_of_lines lines ≡ statuses.Done → FolderStands (d.stands new) end.state
+      → status_of_lines lines ≡ statuses.Done → FolderStands (d.stands new) (settled end.state)
   whole_left opened new parts first now lines end told clean o reads told_disk told_wal told_manifest wal made closed done =
       let log : F = wal_file (wal_of now) in
       let c : Course = course_behind (start (state_of_parts parts)) (course_start (state_of_parts parts)) lines in
@@ -301,12 +304,12 @@ module _ {D F : Type 0} (d : disk.Ghosts D F) (f : file.Ghosts F) where
       ap (d.stands new) (sym named) ∙ closed.log_stands (subst IsTrue (sym told_disk) told) (subst IsTrue (sym told_log) told) (made_apart opened parts log o named) in
       let held : ReadsAs (sizes_of o.fold) is.0 (d.stands new (Log o.number)) = subst (λ (image : Image). ReadsAs (sizes_of o.fold) is.0 image) (sym stands) (holds_reads o.fold (wal_of now) is.0 kept.1 is.1) in
       let same = closed_stands opened new parts log told o reads told_disk told_manifest named closed in
-      stands_so o.number (d.stands opened) (d.stands new) o.fold is.0 end.state same o.means o.live held (made.state_is ∙ is.2)
+      stands_so o.number (d.stands opened) (d.stands new) o.fold is.0 (settled end.state) same o.means o.live held (ap settled (made.state_is ∙ is.2) ∙ settled_state o.fold is.0)
 
   -- and so does each that a crash may leave
   whole_crash : (opened new : D) (parts : Parts D F f) (first now : LoggedStore F f) (lines : List Line) (end : Point) → IsClean d opened → (o : IsOpened d f opened parts) → OnlyReads d f opened parts.disk (files_of parts)
       → wal_of first ≡ parts.wal → HasMade first now (state_of_parts parts) lines end → IsClosed parts.disk new (wal_file (wal_of now)) (manifest_file parts.manifest)
-      → status_of_lines lines ≡ statuses.Done → (folder : Folder) → MayBeLeft (d.may_leave new) folder → FolderStands folder end.state
+      → status_of_lines lines ≡ statuses.Done → (folder : Folder) → MayBeLeft (d.may_leave new) folder → FolderStands folder (settled end.state)
   whole_crash opened new parts first now lines end clean o reads wal made closed done folder left =
       let log : F = wal_file (wal_of now) in
       let c : Course = course_behind (start (state_of_parts parts)) (course_start (state_of_parts parts)) lines in
@@ -321,7 +324,7 @@ module _ {D F : Type 0} (d : disk.Ghosts D F) (f : file.Ghosts F) where
       closed.log_leaves (made_apart opened parts log o named) image (subst (λ (k : FileName). d.may_leave new k image) (sym named) (left (Log o.number))) in
       let held : ReadsAs (sizes_of o.fold) is.0 image = subst (ReadsAs (sizes_of o.fold) is.0) (sym (is.1.durable image leaves)) (holds_reads o.fold (wal_of now) is.0 kept.1 is.1) in
       let same = closed_leaves opened new parts log clean o reads named closed folder left in
-      stands_so o.number (d.stands opened) folder o.fold is.0 end.state same o.means o.live held (made.state_is ∙ is.2)
+      stands_so o.number (d.stands opened) folder o.fold is.0 (settled end.state) same o.means o.live held (ap settled (made.state_is ∙ is.2) ∙ settled_state o.fold is.0)
 
   -- ---- runs
 
@@ -416,7 +419,7 @@ module _ {D F : Type 0} (d : disk.Ghosts D F) (f : file.Ghosts F) where
     lines = run.lines;
     end = run.end;
     history = run.ready.0;
-    waits = run.ready.1;
+    waits = subst (λ (heads : List FamilyHead). Waits (print_header parts.last.0 heads) run.lines r) (sym (heads_unflushed parts.heads.items)) run.ready.1;
     sound = subst (λ (n : ℕ). AreSoundUnless n (d.faults new) run.lines) from.kept run.sound;
     kept = keeps_from old new parts commands (Ok r) from run;
   }

@@ -1,6 +1,6 @@
 -- A folder stands for one state at most, which is that of a store opened there.
 use Rattle.std.proofs.Common.{◌≡◌, ◌≢◌, ℕ, ◌≤◌, List, [], ◌∷◌, length, refl, sym, ap, ◌∙◌, subst, arith}
-use Rattle.std.specs.Prelude.{Some, None}
+use Rattle.std.specs.Prelude.{map, Some, None}
 use Rattle.std.proofs.lemmas.List.{length-map}
 use Rattle.ts_key.specs.declared.numbers.Seq.{Seq}
 use Rattle.ts_key.specs.declared.version.Version.{Version}
@@ -19,7 +19,7 @@ use Rattle.manifest.specs.declared.fold.FamilyFold.{FamilyFold}
 use Rattle.manifest.specs.Folders.{Means}
 use Rattle.manifest.specs.Folders.Meaning.{no_store, bad_at, store}
 use Rattle.manifest.proofs.Meanings.{means_once}
-use Rattle.client_runner.specs.Stores.{FolderStands, sizes_of, state_of}
+use Rattle.client_runner.specs.Stores.{FolderStands, head_of, sizes_of, state_of}
 use Rattle.client_runner.specs.Openings.{RefusesOpening, IsBadLogFile}
 use Rattle.client_runner.specs.Opened.{IsOpened}
 use Rattle.client_runner.specs.declared.recovery.OpenFault.{OpenFault}
@@ -82,6 +82,7 @@ with_state heads versions last = unflushed heads versions last None
 pub opened_stands : {D F : Type 0} (d : disk.Ghosts D F) (f : file.Ghosts F) (old : D) (parts : Parts D F f) → IsOpened d f old parts → FolderStands (d.stands old) (unflushed parts.heads.items parts.versions.items parts.last None)
 opened_stands d f old parts opened =
     let m : State = state_of opened.fold opened.batches in
+    let heads : List FamilyHead = map head_of opened.fold.families in
     record {
       fold = opened.fold;
       means = opened.means;
@@ -89,5 +90,5 @@ opened_stands d f old parts opened =
       live = opened.live;
       batches = opened.batches;
       held = opened.held;
-      state_is = ap (λ (heads : List FamilyHead). with_state heads parts.versions.items parts.last) opened.heads ∙ ap (λ (versions : List Version). with_state m.heads versions parts.last) opened.versions ∙ ap (with_state m.heads m.versions) opened.last;
+      state_is = ap (λ (heads : List FamilyHead). with_state heads parts.versions.items parts.last) opened.heads ∙ ap (λ (versions : List Version). with_state heads versions parts.last) opened.versions ∙ ap (with_state heads m.versions) opened.last;
     }

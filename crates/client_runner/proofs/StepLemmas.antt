@@ -23,7 +23,7 @@ use Rattle.udt_model.specs.declared.line.FamilyHead.{FamilyHead}
 use Rattle.udt_model.specs.declared.place.Place.{Place}
 use Rattle.udt_model.specs.declared.reply.Reply.{Reply}
 use Rattle.udt_model.specs.declared.reply.Reply.TheVariants as replies
-use Rattle.udt_model.specs.State.{State, place_from, family_or}
+use Rattle.udt_model.specs.State.{State, place_from, family_or, heads_of}
 use Rattle.client_runner.specs.Named.{accepted_unless, admitted, done_unless, family_of, made, place_of, unknown, version_of}
 use Rattle.udt_model.specs.Refusals.{unknown_place, ◌or_else◌}
 use Rattle.wal.specs.declared.numbered.Numbered.{Numbered}
@@ -82,10 +82,10 @@ place_within n j (head ∷ heads) name known =
     (λ _. omega arith) (λ behind. let within = place_within (n + 1) j heads name behind in omega (arith, within)) known
 
 -- the families of a write's operations are among those of the store
-pub made_within : (m : State) (n k : ℕ) (os : List NamedOp) → k ≡ length m.heads → unknown m os ≡ None → All (λ (op : WriteOp). op.family.0 < k) (map op_of (made m n os))
+pub made_within : (m : State) (n k : ℕ) (os : List NamedOp) → k ≡ length (heads_of m) → unknown m os ≡ None → All (λ (op : WriteOp). op.family.0 < k) (map op_of (made m n os))
 made_within m n k [] size known = All-nil (λ (op : WriteOp). op.family.0 < k)
 made_within m n k (o ∷ os) size known =
-    let first : (family_of m o).0 < 0 + length m.heads = place_within 0 (length m.heads) m.heads o.family (none_first (unknown_place (place_of m o.family)) (unknown m os) known) in
+    let first : (family_of m o).0 < 0 + length (heads_of m) = place_within 0 (length (heads_of m)) (heads_of m) o.family (none_first (unknown_place (place_of m o.family)) (unknown m os) known) in
     All-cons (λ (op : WriteOp). op.family.0 < k) (op_of (version_of (family_of m o) o (n + 1))) (map op_of (made m (n + 1) os)) (omega (arith, first, size)) (made_within m (n + 1) k os size (none_second (unknown_place (place_of m o.family)) (unknown m os) known))
 
 drop_front : (vs more : List Version) (n : ℕ) → n ≡ length vs → drop n (vs ++ more) ≡ more
@@ -118,7 +118,7 @@ added_last m now count os added room =
     let last : now.last.0 ≡ m.last.0 = ap (λ (s : State). s.last.0) added.is in
     omega (arith, size, last, room)
 
-pub added_within : (m now : State) (count k : ℕ) (os : List NamedOp) → IsAdded m now count os → k ≡ length m.heads → refusal_of m os ≡ None → All (λ (op : WriteOp). op.family.0 < k) (map op_of (drop count now.versions))
+pub added_within : (m now : State) (count k : ℕ) (os : List NamedOp) → IsAdded m now count os → k ≡ length (heads_of m) → refusal_of m os ≡ None → All (λ (op : WriteOp). op.family.0 < k) (map op_of (drop count now.versions))
 added_within m now count k os added size taken =
     subst (λ (vs : List Version). All (λ (op : WriteOp). op.family.0 < k) (map op_of vs)) (sym (added_versions m now count os added)) (made_within m m.last.0 k os size (all_known m os taken))
 

@@ -1,13 +1,18 @@
 -- What a command prints, and why it stops.
-use Rattle.std.proofs.Common.{◌≡◌, ℕ, List, [], ◌++◌, Option, Some, None, ◌⊎◌, refl, sym, ap, subst, ◌∙◌, inl, inr}
+use Rattle.std.proofs.Common.{◌≡◌, ℕ, false, List, [], ◌++◌, Option, Some, None, ◌⊎◌, refl, sym, ap, subst, ◌∙◌, inl, inr}
 use Rattle.std.specs.Io.KnownBytes.{Appends}
 use Rattle.std.specs.List.{list_any}
+use Rattle.std.specs.Prelude.{All, slice_index_or}
 use Rattle.std.proofs.lemmas.Bool.{cases_Bool}
 use Rattle.udt_disk.specs.Causes.{Rose}
 use Rattle.udt_disk.specs.Joint.{Folder}
 use Rattle.udt_disk.specs.Opens.{Standing, Stands, Told, IsMissing}
 use Rattle.udt_disk.specs.OpensFolder.{Holding}
 use Rattle.udt_model.specs.State.{State}
+use Rattle.udt_model.specs.Lines.{says_files}
+use Rattle.udt_model.specs.Histories.{HasFiles}
+use Rattle.udt_model.specs.declared.reply.Reply.{Reply}
+use Rattle.udt_model.specs.declared.reply.Reply.TheVariants as replies
 use Rattle.udt_model.specs.declared.line.Line.{Line}
 use Rattle.udt_model.specs.declared.line.FamilyHead.{FamilyHead}
 use Rattle.client_lang.specs.declared.command.Command.{Command}
@@ -18,7 +23,7 @@ use Rattle.client_lang.specs.declared.grammar.lines.ReadFault.{ReadFault}
 use Rattle.client_lang.specs.declared.grammar.lines.ReadFault.TheVariants as faults
 use Rattle.client_lang.specs.Faults.{IsReadFault, Refuses}
 use Rattle.client_lang.specs.Grammar.{IsFile}
-use Rattle.client_lang.specs.Print.{print_lines}
+use Rattle.client_lang.specs.Print.{IsBuiltLine, IsBuiltReply, print_lines}
 use Rattle.manifest.specs.declared.fold.Folded.{Folded}
 use Rattle.manifest.specs.Folders.{Means}
 use Rattle.manifest.specs.Folders.Meaning.{no_store, bad_at, store}
@@ -43,10 +48,19 @@ use Rattle.client_runner.proofs.WordLemmas.{help_no_init, help_no_run, help_no_t
 
 -- ---- files
 
+has_files : (r : Reply) → IsBuiltReply r → says_files r ≡ false
+has_files (replies.Files next) built = absurd built
+has_files (replies.DroppedFiles next) built = absurd built
+has_files r built = refl
+
+-- no reply that is built says that there are no files left
+files_there : (lines : List Line) → All IsBuiltLine lines → All HasFiles lines
+files_there lines built = λ k d within. has_files (slice_index_or lines k d).reply (built k d within).reply
+
 -- commands that are transcribed give the transcript of a file that spells them
 pub ready_of : (bytes : List ℕ) (commands : List Command) (r : Ready) → IsFile bytes commands → ((other : List Command) → IsFile bytes other → other ≡ commands) → IsTranscribed commands r → IsReady bytes r
 ready_of bytes commands r spelled only p = record {
-  transcript = record { commands = commands; lines = r.lines.items; spelled = spelled; only = only; history = p.history; sound = p.sound; printed = ap (λ (t : List ℕ). t ++ print_lines r.lines.items) p.header };
+  transcript = record { commands = commands; lines = r.lines.items; spelled = spelled; only = only; history = p.history; sound = p.sound; files = files_there r.lines.items p.built; printed = ap (λ (t : List ℕ). t ++ print_lines r.lines.items) p.header };
   built = p.built;
   room = p.room;
 }

@@ -3,7 +3,7 @@ use Rattle.std.specs.Prelude.{◌≡◌, ℕ, List, None}
 use Rattle.udt_disk.specs.Opens.{Standing}
 use Rattle.udt_disk.specs.OpensFolder.{Holding}
 use Rattle.udt_model.specs.declared.line.Line.{Line}
-use Rattle.udt_model.specs.State.{State}
+use Rattle.udt_model.specs.State.{State, heads_of}
 use Rattle.udt_model.specs.Histories.{Point}
 use Rattle.client_lang.specs.declared.command.Command.{Command}
 use Rattle.client_lang.specs.Print.{print_header}
@@ -24,7 +24,7 @@ pub record IsRunAt (old new : Holding) (leaves : Leaves) (before now : ℕ) (com
   pub lines : List Line
   pub end : Point
   pub history : IsRunHistory m commands lines end
-  pub waits : Waits (print_header m.last.0 m.heads) lines r
+  pub waits : Waits (print_header m.last.0 (heads_of m)) lines r
   pub sound : AreSoundUnless before now lines
   pub left : ContinuesFrom old new leaves m lines end
 

@@ -8,10 +8,10 @@ use Rattle.udt_disk.specs.declared.name.FileName.{FileName}
 use Rattle.udt_model.specs.declared.line.Line.{Line}
 use Rattle.udt_model.specs.declared.line.FamilyHead.{FamilyHead}
 use Rattle.udt_model.specs.declared.reply.Reply.{Reply}
-use Rattle.udt_model.specs.declared.reply.Reply.TheVariants.{Fault, Halted}
+use Rattle.udt_model.specs.declared.reply.Reply.TheVariants.{DroppedFault, Fault, Halted}
 use Rattle.udt_model.specs.State.{State}
 use Rattle.udt_model.specs.Histories.{Point, start}
-use Rattle.udt_model.specs.Crashes.{IsOutcome, course_start, course_behind}
+use Rattle.udt_model.specs.Crashes.{IsOutcome, course_start, course_behind, settled}
 use Rattle.manifest.specs.Folders.{Means}
 use Rattle.manifest.specs.Folders.Meaning.{no_store}
 use Rattle.client_runner.specs.Stores.{FolderStands}
@@ -59,6 +59,7 @@ StaysAsItWas (Some (Some folder)) new leaves = IsAsItWas folder new leaves
 -- the reply tells that the disk failed, now or before
 abbrev pub tells_fault : Reply → Bool
 tells_fault Fault = true
+tells_fault DroppedFault = true
 tells_fault (Halted n) = true
 tells_fault reply = false
 
@@ -67,11 +68,12 @@ abbrev pub status_of_lines : List Line → Status
 status_of_lines lines = if list_any (λ l. tells_fault l.reply) lines then statuses.DiskFault else statuses.Done
 
 -- The folder keeps the lines that lead from the state m to this end: each folder that a crash may leave stands for an
--- outcome of theirs, and where no line tells a fault the folder, and each that a crash may leave, stands for all of them.
+-- outcome of theirs, and where no line tells a fault the folder, and each that a crash may leave, stands for all of them, as an opening
+-- gives it: without snapshots or jobs.
 pub record IsLeft (m : State) (lines : List Line) (end : Point) (stands : Folder) (leaves : Leaves) : Type 0 where
   pub crash : (folder : Folder) → MayBeLeft leaves folder → (left : State) × FolderStands folder left × IsOutcome end.state (course_behind (start m) (course_start m) lines) left
-  pub whole : status_of_lines lines ≡ statuses.Done → FolderStands stands end.state
-  pub whole_crash : status_of_lines lines ≡ statuses.Done → (folder : Folder) → MayBeLeft leaves folder → FolderStands folder end.state
+  pub whole : status_of_lines lines ≡ statuses.Done → FolderStands stands (settled end.state)
+  pub whole_crash : status_of_lines lines ≡ statuses.Done → (folder : Folder) → MayBeLeft leaves folder → FolderStands folder (settled end.state)
 
 -- the same of the folder under a path, which stood for m and nothing else
 pub record IsContinued (m : State) (lines : List Line) (end : Point) (folder : Folder) (new : Holding) (leaves : Leaves) : Type 0 where

@@ -4,7 +4,7 @@ use Rattle.udt_disk.specs.Causes.{Rose}
 use Rattle.udt_disk.specs.declared.file.DiskFile.{Ghosts}
 use Rattle.udt_model.specs.declared.event.Event.{Event}
 use Rattle.udt_model.specs.declared.reply.Reply.{Reply}
-use Rattle.udt_model.specs.State.{State}
+use Rattle.udt_model.specs.State.{State, heads_of}
 use Rattle.udt_model.specs.Crashes.{Course}
 use Rattle.client_runner.specs.Named.{course_after}
 use Rattle.client_runner.specs.Named.{IsReply, after}
@@ -38,7 +38,7 @@ module _ {F : Type 0} (g : Ghosts F) where
   -- Until the disk failed the next write may be logged. The log has the sizes of the store's families.
   pub record IsInStep (wal : Wal F g) (m : State) : Type 0 where
     pub ready : m.halted ≡ None → HasRoom g wal (m.last.0 + 1)
-    pub sizes : length (sizes_of wal) ≡ length m.heads
+    pub sizes : length (sizes_of wal) ≡ length (heads_of m)
 
   -- Where the old log kept the history, the new one keeps it with this event; and at each moment between them a crash left an
   -- outcome of the one or of the other. The families of the fold have the log's sizes.

@@ -123,7 +123,7 @@ pub record IsOpened {D F : Type 0} (d : disk.Ghosts D F) (f : file.Ghosts F) (ol
   pub shown : IsWalOf f parts.wal batches []
   pub rests : IsClean d f old → Holds f parts.wal batches []
   -- what they say
-  pub heads : parts.heads.items ≡ (state_of fold batches).heads
+  pub heads : parts.heads.items ≡ map head_of fold.families
   pub versions : parts.versions.items ≡ (state_of fold batches).versions
   pub last : parts.last ≡ (state_of fold batches).last
 

@@ -17,6 +17,7 @@ use Rattle.client_runner.specs.declared.output.Ready.{Ready}
 use Rattle.client_runner.specs.declared.status.Status.{Status}
 use Rattle.client_runner.specs.declared.status.Stop.{Stop}
 use Rattle.client_runner.specs.declared.status.Stop.TheVariants.{TooLong, TooMany, BadLine, NoMemory}
+use Rattle.udt_model.specs.State.{heads_of}
 
 -- the commands of the file that stands there
 pub record IsReadAs (standing : Standing) (commands : List Command) : Type 0 where
@@ -36,7 +37,7 @@ text_of r = r.buffer.items ++ print_lines r.lines.items
 pub record IsTranscribed (commands : List Command) (r : Ready) : Type 0 where
   pub history : IsSoloHistory fresh commands r.lines.items
   pub sound : All IsSound r.lines.items
-  pub header : r.buffer.items ≡ print_header 0 fresh.heads
+  pub header : r.buffer.items ≡ print_header 0 (heads_of fresh)
   pub built : All IsBuiltLine r.lines.items
   pub room : HasRoom r.buffer r.lines.items
 

@@ -8,7 +8,7 @@ use Rattle.udt_disk.specs.declared.name.FileName.{FileName}
 use Rattle.udt_disk.specs.declared.file.DiskFile as file
 use Rattle.udt_disk.specs.declared.disk.Disk as disk
 use Rattle.udt_model.specs.declared.line.Line.{Line}
-use Rattle.udt_model.specs.State.{State, unflushed}
+use Rattle.udt_model.specs.State.{State, unflushed, heads_of}
 use Rattle.udt_model.specs.Histories.{Point, Leads, start}
 use Rattle.client_lang.specs.declared.command.Command.{Command}
 use Rattle.client_lang.specs.Print.{IsBuiltCommand, IsBuiltLine, print_header}
@@ -85,7 +85,7 @@ module _ {D F : Type 0} (d : disk.Ghosts D F) where
     pub lines : List Line
     pub end : Point
     pub history : IsRunHistory m commands lines end
-    pub waits : Waits (print_header m.last.0 m.heads) lines r
+    pub waits : Waits (print_header m.last.0 (heads_of m)) lines r
     pub sound : AreSoundUnless (d.faults old) (d.faults new) lines
     pub kept : IsTrue (d.is_told old) → IsClean d old → KeepsLines old new m lines end
 

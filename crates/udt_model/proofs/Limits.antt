@@ -141,11 +141,11 @@ abbrev pub version : List ℕ → ℕ → Version
 version key seq = record { family = record { 0 = 0 }; key = key; ts = ts 1; seq = record { 0 = seq }; op = ops.Del }
 
 abbrev pub table : ℕ → ℕ → List ℕ → List ℕ → LiveTable
-table number level low high = record { number = number; family = record { 0 = 0 }; level = level; versions = version low number ∷ version high (number + 20) ∷ [] }
+table number level low high = record { number = number; level = level; versions = version low number ∷ version high (number + 20) ∷ [] }
 
 abbrev pub planned : State
 planned = record fresh {
-  tables = table 3 1 (codes "b") (codes "c") ∷ table 4 1 (codes "x") (codes "z") ∷ table 7 0 (codes "a") (codes "b") ∷ table 8 0 (codes "c") (codes "d") ∷ table 9 0 (codes "b") (codes "f") ∷ table 10 0 (codes "d") (codes "e") ∷ [];
+  families = record { head = head d Persist 0; through = record { 0 = 30 }; tables = table 3 1 (codes "b") (codes "c") ∷ table 4 1 (codes "x") (codes "z") ∷ table 7 0 (codes "a") (codes "b") ∷ table 8 0 (codes "c") (codes "d") ∷ table 9 0 (codes "b") (codes "f") ∷ table 10 0 (codes "d") (codes "e") ∷ [] } ∷ [];
 }
 
 pub closed : IsClosed planned (record { 0 = 0 }) (3 ∷ 7 ∷ 8 ∷ 9 ∷ 10 ∷ []) 1

@@ -7,7 +7,7 @@ use Rattle.udt_model.specs.declared.line.Who.{Who}
 use Rattle.udt_model.specs.declared.line.Who.TheVariants.{Client, Flusher, Compactor, Runner}
 use Rattle.udt_model.specs.State.{State}
 use Rattle.udt_model.specs.Names.{Names, fits, names_after, no_names, snap_names, view_names}
-use Rattle.udt_model.specs.Lines.{IsReply, after, is_step, says_fault}
+use Rattle.udt_model.specs.Lines.{IsReply, after, is_step, says_fault, says_files}
 
 abbrev pub is_same : Who → Who → Bool
 is_same (Client m) (Client n) = m == n
@@ -78,6 +78,10 @@ Leads old (l ∷ ls) new = IsLegal old l × Leads (behind old l) ls new
 -- the disk didn't fail under this line
 abbrev pub IsSound : Line → Type 0
 IsSound l = says_fault l.reply ≡ false
+
+-- and there were files for it
+abbrev pub HasFiles : Line → Type 0
+HasFiles l = says_files l.reply ≡ false
 
 -- ---- actors
 

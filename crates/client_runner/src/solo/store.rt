@@ -2,7 +2,7 @@
 //! at or above the latest timestamp needs none.
 ghost use Rattle.std.specs.Prelude.{◌≡◌, ℕ, ◌+◌, ◌-◌, ◌^◌, ◌<◌, ◌≤◌, [], false, nat_lt, if◌then◌else◌, length, take, drop, map, Bool, None, Ok, IfOk, IfSome, OnErr};
 ghost use Rattle.client_runner.specs.Named.{place_of, admitted, synced, refusal, refused, unknown as unknown_of};
-ghost use Rattle.udt_model.specs.State.{unflushed};
+ghost use Rattle.udt_model.specs.State.{heads_of, unflushed};
 ghost use Rattle.udt_model.specs.Steps.{got, reply_of_read as told_reply};
 ghost use Rattle.client_runner.specs.Named.{IsReply, after as state_after};
 ghost use Rattle.udt_model.specs.Lines.{says_fault};
@@ -24,7 +24,7 @@ const LAST_SEQUENCE: u64 = (1 << 56) - 1;
 
 /// The families of a store in memory: the one family `d`, which keeps its timestamps, with floor 0.
 pub fn fresh_heads(alloc: Global) -> Result<Vec<FamilyHead>, NoMemory>
-    ensures { IfOk result (λ heads. heads.items ≡ fresh.heads) }
+    ensures { IfOk result (λ heads. heads.items ≡ heads_of fresh) }
 {
     let name = match Name::of(alloc, b"d") {
         Ok(name) => name,
