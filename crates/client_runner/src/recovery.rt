@@ -11,7 +11,8 @@ ghost use Rattle.manifest.specs.Answers.{IsManifestCause};
 ghost use Rattle.manifest.specs.Folders.{Means, told_by_fault};
 ghost use Rattle.manifest.specs.Manifest.{file_of as manifest_file};
 ghost use Rattle.manifest.specs.Moments.{OnlyReads};
-ghost use Rattle.client_runner.specs.Stores.{logged, versions_of as versions_in, last_of, head_of as head_in, sizes_of};
+ghost use Rattle.udt_model.specs.Versions.{logged};
+ghost use Rattle.client_runner.specs.Stores.{versions_of as versions_in, last_of, head_of as head_in, sizes_of};
 ghost use Rattle.client_runner.specs.Openings.{IsOpenCause, RefusesOpening};
 ghost use Rattle.client_runner.specs.Opened.{IsUsable, IsSaid, IsReplayed, IsTaken, OnlyTakes, IsOpened, RefusesFile, RefusesLog, files_taken, disk_after};
 
