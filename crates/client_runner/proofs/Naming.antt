@@ -18,6 +18,7 @@ use Rattle.udt_model.specs.declared.place.Place.{Place}
 use Rattle.udt_model.specs.declared.reply.Reply.{Reply}
 use Rattle.udt_model.specs.declared.reply.Reply.TheVariants.{OkAt, Below, Fell, Full, Halted, Fault, Done}
 use Rattle.udt_model.specs.Versions.{newest_of, of_key}
+use Rattle.udt_model.specs.Versions as versions
 use Rattle.udt_model.specs.State.{State, place_at, family_of as family_named, heads_of}
 use Rattle.udt_model.specs.Acts.Act.{write}
 use Rattle.udt_model.specs.Refusals as refusals
@@ -79,7 +80,7 @@ pub same_admitted : (m : State) (os : List NamedOp) → steps.admitted m (ops_of
 same_admitted m os = same_unless (refusals.refusal m (write (ops_of m os) false)) (named_refusal m os) (m.last.0 + length (ops_of m os)) (m.last.0 + length os) (same_refusal m os false) (ap (λ (k : ℕ). m.last.0 + k) (length-map os (op_of (heads_of m))))
 
 -- and so are its versions
-pub same_made : (m : State) (os : List NamedOp) (n : ℕ) → refusals.made n (ops_of m os) ≡ named.made m n os
+pub same_made : (m : State) (os : List NamedOp) (n : ℕ) → versions.made n (ops_of m os) ≡ named.made m n os
 same_made m [] n = refl
 same_made m (o ∷ os) n = ap (λ (vs : List Version). named.version_of (named.family_of m o) o (n + 1) ∷ vs) (same_made m os (n + 1))
 
@@ -194,8 +195,12 @@ named_when (Client n) names Sync built = refl
 named_when Runner names (Write os sync) built = refl
 named_when Runner names (Get family key t None) built = refl
 named_when Runner names Sync built = refl
-named_when Flusher names event built = refl
-named_when Compactor names event built = refl
+named_when Flusher names (Write os sync) built = refl
+named_when Flusher names (Get family key t None) built = refl
+named_when Flusher names Sync built = refl
+named_when Compactor names (Write os sync) built = refl
+named_when Compactor names (Get family key t None) built = refl
+named_when Compactor names Sync built = refl
 named_when who names event built = absurd built
 
 pub is_named_built : (who : Who) (names : Names) (event : Event) → IsBuilt event → IsTrue (is_named who names event)

@@ -295,9 +295,9 @@ module _ {D F : Type 0} (d : disk.Ghosts D F) (f : file.Ghosts F) where
       let c : Course = course_behind (start (state_of_parts parts)) (course_start (state_of_parts parts)) lines in
       let named = made_name opened parts first now o wal made.same in
       let kept = made_keeps opened parts first now lines end clean o wal made in
-      let settled = made.settled done in
-      let works : (state_of now).halted ≡ None = ap (λ (s : State). s.halted) (sym made.state_is) ∙ settled.0 in
-      let all : c.synced ≡ (state_of now).last.0 = settled.1 ∙ ap (λ (s : State). s.last.0) made.state_is in
+      let both = made.settled done in
+      let works : (state_of now).halted ≡ None = ap (λ (s : State). s.halted) (sym made.state_is) ∙ both.0 in
+      let all : c.synced ≡ (state_of now).last.0 = both.1 ∙ ap (λ (s : State). s.last.0) made.state_is in
       let is = all_synced f o.fold (wal_of now) (state_of now) c kept.0 kept.2 works all in
       let told_log : f.is_told log ≡ d.is_told opened = made.same.told ∙ ap (λ (w : Wal F f). f.is_told (wal_file w)) wal ∙ told_wal in
       let stands : d.stands new (Log o.number) ≡ Some (f.seen log) =
@@ -315,9 +315,9 @@ module _ {D F : Type 0} (d : disk.Ghosts D F) (f : file.Ghosts F) where
       let c : Course = course_behind (start (state_of_parts parts)) (course_start (state_of_parts parts)) lines in
       let named = made_name opened parts first now o wal made.same in
       let kept = made_keeps opened parts first now lines end clean o wal made in
-      let settled = made.settled done in
-      let works : (state_of now).halted ≡ None = ap (λ (s : State). s.halted) (sym made.state_is) ∙ settled.0 in
-      let all : c.synced ≡ (state_of now).last.0 = settled.1 ∙ ap (λ (s : State). s.last.0) made.state_is in
+      let both = made.settled done in
+      let works : (state_of now).halted ≡ None = ap (λ (s : State). s.halted) (sym made.state_is) ∙ both.0 in
+      let all : c.synced ≡ (state_of now).last.0 = both.1 ∙ ap (λ (s : State). s.last.0) made.state_is in
       let is = all_synced f o.fold (wal_of now) (state_of now) c kept.0 kept.2 works all in
       let image : Image = folder (Log o.number) in
       let leaves : f.may_leave log image =

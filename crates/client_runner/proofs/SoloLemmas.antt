@@ -189,9 +189,9 @@ pub keeps_more : (Keeps : Course → Type 0) (m store : State) (commands : List 
     → Keeps (course_after store number (course_behind (start m) c lines) line.event line.reply) → Keeps (course_behind (start m) c (lines ++ line ∷ []))
 keeps_more Keeps m store commands last c lines line number built is r k =
     subst Keeps (sym (course_push (start m) r.end c lines line built r.run.legal
-        ∙ ap (λ (s : State). course_after s (r.end.number + 1) (course_behind (start m) c lines) line.event line.reply) r.state_is
-        ∙ ap (λ (j : ℕ). course_after store (j + 1) (course_behind (start m) c lines) line.event line.reply) r.number_is
-        ∙ ap (λ (j : ℕ). course_after store j (course_behind (start m) c lines) line.event line.reply) (sym is))) k
+    ∙ ap (λ (s : State). course_after s (r.end.number + 1) (course_behind (start m) c lines) line.event line.reply) r.state_is
+    ∙ ap (λ (j : ℕ). course_after store (j + 1) (course_behind (start m) c lines) line.event line.reply) r.number_is
+    ∙ ap (λ (j : ℕ). course_after store j (course_behind (start m) c lines) line.event line.reply) (sym is))) k
 
 -- ---- faults
 

@@ -30,7 +30,10 @@ use udt_model::{Line, Reply};
 fn tells_fault(reply: &Reply) -> bool
     ensures { result ≡ reply_tells reply.now }
 {
-    matches!(reply, Reply::Fault | Reply::DroppedFault | Reply::Halted { .. })
+    matches!(
+        reply,
+        Reply::Fault | Reply::DroppedFault | Reply::Halted { .. }
+    )
 }
 
 /// One of the lines tells that the disk failed, now or before.

@@ -7,7 +7,8 @@ use Rattle.udt_model.specs.declared.line.FamilyHead.{FamilyHead}
 use Rattle.wal.specs.declared.numbered.Numbered.{Numbered}
 use Rattle.wal.specs.Sequences.{next_sequence, sequence_after, IsNext}
 use Rattle.manifest.specs.declared.fold.FamilyFold.{FamilyFold}
-use Rattle.recovery.specs.Stores.{logged, versions_of, last_of, head_of}
+use Rattle.udt_model.specs.Versions.{logged}
+use Rattle.recovery.specs.Stores.{versions_of, last_of, head_of}
 
 logged_push : (n : ℕ) (ops : List WriteOp) (op : WriteOp) → logged n (ops ++ op ∷ []) ≡ logged n ops ++ logged (n + length ops) (op ∷ [])
 logged_push n [] op = ap (λ (k : ℕ). logged k (op ∷ [])) (omega arith)

@@ -1,10 +1,10 @@
 -- What a folder stands for.
 use Rattle.std.specs.Prelude.{◌≡◌, ℕ, ◌+◌, ◌-◌, List, [], ◌∷◌, ◌++◌, length, map, None}
-use Rattle.ts_key.specs.declared.batch.WriteOp.{WriteOp}
 use Rattle.ts_key.specs.declared.version.Version.{Version}
 use Rattle.udt_disk.specs.Joint.{Folder}
 use Rattle.udt_disk.specs.declared.name.FileName.TheVariants.{Log}
 use Rattle.udt_model.specs.declared.line.FamilyHead.{FamilyHead}
+use Rattle.udt_model.specs.Versions.{logged}
 use Rattle.udt_model.specs.State.{State, unflushed}
 use Rattle.wal.specs.declared.numbered.Numbered.{Numbered}
 use Rattle.wal.specs.Replays.{ReadsAs}
@@ -12,11 +12,6 @@ use Rattle.manifest.specs.declared.fold.FamilyFold.{FamilyFold}
 use Rattle.manifest.specs.declared.fold.Folded.{Folded}
 use Rattle.manifest.specs.Folders.{Means}
 use Rattle.manifest.specs.Folders.Meaning.{store}
-
--- the versions that the operations of a batch make, the first of this sequence
-abbrev pub logged : ℕ → List WriteOp → List Version
-logged n [] = []
-logged n (op ∷ ops) = record { family = op.family; key = op.key; ts = op.ts; seq = record { 0 = n }; op = op.op } ∷ logged (n + 1) ops
 
 -- the versions that batches make
 abbrev pub versions_of : List Numbered → List Version

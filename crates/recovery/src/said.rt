@@ -1,7 +1,8 @@
 //! What a manifest and its live log say of a store.
 ghost use Rattle.std.specs.Prelude.{◌≡◌, ◌+◌, ◌^◌, ◌<◌, [], ◌∷◌, ◌++◌, map, All, IfOk, OnOk};
 ghost use Rattle.wal.specs.Sequences.{next_sequence, IsNext, IsNumberedWithin};
-ghost use Rattle.recovery.specs.Stores.{logged, versions_of as versions_in, last_of, head_of as head_in};
+ghost use Rattle.udt_model.specs.Versions.{logged};
+ghost use Rattle.recovery.specs.Stores.{versions_of as versions_in, last_of, head_of as head_in};
 ghost use Rattle.recovery.specs.Opening.{IsSaid};
 
 use manifest::{FamilyFold, Folded};

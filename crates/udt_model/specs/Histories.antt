@@ -1,6 +1,7 @@
 -- Legal histories.
 use Rattle.std.specs.Prelude.{◌≡◌, ℕ, ◌+◌, ◌==◌, nat_lt, ◌&&◌, ◌||◌, Bool, true, false, if◌then◌else◌, IsTrue, List, [], ◌∷◌, filter}
 use Rattle.udt_model.specs.declared.event.Event.{Event}
+use Rattle.udt_model.specs.declared.event.Event.TheVariants.{Pin}
 use Rattle.udt_model.specs.declared.line.Line.{Line}
 use Rattle.udt_model.specs.declared.line.Mark.{Mark}
 use Rattle.udt_model.specs.declared.line.Who.{Who}
@@ -47,9 +48,14 @@ ends_here p = record p { height = p.number }
 abbrev pub next_mark : Point → Line → Mark
 next_mark p l = if is_step l.event l.reply then record { number = p.number + 1; sub = 0 } else record { number = (p.last l.who).number; sub = (p.last l.who).sub + 1 }
 
+-- a pin may have any name where names aren't kept
+abbrev pub fits_none : Event → Bool
+fits_none (Pin name) = true
+fits_none event = fits [] [] event
+
 -- the names that the event uses and binds may be used and bound
 abbrev pub is_named : Who → Names → Event → Bool
-is_named who names event = if keeps_names who then fits (snap_names names) (view_names names) event else true
+is_named who names event = if keeps_names who then fits (snap_names names) (view_names names) event else fits_none event
 
 -- the line is legal at this point
 pub record IsLegal (p : Point) (l : Line) : Type 0 where

@@ -18,7 +18,8 @@ use Rattle.udt_model.specs.State.{State, FamilyState, LiveTable, Flush, Compacti
 use Rattle.udt_model.specs.Acts.{Act}
 use Rattle.udt_model.specs.Acts.Act.{write, get, scan, raise, ask_floor, make_snapshot, release, pin, unpin, sync_all, flush_start, flush_end, compact_start, compact_end}
 use Rattle.udt_model.specs.Acts.{takes_commit}
-use Rattle.udt_model.specs.Refusals.{refusal, made, ◌otherwise◌}
+use Rattle.udt_model.specs.Versions.{made}
+use Rattle.udt_model.specs.Refusals.{refusal, ◌otherwise◌}
 use Rattle.udt_model.specs.Jobs.{IsClosed, are_new, are_parts, compaction_kept, deeper_of, flush_floor, flush_kept, is_input, level0_of, numbers_of_pieces, runs_compaction, runs_flush, tables_from, unflushed_of}
 
 -- the number of a file that can't be made

@@ -1,6 +1,7 @@
--- Versions of keys, which one a read sees, and which lists of versions a store's writes make.
-use Rattle.std.specs.Prelude.{ℕ, ◌<◌, ◌≤◌, Bool, true, false, ◌==◌, nat_lt, nat_le, ◌&&◌, ◌||◌, if◌then◌else◌, IsTrue, List, [], ◌∷◌, filter, All, AllPairs, Contains, Option, Some, None}
+-- Versions of keys, which one a read sees, and which versions writes make.
+use Rattle.std.specs.Prelude.{ℕ, ◌+◌, ◌<◌, ◌≤◌, Bool, true, false, ◌==◌, nat_lt, nat_le, ◌&&◌, ◌||◌, if◌then◌else◌, IsTrue, List, [], ◌∷◌, filter, All, AllPairs, Contains, Option, Some, None}
 use Rattle.std.specs.Str.{bytes_eq}
+use Rattle.ts_key.specs.declared.batch.WriteOp.{WriteOp}
 use Rattle.ts_key.specs.declared.numbers.Family.{Family}
 use Rattle.ts_key.specs.declared.numbers.Ts.{Ts}
 use Rattle.ts_key.specs.declared.numbers.Seq.{Seq}
@@ -53,7 +54,20 @@ abbrev pub is_put : Op → Bool
 is_put (Put value) = true
 is_put Del = false
 
--- ---- lists of versions that writes make
+-- ---- versions that writes make
+
+-- the version that an operation makes
+abbrev pub version_of : WriteOp → ℕ → Version
+version_of o n = record { family = o.family; key = o.key; ts = o.ts; seq = record { 0 = n }; op = o.op }
+
+-- the versions that operations make, the first with the sequence n
+abbrev pub logged : ℕ → List WriteOp → List Version
+logged n [] = []
+logged n (o ∷ os) = version_of o n ∷ logged (n + 1) os
+
+-- the same behind the last sequence n
+abbrev pub made : ℕ → List WriteOp → List Version
+made n os = logged (n + 1) os
 
 -- of two versions of a key the one with the greater sequence hasn't the smaller timestamp
 abbrev pub AreRising : List Version → Type 0

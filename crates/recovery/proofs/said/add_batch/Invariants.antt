@@ -1,5 +1,5 @@
 use Rattle.std.proofs.Common.{◌≡◌, ◌++◌, take}
-use Rattle.recovery.specs.Stores.{logged}
+use Rattle.udt_model.specs.Versions.{logged}
 use Rattle.recovery.proofs.said.add_batch.Given as goal
 
 abbrev pub invariant-loop-i : goal.invariant-loop-i

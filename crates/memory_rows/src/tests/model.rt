@@ -1,11 +1,11 @@
 //! The calls of the model on small lists.
-use crate::{
-    Answer, Event, FamilyHead, Items, ModelRead, Place, Reply, Stamp, is_step, plain_newest,
-    plain_place, plain_read, plain_visible,
-};
 use std::alloc::Global;
 use std::test::Fail;
 use ts_key::{Family, Form, Key, Name, Op, Seq, Ts, Value, Version};
+use udt_model::{
+    Answer, Event, FamilyHead, Items, ModelRead, Place, Reply, Stamp, is_step, plain_newest,
+    plain_place, plain_read, plain_visible,
+};
 
 fn version(alloc: Global, ts: u64, seq: u64, op: Op) -> Result<Version, Fail> {
     Ok(Version {
