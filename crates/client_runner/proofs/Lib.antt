@@ -24,3 +24,4 @@ pub mod FaultLemmas
 pub mod TopLemmas
 pub mod EndLemmas
 pub mod Naming
+pub mod ExpandRows
