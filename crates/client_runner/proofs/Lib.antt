@@ -17,3 +17,4 @@ pub mod FaultLemmas
 pub mod TopLemmas
 pub mod EndLemmas
 pub mod Naming
+pub mod ExpandRows
