@@ -10,7 +10,7 @@ use Rattle.udt_disk.specs.Touches.{Touches}
 use Rattle.udt_disk.specs.declared.name.FileName.{FileName}
 use Rattle.udt_disk.specs.declared.file.DiskFile as file
 use Rattle.udt_disk.specs.declared.disk.Disk as disk
-use Rattle.udt_disk.proofs.Joints.{ran_on, ran_more}
+use Rattle.udt_disk.proofs.Joints.{ran_on, ran_more, ran_stands}
 use Rattle.udt_disk.proofs.Names.{same_or_other}
 
 -- What a step does with a held file whose name isn't touched: it is held on, or was only read, or was given back. Where it has S
@@ -75,6 +75,16 @@ module _ {D F : Type 0} (d : disk.Ghosts D F) (f : file.Ghosts F) where
     held = λ x held is. subst (λ (m : FileName). f.may_leave x (folder m)) is (image.held x held);
     free = λ out. image.others n out;
   }
+
+  leaves_image : (j : Joint D F) (folder : Folder) → AsAtBut d f (λ n. ⊥) j folder → IsImage d f j folder
+  leaves_image j folder each = record { held = λ x held. (each (f.name x) (λ no. no)).held x held refl; others = λ n out. (each n (λ no. no)).free out }
+
+  -- reads behind a run
+  pub ran_reads : (P : Folder → Type 0) (start j k : Joint D F) → Ran d f P start j → OnlyReads d f j k → Ran d f P start k
+  ran_reads P start j k so_far only = ran_on d f P start j k so_far (ran_only (λ n. ⊥) P j k (λ folder each. ran_stands d f P start j so_far folder (leaves_image j folder each)) only)
+
+  pub now_reads : (P : Folder → Type 0) (j k : Joint D F) → LeavesNow d f P j → OnlyReads d f j k → LeavesNow d f P k
+  now_reads P j k here only = ran_stands d f P j k (ran_reads P j j k (rests here) only)
 
   -- ---- what reads of files that are held now say
 
