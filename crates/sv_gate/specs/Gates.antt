@@ -45,3 +45,8 @@ module _ {F C E : Type 0} where
   pub record Knows (gate : Gate F C E) (seat : GateSeat F C E) (all : Knowledge F C E) : Type 0 where
     pub of_gate : IsSeatOf gate seat
     pub is : seat.inner.me.0 ≡ all
+
+  -- a seat of the gate that holds nothing
+  pub record IsReady (gate : Gate F C E) (seat : GateSeat F C E) : Type 0 where
+    pub of_gate : IsSeatOf gate seat
+    pub empty : HoldsNothing seat

@@ -1,0 +1,3 @@
+//! Tests of the crates over memory, one module each.
+
+mod gate;
