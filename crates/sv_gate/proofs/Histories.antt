@@ -1,7 +1,7 @@
 -- Lists of entries, and what a seat has of them.
 use Rattle.std.proofs.Common.{◌≡◌, ◌≢◌, ℕ, suc, ◌+◌, ◌<◌, ◌≤◌, eqb, Bool, true, false, cond, List, [], ◌∷◌, ◌++◌, length, sym, refl, ap, ◌∙◌, subst, arith, eq-eqb, ne_eqb, append_assoc, append-nil}
 use mathlib.Core.List.{map-append}
-use Rattle.sv_gate.specs.Histories.{AreLight, IsLegal, entries, own_of, NoneOf, OwnersBelow, IsPart, IsLater, BeginsWithAll}
+use Rattle.sv_gate.specs.Histories.{Ascends, AreLight, IsLegal, entries, own_of, NoneOf, OwnersBelow, IsPart, IsLater, BeginsWithAll}
 
 module _ {E : Type 0} where
   pub entries_snoc : (made : List (ℕ × E)) (k : ℕ) (e : E) → entries (made ++ (k, e) ∷ []) ≡ entries made ++ e ∷ []
@@ -54,6 +54,30 @@ module _ {E : Type 0} where
   pub none_below : (j n : ℕ) (made : List (ℕ × E)) → n ≤ j → OwnersBelow n made → NoneOf j made
   none_below j n [] l h = tt
   none_below j n (x ∷ xs) l h = let a = h.0 in ((λ e. omega arith), none_below j n xs l h.1)
+
+  ascends_from : (m n k : ℕ) (xs : List (ℕ × E)) → k ≤ n → Ascends m n xs → Ascends m k xs
+  ascends_from m n k [] low h = omega arith
+  ascends_from m n k (x ∷ xs) low h = let first = h.0 in (omega arith, h.1)
+
+  -- the entries of a seat have ascending numbers
+  pub own_ascends : (j n m : ℕ) (made : List (ℕ × E)) → n + length made ≤ m → Ascends m n (own_of j n made)
+  own_ascends j n m [] room = omega arith
+  own_ascends j n m (x ∷ xs) room = let rest = own_ascends j (n + 1) m xs (omega arith) in
+      elim (eqb x.0 j) as (λ b. Ascends m n (cond b ((n + 1, x.1) ∷ own_of j (n + 1) xs) (own_of j (n + 1) xs))) [ true ↦ (omega arith, rest) | false ↦ ascends_from m (n + 1) n (own_of j (n + 1) xs) (omega arith) rest ]
+
+  own_front : (j n : ℕ) (front rest : List (ℕ × E)) → NoneOf j rest → own_of j n (front ++ rest) ≡ own_of j n front
+  own_front j n [] rest none = own_none j n rest none
+  own_front j n (x ∷ xs) rest none = let same = own_front j (n + 1) xs rest none in ap (λ (l : List (ℕ × E)). cond (eqb x.0 j) ((n + 1, x.1) ∷ l) l) same
+
+  -- up to the last entry that it has seen
+  pub own_in_order : (light : E → Type 0) (made : List (ℕ × E)) (j n : ℕ) (seen : List E) (only : Bool) → IsPart light made j seen only → Ascends (n + length seen) n (own_of j n made)
+  own_in_order light made j n seen only p = let same = ap (own_of j n) p.parts ∙ own_front j n p.front p.rest p.of_others in
+      subst (Ascends (n + length seen) n) (sym same) (own_ascends j n (n + length seen) p.front (let a = entries_length p.front in let b = ap length p.is_seen in omega arith))
+
+  -- an entry behind the others, with a number above all of theirs
+  pub ascends_snoc : (m n k : ℕ) (e : E) (xs : List (ℕ × E)) → m < k → Ascends m n xs → Ascends k n (xs ++ (k, e) ∷ [])
+  ascends_snoc m n k e [] above h = (omega arith, omega arith)
+  ascends_snoc m n k e (x ∷ xs) above h = (h.0, ascends_snoc m x.0 k e xs above h.1)
 
   pub whole : (light : E → Type 0) (made : List (ℕ × E)) (j : ℕ) (only : Bool) → IsPart light made j (entries made) only
   whole light made j only = record { front = made; rest = []; parts = sym (append-nil made); is_seen = refl; of_others = tt; are_light = λ _. tt }

@@ -15,12 +15,12 @@ use Rattle.sv_gate.specs.declared.shown.Origin.{Origin}
 use Rattle.sv_gate.specs.declared.rule.Content.{Content}
 use Rattle.sv_gate.specs.declared.rule.Content.TheVariants.{Front, Commit}
 use Rattle.sv_gate.specs.declared.rule.Knowledge.{Knowledge}
-use Rattle.sv_gate.specs.Histories.{IsLegal, entries, own_of, OwnersBelow, IsPart}
-use Rattle.sv_gate.specs.Knowledge.{SeatState, with_front, without_front, with_commit, without_commit, height_of, with_entry, with_look}
-use Rattle.sv_gate.specs.Rule.{Account, Fits, IsAccount, IsOneHistory, weigh}
+use Rattle.sv_gate.specs.Histories.{Ascends, IsLegal, entries, own_of, OwnersBelow, IsPart}
+use Rattle.sv_gate.specs.Knowledge.{SeatState, IsInOrder, with_front, without_front, with_commit, without_commit, height_of, with_entry, with_look}
+use Rattle.sv_gate.specs.Rule.{Account, KnowsTruly, IsAccount, IsOneHistory, weigh}
 use Rattle.sv_gate.specs.Steps.{TookFront, TookCommit, GaveFront, GaveCommit, SawHeight, Entered}
 use Rattle.sv_gate.specs.Locks.{MayLock}
-use Rattle.sv_gate.proofs.Histories.{entries_length, entries_snoc, whole, part_later, part_others, part_weaker, own_mine, own_others, legal_snoc, legal_after, below_snoc, stays_all, begin_more}
+use Rattle.sv_gate.proofs.Histories.{own_in_order, entries_length, entries_snoc, whole, part_later, part_others, part_weaker, own_mine, own_others, legal_snoc, legal_after, below_snoc, stays_all, begin_more}
 
 -- a compare-exchange from 0 to 1 leaves the lock taken
 one_after : (n : ℕ) → n ≡ 0 → either (eqb n 0) 1 n ≢ 0
@@ -86,6 +86,13 @@ module _ {F C E : Type 0} (follows : Origin F C → List E → E → Type 0) (fr
   AllowsAt slots id me i f then s = length s.homes ≡ slots → get_elem? s.views id ≡ some me.0 → get_or s.words i 0 < 18446744073709551616
       → (w : Known) × (a : Act Held) × Valid s.homes me.1 a × Rule (stepped s i (f (get_or s.words i 0)) id me.1 w a) × then (get_or s.words i 0) (w, carried_after me.1 a)
 
+  -- what a seat knows of its own entries is in order, as far as it has seen the history
+  pub in_order : (id : ℕ) (v : Known) (now : Account E) (w : Known) → v.own ≡ own_of id o.height now.made → IsPart light now.made id w.seen w.has_commit → v.base ≡ o.height → w.own ≡ v.own → w.base ≡ v.base → IsInOrder w
+  in_order id v now w own part base same_own same_base = let mine = own_in_order light now.made id o.height w.seen w.has_commit part in
+      let P : ℕ × List (ℕ × E) → Type 0 = λ x. Ascends (x.0 + length w.seen) x.0 x.1 in
+      let b : w.base ≡ o.height = same_base ∙ base in let l : w.own ≡ own_of id o.height now.made = same_own ∙ own in
+      subst P {x = (o.height, own_of id o.height now.made)} {y = (w.base, w.own)} (λ i. (sym b i, sym l i)) mine
+
   -- the front's lock is taken where it is free, and stays taken where it isn't
   takes_front : (slots id : ℕ) (me : SeatState F C E) (lock : ℕ → ℕ) (st : Step Held) → ((n : ℕ) → n ≡ 0 → lock n ≢ 0) → ((n : ℕ) → n ≢ 0 → lock n ≢ 0) → me.0.origin ≡ Some o → me.0.base ≡ o.height → 0 < me.0.weight
       → Allows Rule slots id me 1 lock (TookFront follows fronts commits light st me)
@@ -108,7 +115,7 @@ module _ {F C E : Type 0} (follows : Origin F C → List E → E → Type 0) (fr
             commit_home = stands.commit_home;
             front_out = λ _. (w, set_at vs id v w at, refl);
             commit_out = λ h. still (λ (u : Known). u.has_commit ≡ true) vs now.committer id v w at (λ x. x) (stands.commit_out h);
-            each = each_after (Fits light o now') vs id w
+            each = each_after (KnowsTruly light o now') vs id w
                 record { own = fit.own; heard = fit.heard; part = whole light now.made id v.has_commit; front = λ _. (refl, taken now.front_lock free, refl); commit = fit.commit; has_room = fit.has_room; idle = λ z. absurd (omega arith) }
                 (λ j u ne there. let f = stands.each j u there in record { own = f.own; heard = f.heard; part = f.part; front = λ h. absurd ((f.front h).1 free); commit = f.commit; has_room = f.has_room; idle = f.idle });
             owners = subst (λ (n : ℕ). OwnersBelow n now.made) (sym (length-set vs id w)) stands.owners;
@@ -124,6 +131,7 @@ module _ {F C E : Type 0} (follows : Origin F C → List E → E → Type 0) (fr
             later = part_later light now.made id v.seen v.has_commit fit.part;
             shown = told.0;
             legal = told.1;
+            order = in_order id me.0 now w fit.own (whole light now.made id v.has_commit) base refl refl;
             room = λ noted. let room = (fit.has_room noted).1 in omega (arith, entries_length now.made);
           },
         ),
@@ -182,7 +190,7 @@ module _ {F C E : Type 0} (follows : Origin F C → List E → E → Type 0) (fr
             commit_home = stands.commit_home;
             front_out = λ h. absurd (h refl);
             commit_out = λ h. still (λ (u : Known). u.has_commit ≡ true) vs now.committer id v w at (λ x. x) (stands.commit_out h);
-            each = each_after (Fits light o now') vs id w
+            each = each_after (KnowsTruly light o now') vs id w
                 record { own = fit.own; heard = fit.heard; part = fit.part; front = λ z. absurd (cc); commit = fit.commit; has_room = fit.has_room; idle = λ z. absurd (omega arith) }
                 (λ j u ne there. let g = stands.each j u there in record { own = g.own; heard = g.heard; part = g.part; front = λ h. absurd (ne ((g.front h).0 ∙ sym mine.0)); commit = g.commit; has_room = g.has_room; idle = g.idle });
             owners = subst (λ (n : ℕ). OwnersBelow n now.made) (sym (length-set vs id w)) stands.owners;
@@ -213,7 +221,7 @@ module _ {F C E : Type 0} (follows : Origin F C → List E → E → Type 0) (fr
             commit_home = stands.commit_home;
             front_out = λ h. still (λ (u : Known). u.has_front ≡ true) vs now.holder id v w at (λ x. x) (stands.front_out h);
             commit_out = λ h. still (λ (u : Known). u.has_commit ≡ true) vs now.committer id v w at (λ x. x) (stands.commit_out h);
-            each = each_after (Fits light o now) vs id w
+            each = each_after (KnowsTruly light o now) vs id w
                 record {
                   own = fit.own;
                   heard = fit.heard;
@@ -262,7 +270,7 @@ module _ {F C E : Type 0} (follows : Origin F C → List E → E → Type 0) (fr
                 (home.0, home.1, subst (commits o home.0) (sym after) (stays home.0 (entries now.made) e home.2 follow (alone no).1));
             front_out = λ h. still (λ (u : Known). u.has_front ≡ true) vs now.holder id v w at (λ x. x) (stands.front_out h);
             commit_out = λ h. still (λ (u : Known). u.has_commit ≡ true) vs now.committer id v w at (λ x. x) (stands.commit_out h);
-            each = each_after (Fits light o now') vs id w
+            each = each_after (KnowsTruly light o now') vs id w
                 record {
                   own = ap (λ (l : List (ℕ × E)). l ++ (height_of v + 1, e) ∷ []) fit.own ∙ (ap (λ (n : ℕ). own_of id o.height now.made ++ (n + 1, e) ∷ []) long ∙ sym (own_mine id o.height e now.made));
                   heard = begin_more (entries now.made) (e ∷ []) v.heard (entries made') after fit.heard;
@@ -290,9 +298,9 @@ module _ {F C E : Type 0} (follows : Origin F C → List E → E → Type 0) (fr
       s k
 
   -- the commit's lock is taken where it is free, and stays taken where it isn't
-  takes_commit : (slots id : ℕ) (me : SeatState F C E) (lock : ℕ → ℕ) (st : Step Held) → ((n : ℕ) → n ≡ 0 → lock n ≢ 0) → ((n : ℕ) → n ≢ 0 → lock n ≢ 0) → me.0.origin ≡ Some o → 0 < me.0.weight
+  takes_commit : (slots id : ℕ) (me : SeatState F C E) (lock : ℕ → ℕ) (st : Step Held) → ((n : ℕ) → n ≡ 0 → lock n ≢ 0) → ((n : ℕ) → n ≢ 0 → lock n ≢ 0) → me.0.origin ≡ Some o → me.0.base ≡ o.height → 0 < me.0.weight
       → Allows Rule slots id me 0 lock (TookCommit follows fronts commits light st me)
-  takes_commit slots id me lock st taken kept origin live s k = opened (AllowsAt slots id me 0 lock (TookCommit follows fronts commits light st me))
+  takes_commit slots id me lock st taken kept origin base live s k = opened (AllowsAt slots id me 0 lock (TookCommit follows fronts commits light st me))
       (λ now fh ch vs stands sized at small. dite (ℕ_discrete now.commit_lock 0)
       (λ free. let v : Known = me.0 in let fit = stands.each id v at in let home = stands.commit_home free in let w : Known = with_commit v (entries now.made) in let now' : Account E = record now { commit_lock = lock now.commit_lock; committer = id } in
       let later = part_later light now.made id v.seen v.has_commit fit.part in (
@@ -312,7 +320,7 @@ module _ {F C E : Type 0} (follows : Origin F C → List E → E → Type 0) (fr
             commit_home = λ z. absurd (taken now.commit_lock free z);
             front_out = λ h. still (λ (u : Known). u.has_front ≡ true) vs now.holder id v w at (λ x. x) (stands.front_out h);
             commit_out = λ _. (w, set_at vs id v w at, refl);
-            each = each_after (Fits light o now') vs id w
+            each = each_after (KnowsTruly light o now') vs id w
                 record { own = fit.own; heard = fit.heard; part = whole light now.made id true; front = λ h. let f = fit.front h in (f.0, f.1, refl); commit = λ _. (refl, taken now.commit_lock free); has_room = λ z. absurd (cc); idle = λ z. absurd (omega arith) }
                 (λ j u ne there. let f = stands.each j u there in record { own = f.own; heard = f.heard; part = f.part; front = f.front; commit = λ h. absurd ((f.commit h).1 free); has_room = λ h. absurd ((f.commit (f.has_room h).0).1 free); idle = f.idle });
             owners = subst (λ (n : ℕ). OwnersBelow n now.made) (sym (length-set vs id w)) stands.owners;
@@ -328,6 +336,7 @@ module _ {F C E : Type 0} (follows : Origin F C → List E → E → Type 0) (fr
             later = (later.others, later.is);
             shown = told.0;
             legal = told.1;
+            order = in_order id me.0 now w fit.own (whole light now.made id true) base refl refl;
           },
         ),
       ))
@@ -357,10 +366,10 @@ module _ {F C E : Type 0} (follows : Origin F C → List E → E → Type 0) (fr
       )))
       s k
 
-  pub locks_commit : (slots id : ℕ) (me : SeatState F C E) → me.0.origin ≡ Some o → 0 < me.0.weight → MayLock Rule slots 0 id me (TookCommit follows fronts commits light)
-  locks_commit slots id me origin live = record {
-    tries = takes_commit slots id me (λ n. either (eqb n 0) 1 n) (step slots 0 0 1 none) one_after same_after origin live;
-    waits = takes_commit slots id me (λ _. 2) (step slots 0 2 0 none) (λ n z e. absurd (omega arith)) (λ n z e. absurd (omega arith)) origin live;
+  pub locks_commit : (slots id : ℕ) (me : SeatState F C E) → me.0.origin ≡ Some o → me.0.base ≡ o.height → 0 < me.0.weight → MayLock Rule slots 0 id me (TookCommit follows fronts commits light)
+  locks_commit slots id me origin base live = record {
+    tries = takes_commit slots id me (λ n. either (eqb n 0) 1 n) (step slots 0 0 1 none) one_after same_after origin base live;
+    waits = takes_commit slots id me (λ _. 2) (step slots 0 2 0 none) (λ n z e. absurd (omega arith)) (λ n z e. absurd (omega arith)) origin base live;
     missed = λ st n after held told. told.0 held;
   }
 
@@ -388,7 +397,7 @@ module _ {F C E : Type 0} (follows : Origin F C → List E → E → Type 0) (fr
             commit_home = λ _. (c, refl, all);
             front_out = λ h. still (λ (u : Known). u.has_front ≡ true) vs now.holder id v w at (λ x. x) (stands.front_out h);
             commit_out = λ h. absurd (h refl);
-            each = each_after (Fits light o now') vs id w
+            each = each_after (KnowsTruly light o now') vs id w
                 record { own = fit.own; heard = fit.heard; part = part_weaker light now.made id v.seen v.has_commit fit.part; front = fit.front; commit = λ z. absurd (cc); has_room = λ z. absurd (cc); idle = λ z. absurd (omega arith) }
                 (λ j u ne there. let g = stands.each j u there in record { own = g.own; heard = g.heard; part = g.part; front = g.front; commit = λ h. absurd (ne ((g.commit h).0 ∙ sym mine.0)); has_room = λ h. absurd (ne ((g.commit (g.has_room h).0).0 ∙ sym mine.0)); idle = g.idle });
             owners = subst (λ (n : ℕ). OwnersBelow n now.made) (sym (length-set vs id w)) stands.owners;

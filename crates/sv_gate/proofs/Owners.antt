@@ -5,7 +5,7 @@ use Rattle.std.proofs.Common.{◌≡◌, ◌≢◌, ℕ, suc, ◌+◌, ◌<◌, 
 use mathlib.Core.Logic.{dite}
 use mathlib.Core.List.{map-append}
 use native.Mathlib.Decide.{ℕ_discrete, dec_le}
-use Rattle.sv_gate.specs.Histories.{BeginsWithAll, AreLight, numbered, entries, own_of, NoneOf, OwnersBelow, inserted, merged, longer, IsPart}
+use Rattle.sv_gate.specs.Histories.{BeginsWithAll, AreLight, numbered, entries, own_of, NoneOf, OwnersBelow, inserted, both_by_number, longer, IsPart}
 use Rattle.sv_gate.proofs.Histories.{entries_length}
 use Rattle.sv_gate.proofs.Keeps.{not_true}
 
@@ -84,20 +84,20 @@ module _ {E : Type 0} where
   insert_later : (m : ℕ) (e : E) (x : ℕ × E) (ys : List (ℕ × E)) → m < x.0 → inserted x ((m, e) ∷ ys) ≡ (m, e) ∷ inserted x ys
   insert_later m e x ys l = ap (λ (b : Bool). cond b (x ∷ (m, e) ∷ ys) ((m, e) ∷ inserted x ys)) (not_true (ltb x.0 m) (λ h. let z = ltb-true x.0 m h in omega arith))
 
-  merged_head : (m : ℕ) (e : E) (xs ys : List (ℕ × E)) → NumbersAbove m xs → merged xs ((m, e) ∷ ys) ≡ (m, e) ∷ merged xs ys
+  merged_head : (m : ℕ) (e : E) (xs ys : List (ℕ × E)) → NumbersAbove m xs → both_by_number xs ((m, e) ∷ ys) ≡ (m, e) ∷ both_by_number xs ys
   merged_head m e [] ys h = refl
-  merged_head m e (x ∷ xs) ys h = ap (inserted x) (merged_head m e xs ys h.1) ∙ insert_later m e x (merged xs ys) h.0
+  merged_head m e (x ∷ xs) ys h = ap (inserted x) (merged_head m e xs ys h.1) ∙ insert_later m e x (both_by_number xs ys) h.0
 
-  pub own_both : (id other n : ℕ) (made : List (ℕ × E)) → other ≢ id → merged (own_of id n made) (own_of other n made) ≡ own_of id n (renamed id other made)
+  pub own_both : (id other n : ℕ) (made : List (ℕ × E)) → other ≢ id → both_by_number (own_of id n made) (own_of other n made) ≡ own_of id n (renamed id other made)
   own_both id other n [] a = refl
   own_both id other n (x ∷ xs) a = let rest = own_both id other (n + 1) xs a in let k : ℕ = cond (eqb x.0 other) id x.0 in
       let mine : List (ℕ × E) = own_of id (n + 1) xs in let theirs : List (ℕ × E) = own_of other (n + 1) xs in dite (ℕ_discrete x.0 other)
-      (λ e. ap (λ l. merged l (own_of other n (x ∷ xs))) (own_skip id n x.0 x.1 xs (λ h. a (sym e ∙ h))) ∙ (ap (merged mine) (own_hit other n x.0 x.1 xs e)
+      (λ e. ap (λ l. both_by_number l (own_of other n (x ∷ xs))) (own_skip id n x.0 x.1 xs (λ h. a (sym e ∙ h))) ∙ (ap (both_by_number mine) (own_hit other n x.0 x.1 xs e)
       ∙ (merged_head (n + 1) x.1 mine theirs (own_above id (n + 1) (n + 1) xs (omega arith)) ∙ (ap (λ l. (n + 1, x.1) ∷ l) rest ∙ sym (own_hit id n k x.1 (renamed id other xs) (new_owner id other x.0 e))))))
-      (λ ne. ap (merged (own_of id n (x ∷ xs))) (own_skip other n x.0 x.1 xs ne) ∙ (dite (ℕ_discrete x.0 id)
-      (λ is. ap (λ l. merged l theirs) (own_hit id n x.0 x.1 xs is) ∙ (ap (inserted (n + 1, x.1)) rest ∙ (insert_first (n + 1) x.1 (own_of id (n + 1) (renamed id other xs)) (own_above id (n + 1) (n + 1) (renamed id other xs) (omega arith))
+      (λ ne. ap (both_by_number (own_of id n (x ∷ xs))) (own_skip other n x.0 x.1 xs ne) ∙ (dite (ℕ_discrete x.0 id)
+      (λ is. ap (λ l. both_by_number l theirs) (own_hit id n x.0 x.1 xs is) ∙ (ap (inserted (n + 1, x.1)) rest ∙ (insert_first (n + 1) x.1 (own_of id (n + 1) (renamed id other xs)) (own_above id (n + 1) (n + 1) (renamed id other xs) (omega arith))
       ∙ sym (own_hit id n k x.1 (renamed id other xs) (old_owner id other x.0 ne ∙ is)))))
-      (λ not. ap (λ l. merged l theirs) (own_skip id n x.0 x.1 xs not) ∙ (rest ∙ sym (own_skip id n k x.1 (renamed id other xs) (λ h. not (sym (old_owner id other x.0 ne) ∙ h)))))))
+      (λ not. ap (λ l. both_by_number l theirs) (own_skip id n x.0 x.1 xs not) ∙ (rest ∙ sym (own_skip id n k x.1 (renamed id other xs) (λ h. not (sym (old_owner id other x.0 ne) ∙ h)))))))
 
   none_right : (j : ℕ) (a b : List (ℕ × E)) → NoneOf j (a ++ b) → NoneOf j b
   none_right j [] b h = h

@@ -12,12 +12,12 @@ use Rattle.sv_gate.specs.declared.shown.Origin.{Origin}
 use Rattle.sv_gate.specs.declared.rule.Content.{Content}
 use Rattle.sv_gate.specs.declared.rule.Content.TheVariants.{Front, Commit}
 use Rattle.sv_gate.specs.declared.rule.Knowledge.{Knowledge}
-use Rattle.sv_gate.specs.Histories.{StartsWith, BeginsWithAll, IsLegal, numbered, entries, OwnersBelow, merged}
+use Rattle.sv_gate.specs.Histories.{StartsWith, BeginsWithAll, IsLegal, numbered, entries, OwnersBelow, both_by_number}
 use Rattle.sv_gate.specs.Knowledge.{SeatState, first_knowledge, spent, after_split, split_off, just_joined, settled}
-use Rattle.sv_gate.specs.Rule.{Account, Fits, IsAccount, IsOneHistory, weigh}
+use Rattle.sv_gate.specs.Rule.{Account, KnowsTruly, IsAccount, IsOneHistory, weigh}
 use Rattle.sv_gate.specs.Steps.{Learned}
 use Rattle.sv_gate.proofs.Histories.{entries_length, own_none, none_below, below_more}
-use Rattle.sv_gate.proofs.Keeps.{each_after, still, at_below, opened, AllowsAt, weigh_same}
+use Rattle.sv_gate.proofs.Keeps.{in_order, each_after, still, at_below, opened, AllowsAt, weigh_same}
 use Rattle.sv_gate.proofs.Owners.{renamed, renamed_length, renamed_entries, own_third, none_spent, below_renamed, own_both, below_right, part_third, part_both, longer_whole, none_own, OwnersAre, all_of, own_all, seen_all}
 
 module _ {V : Type 0} where
@@ -89,7 +89,7 @@ module _ {F C E : Type 0} (follows : Origin F C → List E → E → Type 0) (fr
       front_out = λ h. absurd (h refl);
       commit_out = λ h. absurd (h refl);
       each = λ j v e. ⊎_elim (λ (t : get_elem? [] j ≡ some v). absurd (some-ne-none v (sym t)))
-          (λ (t : (j ≡ 0) × (first_knowledge o ≡ v)). subst (Fits light o (record { made = []; commit_lock = 0; front_lock = 0; committer = 0; holder = 0 }) j) t.1
+          (λ (t : (j ≡ 0) × (first_knowledge o ≡ v)). subst (KnowsTruly light o (record { made = []; commit_lock = 0; front_lock = 0; committer = 0; holder = 0 }) j) t.1
           record { own = refl; part = record { front = []; rest = []; parts = refl; is_seen = refl; of_others = tt; are_light = λ _. tt }; heard = tt; front = λ z. absurd (cc); commit = λ z. absurd (cc); has_room = λ z. absurd (cc); idle = λ z. absurd (omega arith) })
           (at_end [] (first_knowledge o) v j e);
       owners = tt;
@@ -114,10 +114,10 @@ module _ {F C E : Type 0} (follows : Origin F C → List E → E → Type 0) (fr
           front_out = λ h. let t = still (λ (u : Known). u.has_front ≡ true) vs now.holder id v w at (λ x. x) (stands.front_out h) in (t.0, at_longer (set vs id w) (p ∷ []) now.holder t.0 t.1, t.2);
           commit_out = λ h. let t = still (λ (u : Known). u.has_commit ≡ true) vs now.committer id v w at (λ x. x) (stands.commit_out h) in (t.0, at_longer (set vs id w) (p ∷ []) now.committer t.0 t.1, t.2);
           each = λ j u e. ⊎_elim
-              (λ (t : get_elem? (set vs id w) j ≡ some u). each_after (Fits light o now) vs id w
+              (λ (t : get_elem? (set vs id w) j ≡ some u). each_after (KnowsTruly light o now) vs id w
               record { own = fit.own; part = fit.part; heard = fit.heard; front = fit.front; commit = fit.commit; has_room = fit.has_room; idle = λ z. absurd (omega arith) }
               (λ i x ne there. stands.each i x there) j u t)
-              (λ (t : (j ≡ length (set vs id w)) × (p ≡ u)). subst (λ (x : ℕ × Known). Fits light o now x.0 x.1) (λ i. (sym (t.0 ∙ long) i, t.1 i))
+              (λ (t : (j ≡ length (set vs id w)) × (p ≡ u)). subst (λ (x : ℕ × Known). KnowsTruly light o now x.0 x.1) (λ i. (sym (t.0 ∙ long) i, t.1 i))
               record {
                 own = sym (own_none (length vs) o.height now.made (none_below (length vs) (length vs) now.made (le_refl (length vs)) stands.owners));
                 part = let q = fit.part in record {
@@ -141,8 +141,8 @@ module _ {F C E : Type 0} (follows : Origin F C → List E → E → Type 0) (fr
       }
 
   -- a look after a join
-  pub learns : (slots id : ℕ) (me : SeatState F C E) → me.0.origin ≡ Some o → 0 < me.0.weight → Allows Rule slots id me 0 (λ n. n) (Learned (step slots 0 0 0 none) me)
-  learns slots id me origin live s k = opened follows fronts commits light o (AllowsAt follows fronts commits light o slots id me 0 (λ n. n) (Learned (step slots 0 0 0 none) me))
+  pub learns : (slots id : ℕ) (me : SeatState F C E) → me.0.origin ≡ Some o → me.0.base ≡ o.height → 0 < me.0.weight → Allows Rule slots id me 0 (λ n. n) (Learned (step slots 0 0 0 none) me)
+  learns slots id me origin base live s k = opened follows fronts commits light o (AllowsAt follows fronts commits light o slots id me 0 (λ n. n) (Learned (step slots 0 0 0 none) me))
       (λ now fh ch vs stands sized at small. let v : Known = me.0 in let fit = stands.each id v at in let w : Known = settled v in (
         w,
         keeps,
@@ -160,14 +160,14 @@ module _ {F C E : Type 0} (follows : Origin F C → List E → E → Type 0) (fr
             commit_home = stands.commit_home;
             front_out = λ h. still (λ (u : Known). u.has_front ≡ true) vs now.holder id v w at (λ x. x) (stands.front_out h);
             commit_out = λ h. still (λ (u : Known). u.has_commit ≡ true) vs now.committer id v w at (λ x. x) (stands.commit_out h);
-            each = each_after (Fits light o now) vs id w
+            each = each_after (KnowsTruly light o now) vs id w
                 record { own = fit.own; part = fit.part; heard = tt; front = fit.front; commit = fit.commit; has_room = fit.has_room; idle = λ z. absurd (omega arith) }
                 (λ j u ne there. stands.each j u there);
             owners = subst (λ (n : ℕ). OwnersBelow n now.made) (sym (length-set vs id w)) stands.owners;
             weights = weigh_same vs id v w at refl ∙ stands.weights;
           };
         },
-        (refl, (entries now.made, fit.heard), λ o' is. let same : o ≡ o' = cc (origin, is) in let one = weigh_one vs id v at in let all = stands.weights in let end = ap (λ (z : Origin F C). z.seats) same in omega arith),
+        (refl, (entries now.made, fit.heard), in_order follows fronts commits light o id v now v fit.own fit.part base refl refl, λ o' is. let same : o ≡ o' = cc (origin, is) in let one = weigh_one vs id v at in let all = stands.weights in let end = ap (λ (z : Origin F C). z.seats) same in omega arith),
       ))
       s k
 
@@ -189,11 +189,11 @@ module _ {F C E : Type 0} (follows : Origin F C → List E → E → Type 0) (fr
           commit_home = λ z. let h = stands.commit_home z in (h.0, h.1, subst (commits o h.0) (sym same) h.2);
           front_out = λ h. still (λ (u : Known). u.has_front ≡ true) vs' now.holder other w spent there (λ x. sym no_front ∙ x) (still (λ (u : Known). u.has_front ≡ true) vs now.holder id v b at (λ x. x) (stands.front_out h));
           commit_out = λ h. still (λ (u : Known). u.has_commit ≡ true) vs' now.committer other w spent there (λ x. sym no_commit ∙ x) (still (λ (u : Known). u.has_commit ≡ true) vs now.committer id v b at (λ x. x) (stands.commit_out h));
-          each = each_after (Fits light o now') vs' other spent
+          each = each_after (KnowsTruly light o now') vs' other spent
               record { own = sym (own_none other o.height made' (none_spent id other now.made apart)); part = record { front = []; rest = made'; parts = refl; is_seen = refl; of_others = none_spent id other now.made apart; are_light = λ z. absurd (cc) }; heard = tt; front = λ z. absurd (cc); commit = λ z. absurd (cc); has_room = λ z. absurd (cc); idle = λ _. (refl, refl, refl) }
-              (λ j u ne e. each_after (λ (i : ℕ) (x : Known). i ≢ other → Fits light o now' i x) vs id b
+              (λ j u ne e. each_after (λ (i : ℕ) (x : Known). i ≢ other → KnowsTruly light o now' i x) vs id b
               (λ _. record {
-                own = (λ i. merged (fit.own i) (gone.own i)) ∙ own_both id other o.height now.made apart;
+                own = (λ i. both_by_number (fit.own i) (gone.own i)) ∙ own_both id other o.height now.made apart;
                 part = part_both light id other now.made v.seen w.seen v.has_commit w.has_commit fit.part gone.part;
                 heard = let p = fit.part in let q = gone.part in (begins_with p.front p.rest v.seen p.parts p.is_seen same, (begins_with q.front q.rest w.seen q.parts q.is_seen same, tt));
                 front = λ h. let f = fit.front h in (f.0, f.1, longer_whole light other now.made v.seen w.seen w.has_commit f.2 gone.part ∙ (f.2 ∙ sym same));

@@ -1,5 +1,5 @@
 -- Histories of entries, and what a seat made and saw of one.
-use Rattle.std.specs.Prelude.{◌≡◌, ◌≢◌, ℕ, ◌+◌, ◌<◌, ◌==◌, nat_lt, Bool, true, cond, List, [], ◌∷◌, ◌++◌, map, length, Contains}
+use Rattle.std.specs.Prelude.{◌≡◌, ◌≢◌, ℕ, ◌+◌, ◌<◌, ◌≤◌, ◌==◌, nat_lt, Bool, true, cond, List, [], ◌∷◌, ◌++◌, map, length, Contains}
 
 module _ {E : Type 0} where
   -- the list begins with what was seen
@@ -23,6 +23,11 @@ module _ {E : Type 0} where
     pub is : now ≡ before ++ others
     pub are_light : has_commit ≡ true → AreLight light others
 
+  -- the numbers ascend, from above n to at most m
+  abbrev pub Ascends : ℕ → ℕ → List (ℕ × E) → Type 0
+  Ascends m n [] = n ≤ m
+  Ascends m n (x ∷ xs) = (n < x.0) × Ascends m x.0 xs
+
   -- the own list has an entry with this number
   abbrev pub HasNumber : List (ℕ × E) → ℕ → Type 0
   HasNumber own n = (e : E) × Contains own (n, e)
@@ -43,9 +48,9 @@ module _ {E : Type 0} where
   inserted x (y ∷ ys) = cond (nat_lt x.0 y.0) (x ∷ y ∷ ys) (y ∷ inserted x ys)
 
   -- the entries of both own lists, by number
-  abbrev pub merged : List (ℕ × E) → List (ℕ × E) → List (ℕ × E)
-  merged [] ys = ys
-  merged (x ∷ xs) ys = inserted x (merged xs ys)
+  abbrev pub both_by_number : List (ℕ × E) → List (ℕ × E) → List (ℕ × E)
+  both_by_number [] ys = ys
+  both_by_number (x ∷ xs) ys = inserted x (both_by_number xs ys)
 
   abbrev pub longer : List E → List E → List E
   longer xs ys = cond (nat_lt (length xs) (length ys)) ys xs

@@ -5,7 +5,7 @@ use Rattle.sv_gate.specs.declared.shown.Origin.{Origin}
 use Rattle.sv_gate.specs.declared.rule.Content.{Content}
 use Rattle.sv_gate.specs.declared.rule.Content.TheVariants.{Out}
 use Rattle.sv_gate.specs.declared.rule.Knowledge.{Knowledge}
-use Rattle.sv_gate.specs.Histories.{merged, longer}
+use Rattle.sv_gate.specs.Histories.{Ascends, both_by_number, longer}
 
 -- a seat as its table has it: what it knows, and the slots that it holds
 abbrev pub SeatState : Type 0 → Type 0 → Type 0 → Type 0
@@ -35,6 +35,10 @@ module _ {F C E : Type 0} where
   -- the number of the last entry that was seen
   abbrev pub height_of : Knowledge F C E → ℕ
   height_of k = k.base + length k.seen
+
+  -- the numbers of its own entries ascend, up to that of the last entry that was seen
+  abbrev pub IsInOrder : Knowledge F C E → Type 0
+  IsInOrder k = Ascends (height_of k) k.base k.own
 
   -- It has the front, and has seen this.
   abbrev pub with_front : Knowledge F C E → List E → Knowledge F C E
@@ -67,12 +71,12 @@ module _ {F C E : Type 0} where
   split_off weight k = record k { weight = weight; own = []; has_commit = false; has_front = false; has_room = false }
 
   -- what a seat knows that another was joined to: the own lists by number, and the longer of what was seen
-  abbrev pub joined : Knowledge F C E → Knowledge F C E → Knowledge F C E
-  joined k other = record k { weight = k.weight + other.weight; own = merged k.own other.own; seen = longer k.seen other.seen; heard = [] }
+  abbrev pub after_join : Knowledge F C E → Knowledge F C E → Knowledge F C E
+  after_join k other = record k { weight = k.weight + other.weight; own = both_by_number k.own other.own; seen = longer k.seen other.seen; heard = [] }
 
   -- the same, as long as it has both lists in mind of which one begins with the other
   abbrev pub just_joined : Knowledge F C E → Knowledge F C E → Knowledge F C E
-  just_joined k other = record (joined k other) { heard = k.seen ∷ other.seen ∷ [] }
+  just_joined k other = record (after_join k other) { heard = k.seen ∷ other.seen ∷ [] }
 
   abbrev pub settled : Knowledge F C E → Knowledge F C E
   settled k = record k { heard = [] }

@@ -26,7 +26,7 @@ module _ {F C E : Type 0} where
   weigh (k ∷ ks) = k.weight + weigh ks
 
   -- What the seat j knows is true: of the history, and of the locks.
-  pub record Fits (light : E → Type 0) (o : Origin F C) (now : Account E) (j : ℕ) (k : Knowledge F C E) : Type 0 where
+  pub record KnowsTruly (light : E → Type 0) (o : Origin F C) (now : Account E) (j : ℕ) (k : Knowledge F C E) : Type 0 where
     pub own : k.own ≡ own_of j o.height now.made
     pub part : IsPart light now.made j k.seen k.has_commit
     pub heard : BeginsWithAll (entries now.made) k.heard
@@ -45,7 +45,7 @@ module _ {F C E : Type 0} where
       pub commit_home : now.commit_lock ≡ 0 → (c : C) × (commit ≡ some (Commit c)) × commits o c (entries now.made)
       pub front_out : now.front_lock ≢ 0 → (k : Knowledge F C E) × (get_elem? seats now.holder ≡ some k) × (k.has_front ≡ true)
       pub commit_out : now.commit_lock ≢ 0 → (k : Knowledge F C E) × (get_elem? seats now.committer ≡ some k) × (k.has_commit ≡ true)
-      pub each : (j : ℕ) (k : Knowledge F C E) → get_elem? seats j ≡ some k → Fits light o now j k
+      pub each : (j : ℕ) (k : Knowledge F C E) → get_elem? seats j ≡ some k → KnowsTruly light o now j k
       pub owners : OwnersBelow (length seats) now.made
       pub weights : weigh seats ≡ o.seats
 

@@ -1,7 +1,7 @@
 //! The gate and its calls.
 ghost use Rattle.std.specs.Prelude.{◌≡◌, ℕ, ◌+◌, ◌^◌, ◌<◌, ◌≤◌, true, false, [], ◌∷◌, ◌++◌, IfOk, IfErr, OnErr, IfSome};
 ghost use Rattle.sv_gate.specs.Histories.{HasNumber, StartsWith, IsLater, IsLegal, numbered};
-ghost use Rattle.sv_gate.specs.Knowledge.{IsOrigin, first_knowledge, with_front, without_front, with_commit, without_commit, with_entry, with_look, after_split, split_off, joined};
+ghost use Rattle.sv_gate.specs.Knowledge.{IsOrigin, IsInOrder, first_knowledge, with_front, without_front, with_commit, without_commit, with_entry, with_look, after_split, split_off, after_join};
 
 use crate::rule::{Content, Knowledge, OneHistory};
 use crate::seat::{GateSeat, Held, HeldCommit, Receipt};
@@ -96,8 +96,9 @@ impl<C, F: Shown<C>> Gate<F, C> {
     pub fn join(&self, seat: &mut GateSeat<F, C, F::Entry>, other: GateSeat<F, C, F::Entry>)
         requires gate { IsSeatOf self.now seat.old × IsSeatOf self.now other }
         requires empty { HoldsNothing other }
-        ensures seat { Knows self.now seat.new (joined (known seat.old) (known other)) }
+        ensures seat { Knows self.now seat.new (after_join (known seat.old) (known other)) }
         ensures seen { StartsWith (seen seat.new) (seen seat.old) × StartsWith (seen seat.new) (seen other) }
+        ensures order { IsInOrder (known seat.new) }
     {
         let GateSeat { inner, weight } = other;
         steps::join(&self.table.shared, &mut seat.inner, inner);
@@ -110,6 +111,7 @@ impl<C, F: Shown<C>> Gate<F, C> {
         requires empty { HoldsNothing seat.old }
         ensures seat { Knows self.now seat.new (with_commit (known seat.old) (seen seat.new)) }
         ensures later { StartsWith (seen seat.new) (seen seat.old) }
+        ensures order { IsInOrder (known seat.new) }
         ensures shown { F.commit_shows (origin self.now) result.commit (seen seat.new) }
         ensures legal { IsLegal (F.follows (origin self.now)) [] (seen seat.new) }
     {
@@ -136,6 +138,7 @@ impl<C, F: Shown<C>> Gate<F, C> {
         requires free { (known seat.old).has_front ≡ false }
         ensures seat { Knows self.now seat.new (with_front (known seat.old) (seen seat.new)) }
         ensures later { IsLater F.is_light (known seat.old).has_commit (seen seat.old) (seen seat.new) }
+        ensures order { IsInOrder (known seat.new) }
         ensures shown { F.front_shows (origin self.now) result.front (seen seat.new) }
         ensures legal { IsLegal (F.follows (origin self.now)) [] (seen seat.new) }
         ensures room { (known seat.old).has_room ≡ true → seen_height seat.new < 2 ^ 63 }

@@ -1,7 +1,7 @@
 //! The steps on a gate's table, over the seat that the table knows.
 ghost use Rattle.std.specs.Prelude.{◌≡◌, ℕ, ◌+◌, ◌^◌, ◌<◌, ◌≤◌, true, false, [], ◌∷◌, ◌++◌, length, Some};
 ghost use Rattle.sv_gate.specs.Histories.{StartsWith, IsLater, IsLegal, BeginsWithAll};
-ghost use Rattle.sv_gate.specs.Knowledge.{carried, with_front, without_front, with_commit, without_commit, height_of, with_entry, with_look, after_split, split_off, joined};
+ghost use Rattle.sv_gate.specs.Knowledge.{carried, with_front, without_front, with_commit, without_commit, height_of, IsInOrder, with_entry, with_look, after_split, split_off, after_join};
 ghost use Rattle.sv_gate.specs.Seats.{knowledge, IsOf, IsSameSeat};
 ghost use Rattle.sv_gate.specs.Steps.{HasTakenFront, HasTakenCommit};
 
@@ -49,6 +49,7 @@ pub(crate) fn take_front<C, F: Shown<C>, R: Wait>(
     ensures same { IsSameSeat seat.old seat.new }
     ensures me { seat.new.me ≡ (with_front (knowledge seat.old) (knowledge seat.new).seen, (0, Content.Out) ∷ seat.old.me.1) }
     ensures later { IsLater F.is_light (knowledge seat.old).has_commit (knowledge seat.old).seen (knowledge seat.new).seen }
+    ensures order { IsInOrder (knowledge seat.new) }
     ensures shown { F.front_shows shared.now.key result (knowledge seat.new).seen }
     ensures legal { IsLegal (F.follows shared.now.key) [] (knowledge seat.new).seen }
     ensures room { (knowledge seat.old).has_room ≡ true → height_of (knowledge seat.new) < 2 ^ 63 }
@@ -143,6 +144,7 @@ pub(crate) fn take_commit<C, F: Shown<C>, R: Wait>(
     ensures same { IsSameSeat seat.old seat.new }
     ensures me { seat.new.me ≡ (with_commit (knowledge seat.old) (knowledge seat.new).seen, (1, Content.Out) ∷ seat.old.me.1) }
     ensures later { StartsWith (knowledge seat.new).seen (knowledge seat.old).seen }
+    ensures order { IsInOrder (knowledge seat.new) }
     ensures shown { F.commit_shows shared.now.key result (knowledge seat.new).seen }
     ensures legal { IsLegal (F.follows shared.now.key) [] (knowledge seat.new).seen }
 {
@@ -202,7 +204,8 @@ pub(crate) fn join<C, F: Shown<C>>(
     requires live { (0 < (knowledge seat.old).weight) × (0 < (knowledge other).weight) }
     requires empty { ((knowledge other).has_front ≡ false) × ((knowledge other).has_commit ≡ false) × (other.me.1 ≡ []) }
     ensures same { IsSameSeat seat.old seat.new }
-    ensures me { seat.new.me ≡ (joined (knowledge seat.old) (knowledge other), seat.old.me.1) }
+    ensures me { seat.new.me ≡ (after_join (knowledge seat.old) (knowledge other), seat.old.me.1) }
+    ensures order { IsInOrder (knowledge seat.new) }
     ensures weight { (knowledge seat.new).weight ≤ shared.now.key.seats }
     ensures seen { BeginsWithAll (knowledge seat.new).seen ((knowledge seat.old).seen ∷ (knowledge other).seen ∷ []) }
 {

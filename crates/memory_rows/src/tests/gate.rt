@@ -111,7 +111,8 @@ fn add_committed<R: Wait>(
     let mut committed = gate.take_commit(rt, seat);
     let mut held = gate.take_front(rt, seat);
     let height = gate.height(seat, &held);
-    if height > LAST || !make_room(&mut held.front, &mut committed.commit) {
+    let has_memory = make_room(&mut held.front, &mut committed.commit);
+    if height > LAST || !has_memory {
         gate.give_front(seat, held);
         gate.give_commit(seat, committed);
         return None;
@@ -131,13 +132,15 @@ struct Job {
 }
 
 /// Makes the events of a thread.
+#[tactic(auto, using(std::proofs::lemmas::Bool::Decides::leb_tells))]
 fn run_job<R: Wait>(rt: &R, gate: &NumberGate, job: &mut Job)
     requires ready { IsReady gate.now job.old.seat }
     requires first { job.old.first < 100000 }
     ensures ready { IsReady gate.now job.new.seat }
 {
+    let first = job.first;
     for k in 0..EVENTS {
-        if let Some(number) = add(rt, gate, &mut job.seat, job.first + k) {
+        if let Some(number) = add(rt, gate, &mut job.seat, first + k) {
             let _ = job.receipts.push(number);
         }
     }

@@ -18,7 +18,7 @@ load-requires g c = let same = ap (λ m. m.0) c.join_seat.ensures.2 in let live 
   search rules,
   search rules,
   learns g.F.Shown.follows g.F.Shown.front_shows g.F.Shown.commit_shows g.F.Shown.is_light c.args.shared.now.key _ c.join_seat.new.seat.id c.join_seat.new.seat.me
-      (rw same c.requires.table.0.same_origin) (rw same (omega arith)),
+      (rw same c.requires.table.0.same_origin) (rw same c.requires.table.0.same_base) (rw same (omega arith)),
 )
 
 pub returns-clause-seen : goal.returns-clause-seen
@@ -28,4 +28,7 @@ returns-clause-seen g c = let v = c.args.seat.now.me.0 in let w = c.args.other.m
 
 pub returns-clause-weight : goal.returns-clause-weight
 returns-clause-weight g c = let told = c.load.ensures in let same = ap (λ m. m.0) c.join_seat.ensures.2 in
-    rw (ap (λ m. m.0.weight) told.2.0) (told.2.2 c.args.shared.now.key (rw same c.requires.table.0.same_origin))
+    rw (ap (λ m. m.0.weight) told.2.0) (told.2.3 c.args.shared.now.key (rw same c.requires.table.0.same_origin))
+
+pub returns-clause-order : goal.returns-clause-order
+returns-clause-order g c = let told = c.load.ensures in rw (ap (λ m. m.0) told.2.0) told.2.2
