@@ -1,6 +1,6 @@
 -- Histories of numbers, for the tests of the gate: which numbers a commit is asked for.
 use Rattle.std.specs.Prelude.{◌≡◌, ℕ, Bool, true, false, cond, nat_le, List, [], ◌∷◌, ◌++◌}
-use Rattle.std.proofs.Common.{refl, ap, subst}
+use Rattle.std.proofs.Common.{ap}
 
 -- whether a number needs the commit
 abbrev pub needs_commit : ℕ → Bool

@@ -1,4 +1,4 @@
-use Rattle.std.proofs.Common.{◌≡◌, ◌∙◌, ℕ, List, [], ◌∷◌, ◌++◌, ap, sym}
+use Rattle.std.proofs.Common.{◌∙◌, ℕ, List, [], ◌∷◌, ◌++◌, ap, sym}
 use Rattle.memory_rows.specs.GateRows.{committed, committed_heavy}
 use Rattle.memory_rows.proofs.Committed.{committed_later}
 use Rattle.memory_rows.proofs.tests.gate.add_committed.Goals as goal
