@@ -1,4 +1,4 @@
-//! Tests of the crates that keep versions in memory.
+//! Tests of the crates over memory, by their public calls.
 #![tactic(auto)]
 
 #[cfg(test)]

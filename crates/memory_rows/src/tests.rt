@@ -1,4 +1,7 @@
-//! One module for each crate under test.
-mod merge_cursor_rows;
-mod ts_key_rows;
-mod ts_lanes_rows;
+//! Tests of the crates over memory, one module each.
+
+mod cursors;
+mod gate;
+mod keys;
+mod lanes;
+mod model;

@@ -19,6 +19,3 @@ pub use place::{Place, plain_place};
 pub use read::{Answer, ModelRead, plain_newest, plain_read, plain_visible};
 pub use reply::{KeySpan, Piece, Reply, Row, Stamp};
 pub use step::is_step;
-
-#[cfg(test)]
-mod tests;
