@@ -1,4 +1,3 @@
-use Rattle.ts_key.specs.Items.{Item}
 use Rattle.merge_cursor.proofs.slice.show.Goals as goal
 
 pub returns : goal.returns

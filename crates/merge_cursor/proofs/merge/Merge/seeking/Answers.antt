@@ -2,7 +2,7 @@ use Rattle.std.proofs.Common.{◌≡◌, length, take, drop, ◌++◌, ap, ◌�
 use Rattle.std.proofs.lemmas.List.{take_at}
 use Rattle.ts_key.specs.Order.{sort_key_of}
 use Rattle.ts_key.specs.Lists.{merged, below}
-use Rattle.merge_cursor.specs.Sides.{sides, all, passed}
+use Rattle.merge_cursor.specs.Sides.{sides, all}
 use Rattle.merge_cursor.specs.Shows.{lists_are}
 use Rattle.merge_cursor.proofs.merge.Merge.seeking.Goals as goal
 
