@@ -204,31 +204,48 @@ fn a_stripped_delete_has_no_timestamp(rt: HostRuntime) -> Result<(), Fail> {
     Ok(())
 }
 
+/// The bytes of a key, a timestamp and a trailer, one after the other.
+fn parts(alloc: Global, key: &[u8], ts: &[u8], trailer: &[u8]) -> Result<Vec<u8>, Fail> {
+    let mut bytes = Vec::from_slice(alloc, key)?;
+    bytes.extend_from_slice(ts)?;
+    bytes.extend_from_slice(trailer)?;
+    Ok(bytes)
+}
+
 #[test]
 fn bytes_outside_the_grammar_are_no_stored_key(rt: HostRuntime) -> Result<(), Fail> {
     let alloc = rt.alloc();
-    let stamp = b"\0\0\0\0\0\0\0\0".as_slice();
+    let zero = b"\0\0\0\0\0\0\0\0".as_slice();
+    let last = b"\xff\xff\xff\xff\xff\xff\xff\xff".as_slice();
+    let put = b"\x01\x01\0\0\0\0\0\0".as_slice();
     let long = vec![in alloc; b'k'; 1025]?;
-    let bad = [
-        [b"".as_slice(), b"", b""],
-        [b"", b"", b"\x01\x01\0\0\0\0\0\0"],
-        [b"", stamp, b"\x01\x01\0\0\0\0\0"],
-        [b"k", stamp, b"\x01\0\0\0\0\0\0\0"],
-        [b"k", stamp, b"\x02\x01\0\0\0\0\0\0"],
-        [
-            b"k",
-            b"\xff\xff\xff\xff\xff\xff\xff\xff",
-            b"\x01\x01\0\0\0\0\0\0",
-        ],
-        [long.as_slice(), stamp, b"\x01\x01\0\0\0\0\0\0"],
-    ];
-    for parts in bad {
-        let mut bytes = Vec::new(alloc);
-        for part in parts {
-            bytes.extend_from_slice(part)?;
-        }
-        assert!(rt; matches!(decode_key(&bytes), Err(KeyBad)), "{parts:?}");
-    }
+    let no_sequence = b"\x01\0\0\0\0\0\0\0";
+    let no_kind = b"\x02\x01\0\0\0\0\0\0";
+    assert_eq!(rt; decode_key(b"").err(), Some(KeyBad));
+    assert_eq!(rt;
+        decode_key(&parts(alloc, b"", b"", put)?).err(),
+        Some(KeyBad)
+    );
+    assert_eq!(rt;
+        decode_key(&parts(alloc, b"", b"\0", put)?).err(),
+        Some(KeyBad)
+    );
+    assert_eq!(rt;
+        decode_key(&parts(alloc, b"k", zero, no_sequence)?).err(),
+        Some(KeyBad)
+    );
+    assert_eq!(rt;
+        decode_key(&parts(alloc, b"k", zero, no_kind)?).err(),
+        Some(KeyBad)
+    );
+    assert_eq!(rt;
+        decode_key(&parts(alloc, b"k", last, put)?).err(),
+        Some(KeyBad)
+    );
+    assert_eq!(rt;
+        decode_key(&parts(alloc, &long, zero, put)?).err(),
+        Some(KeyBad)
+    );
     Ok(())
 }
 
