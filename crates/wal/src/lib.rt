@@ -4,7 +4,6 @@
 #![tactic(auto)]
 
 mod body;
-mod cursor;
 mod fault;
 mod frames;
 mod head;
@@ -12,8 +11,6 @@ mod numbered;
 mod record;
 mod sequence;
 mod sizes;
-#[cfg(test)]
-mod tests;
 mod wal;
 
 pub use fault::ReplayFault;

@@ -1,3 +1,5 @@
+//! Files of the operating system.
+
 ghost use Rattle.std.specs.Prelude.{◌≡◌, [], true, false};
 ghost use Rattle.udt_disk.specs.Real.{not_told};
 

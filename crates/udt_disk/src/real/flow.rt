@@ -1,3 +1,5 @@
+//! Inputs and outputs of the operating system.
+
 ghost use Rattle.std.specs.Prelude.{◌≡◌, None};
 
 use super::counted;

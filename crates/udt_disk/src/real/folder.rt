@@ -1,3 +1,5 @@
+//! Folders of the operating system.
+
 ghost use Rattle.std.specs.Prelude.{◌≡◌, None, IfOk, IfSome, true, false};
 ghost use Rattle.udt_disk.specs.Folder.{opened};
 ghost use Rattle.udt_disk.specs.Real.{not_told};

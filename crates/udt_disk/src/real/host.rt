@@ -1,3 +1,5 @@
+//! The operating system as a host.
+
 ghost use Rattle.std.specs.Prelude.{◌≡◌, None, true, false};
 
 use super::{HostFolder, HostSource, counted};
