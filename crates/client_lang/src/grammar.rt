@@ -9,6 +9,6 @@
 
 mod commands;
 mod lines;
-mod words;
+pub(crate) mod words;
 
 pub use lines::{COMMAND_LIMIT, FILE_LIMIT, ReadFault, read_client};

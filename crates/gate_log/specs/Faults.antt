@@ -15,6 +15,11 @@ is_frames_disk_fault (frames.BadFrame at list) = false
 is_frames_disk_fault frames.DiskFault = true
 is_frames_disk_fault frames.NoMemory = false
 
+-- the same fault of a log that is read
+abbrev pub frames_fault : LogFault → FramesFault
+frames_fault log.DiskFault = frames.DiskFault
+frames_fault log.NoMemory = frames.NoMemory
+
 -- for want of memory a file comes back as it was given
 abbrev pub IsUntouched : {F : Type 0} → LogFault → F → F → Type 0
 IsUntouched log.DiskFault old new = ⊤

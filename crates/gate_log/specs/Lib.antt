@@ -4,3 +4,4 @@ pub mod Reads
 pub mod Faults
 pub mod GateLog
 pub mod Outcomes
+pub mod Fronts

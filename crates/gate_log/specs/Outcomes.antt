@@ -24,8 +24,8 @@ IsOnlyPlace (BadFrame at before) bytes = (others : List Placed) (place : ℕ) �
 IsOnlyPlace DiskFault bytes = ⊤
 IsOnlyPlace NoMemory bytes = ⊤
 
--- what `IsFramesFault` says, of bytes alone, which don't fail
+-- the part of `IsFramesFault` that says where they are bad
 abbrev pub IsFrontFault : FramesFault → List ℕ → Type 0
 IsFrontFault (BadFrame at before) bytes = IsBad before.items at bytes
-IsFrontFault DiskFault bytes = ⊥
+IsFrontFault DiskFault bytes = ⊤
 IsFrontFault NoMemory bytes = ⊤

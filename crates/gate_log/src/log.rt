@@ -10,7 +10,7 @@ ghost use Rattle.gate_log.specs.Reads.{body_of};
 ghost use Rattle.gate_log.specs.Outcomes.{IsReading, IsFramesFault, IsOnlyPlace};
 
 use crate::frame::{CLOSED, OPEN, lay_out};
-use crate::image::{frames_of, read_whole};
+use crate::image::read_frames;
 use crate::{Frame, FramesFault, LogFault, NoMemory};
 use std::alloc::{AllocError, Global};
 use std::mem;
@@ -87,7 +87,7 @@ impl<F: DiskFile> GateLog<F> {
 
     /// The log in a file, and its frames. `BadFrame` comes exactly where the file is no log: where an open gate stands before a
     /// frame that isn't whole, or at 0 where the file is empty. What stands behind a gate that isn't open is never looked
-    /// at. The file is only read, and handed back where that fails. It reads the whole file at once.
+    /// at, and little of it is read. The file is only read, and handed back where that fails.
     pub fn of(alloc: Global, file: F) -> Result<(GateLog<F>, Vec<Frame>), (F, FramesFault)>
         ensures read { IfOk result (λ r. IsTrue (F.is_told file) → IsReading r.1.items (F.seen file)) }
         ensures logged { IfOk result (λ r. IsTrue (F.is_told file) → IsLogOf F.DiskFile r.0 (map body_of r.1.items)) }
@@ -99,12 +99,7 @@ impl<F: DiskFile> GateLog<F> {
         ensures place { IfErr result (λ e. IsTrue (F.is_told file) → IsOnlyPlace e.1 (F.seen file)) }
     {
         let mut file = file;
-        let bytes = match read_whole(alloc, &mut file) {
-            Ok(bytes) => bytes,
-            Err(LogFault::DiskFault) => return Err((file, FramesFault::DiskFault)),
-            Err(LogFault::NoMemory) => return Err((file, FramesFault::NoMemory)),
-        };
-        match frames_of(alloc, &bytes) {
+        match read_frames(alloc, &mut file) {
             Ok((frames, end)) => {
                 let log = GateLog {
                     file,

@@ -11,3 +11,4 @@ mod sessions;
 mod stage;
 mod tries;
 mod words;
+mod wrong_lines;
