@@ -1,3 +1,4 @@
+pub mod Numbers
 pub mod Sizing
 pub mod Records
 pub mod Heads

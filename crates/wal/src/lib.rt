@@ -4,6 +4,7 @@
 #![tactic(auto)]
 
 mod body;
+mod cursor;
 mod fault;
 mod frames;
 mod head;
@@ -11,6 +12,8 @@ mod numbered;
 mod record;
 mod sequence;
 mod sizes;
+#[cfg(test)]
+mod tests;
 mod wal;
 
 pub use fault::ReplayFault;
