@@ -1,4 +1,4 @@
-//! Tests of the public calls of the crates of the disk and its logs.
+//! Tests of the public calls of what lies on a disk.
 #![tactic(auto)]
 
 #[cfg(test)]

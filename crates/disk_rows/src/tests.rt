@@ -1,5 +1,6 @@
-//! Rows on the disk and its logs, a file for each crate.
+//! The public calls of the crates whose values lie on a disk, each crate in a module of its own.
 
+mod data_block_rows;
 mod gate_log_rows;
 mod manifest_rows;
 mod recovery_rows;
