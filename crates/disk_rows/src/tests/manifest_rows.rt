@@ -1,7 +1,7 @@
 //! Manifests of folders in memory.
 
-use manifest::{Head, Manifest, ManifestFault};
 use gate_log::LogFault;
+use manifest::{Head, Manifest, ManifestFault};
 use std::alloc::Global;
 use std::test::Fail;
 use ts_key::{Form, Name, Ts};

@@ -1,11 +1,11 @@
 //! Folders, files and hosts, in memory and real.
 
+use std::alloc::{AllocError, Global};
+use std::{env, fs, io, process};
 use udt_disk::{
     Disk, DiskFile, Failed, FileName, Host, HostSink, MemDisk, MemHost, MemSink, MemSource,
     Outcome, RealHost, Sink, Source, Text, TextFault, Trouble,
 };
-use std::alloc::{AllocError, Global};
-use std::{env, fs, io, process};
 
 fn source(alloc: Global, bytes: &[u8], fail_at: Option<u64>) -> Result<MemSource, AllocError> {
     Ok(MemSource::new(Vec::from_slice(alloc, bytes)?, fail_at))

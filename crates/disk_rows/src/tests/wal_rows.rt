@@ -4,12 +4,12 @@ ghost use Rattle.std.specs.Prelude.{◌≡◌, ◌+◌, ◌^◌, ◌<◌, ◌≤
 ghost use Rattle.ts_key.specs.declared.batch.WriteOp.{WriteOp as Operation};
 ghost use Rattle.wal.specs.Wals.{wal_sizes, MayGoOn};
 
-use wal::{Numbered, PENDING_LIMIT, ReplayFault, Sizes, Wal};
 use byteorder::{ByteOrder, LittleEndian};
 use std::alloc::Global;
 use std::test::Fail;
 use ts_key::{Batch, Family, Key, Op, Seq, Ts, Value, WriteOp};
 use udt_disk::{Disk, DiskFile, Failed, FileName, MemDisk, MemFile, Outcome, Trouble};
+use wal::{Numbered, PENDING_LIMIT, ReplayFault, Sizes, Wal};
 
 /// Log 1 of a folder with one family, after one put of `a` at 5 with the value `v`, sequence 1.
 const EXAMPLE: &[u8] =
