@@ -5,3 +5,6 @@ mod gate;
 mod keys;
 mod lanes;
 mod model;
+mod memtables;
+mod runs;
+mod versions;
