@@ -4,7 +4,7 @@ mod cursors;
 mod gate;
 mod keys;
 mod lanes;
-mod model;
 mod memtables;
+mod model;
 mod runs;
 mod versions;
