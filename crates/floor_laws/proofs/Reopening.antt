@@ -1,36 +1,32 @@
 -- States that opening a folder gives, and those that a crash leaves.
-use Rattle.std.proofs.Common.{◌≡◌, ◌⊎◌, ℕ, zero, suc, ◌+◌, ◌<◌, ◌≤◌, ◌&&◌, Bool, true, false, not, List, [], ◌∷◌, ◌++◌, map, length, Option, Some, None, refl, sym, ap, ◌∙◌, arith, inl, inr, subst}
-use Rattle.std.specs.Prelude.{All, AllPairs, Contains, IsTrue, find, flat_map, option_map, unwrap_or, nat_lt, nat_le, ◌==◌, slice_get, slice_index_or}
+use Rattle.std.proofs.Common.{◌≡◌, ℕ, zero, suc, ◌<◌, ◌≤◌, Bool, List, [], ◌∷◌, ◌++◌, map, length, Option, Some, None, refl, sym, ap, ◌∙◌, arith, inl, inr, subst}
+use Rattle.std.specs.Prelude.{All, AllPairs, Contains, find, flat_map, option_map, unwrap_or, nat_le, ◌==◌, slice_get, slice_index_or}
 use Rattle.std.specs.List.{filter}
 use Rattle.std.proofs.lemmas.Bool.{cases_Bool, le-leb, leb-true, lt-leb}
 use Rattle.std.proofs.lemmas.List.Elements.{All-filter, All-nil}
 use Rattle.ts_key.specs.declared.numbers.Family.{Family}
 use Rattle.ts_key.specs.declared.numbers.Ts.{Ts}
 use Rattle.ts_key.specs.declared.numbers.Seq.{Seq}
-use Rattle.ts_key.specs.declared.version.Form.TheVariants.{Strip}
 use Rattle.ts_key.specs.declared.version.Version.{Version}
 use Rattle.udt_model.specs.declared.line.FamilyHead.{FamilyHead}
-use Rattle.udt_model.specs.declared.reply.Reply.{Reply}
-use Rattle.udt_model.specs.declared.reply.Reply.TheVariants.{Done, OkAt, Table, Kept}
 use Rattle.udt_model.specs.Versions.{AreWritten, between, up_to}
 use Rattle.udt_model.specs.Reads.{read}
 use Rattle.udt_model.specs.Standing.{HasSource, IsSight, Stands}
 use Rattle.udt_model.specs.State.{State, FamilyState, LiveTable, family_at, live_numbers, numbers_of, seqs_of, sight, unflushed, unflushed_family}
 use Rattle.udt_model.specs.Acts.{Act}
-use Rattle.udt_model.specs.Acts.Act.{write, raise, flush_end, compact_end}
-use Rattle.udt_model.specs.Steps.{IsTold, after}
+use Rattle.udt_model.specs.Steps.{after}
 use Rattle.udt_model.specs.State.{Snap}
 use Rattle.udt_model.specs.Running.{IsFlushRight, IsCompactionRight}
-use Rattle.udt_model.specs.Crashes.{Course, Failing, IsChanged, IsCut, IsFailed, IsOutcome, IsOutcomeUnder, cut_at, is_change, settled}
+use Rattle.udt_model.specs.Crashes.{Course, Failing, IsChanged, IsFailed, IsOutcome, IsOutcomeUnder, cut_at, settled}
 use Rattle.floor_laws.specs.Tables.{contents}
 use Rattle.floor_laws.specs.Sound.{AreSoundTables, IsSound, IsOpened, lists_of}
-use Rattle.floor_laws.proofs.Members.{In, Within, In-contains, contains_In, All-In, All-from, In-left, In-right, In-map, filter-In, filter_every, filter_none, filter_within}
+use Rattle.floor_laws.proofs.Members.{In, In-contains, contains_In, All-In, All-from, In-left, In-right, In-map, filter-In, filter_every, filter_none, filter_within}
 use Rattle.floor_laws.proofs.Standing.{Rising-within}
 use Rattle.floor_laws.proofs.Stating.{rising_of, rising_from}
 use Rattle.floor_laws.proofs.Opening.{up_to-In}
 use Rattle.floor_laws.proofs.Families.{between-In, In-between}
 use Rattle.floor_laws.proofs.ListLaws.{open_keeps, read_same}
-use Rattle.floor_laws.proofs.States.{some_same, Holds, holds_of, sound_from}
+use Rattle.floor_laws.proofs.States.{some_same, holds_of, sound_from}
 use Rattle.floor_laws.proofs.Told.{step_told}
 
 -- ---- opening

@@ -1,8 +1,8 @@
 -- What a running job takes stays the same, whatever happens meanwhile.
-use Rattle.std.proofs.Common.{◌≡◌, ◌⊎◌, ℕ, zero, suc, ◌+◌, ◌<◌, ◌≤◌, ◌&&◌, Bool, true, false, not, List, [], ◌∷◌, ◌++◌, map, length, Option, Some, None, refl, sym, ap, ◌∙◌, arith, inl, inr, subst}
+use Rattle.std.proofs.Common.{◌≡◌, ℕ, zero, suc, ◌+◌, ◌≤◌, ◌&&◌, Bool, false, List, [], ◌∷◌, ◌++◌, Option, Some, None, refl, ap, ◌∙◌, arith, inl, inr, subst}
 use Rattle.std.specs.Prelude.{nat_lt, nat_le, ◌==◌, slice_get, flat_map}
 use Rattle.std.specs.List.{filter}
-use Rattle.std.proofs.lemmas.Bool.{cases_Bool, false≢true, and_right, lt-leb}
+use Rattle.std.proofs.lemmas.Bool.{cases_Bool, and_right, lt-leb}
 use Rattle.std.proofs.lemmas.List.{append-nil}
 use Rattle.std.proofs.lemmas.List.Elements.{filter-append}
 use Rattle.ts_key.specs.declared.batch.WriteOp.{WriteOp}
@@ -13,12 +13,12 @@ use Rattle.ts_key.specs.declared.version.Version.{Version}
 use Rattle.udt_model.specs.declared.reply.Piece.{Piece}
 use Rattle.udt_model.specs.declared.reply.Reply.{Reply}
 use Rattle.udt_model.specs.declared.reply.Reply.TheVariants.{Done, OkAt, Table, Inputs, Kept, DroppedFault, DroppedMemory, DroppedFiles, Halted, Fault}
-use Rattle.udt_model.specs.Versions.{between, logged, made, version_of}
-use Rattle.udt_model.specs.State.{State, FamilyState, LiveTable, Flush, Compaction, changed_at, family_at, numbers_of, tables_of, tables_of_family, through_at, through_of, with_floor, with_table}
+use Rattle.udt_model.specs.Versions.{between, logged, made}
+use Rattle.udt_model.specs.State.{State, FamilyState, LiveTable, Flush, Compaction, changed_at, tables_of_family, through_at, through_of, with_floor}
 use Rattle.udt_model.specs.Acts.{Act}
-use Rattle.udt_model.specs.Acts.Act.{write, raise, make_snapshot, release, flush_start, flush_end, compact_start, compact_end}
+use Rattle.udt_model.specs.Acts.Act.{write, raise, flush_end, compact_start, compact_end}
 use Rattle.udt_model.specs.Jobs.{compaction_kept, flush_kept, inputs_hold, inputs_of, is_input, tables_from, taken}
-use Rattle.udt_model.specs.Steps.{IsFlushed, IsTold, IsReplyTo, after, compacted, flushed, with_compaction, with_flush, without_job}
+use Rattle.udt_model.specs.Steps.{IsFlushed, IsReplyTo, after, compacted, flushed, with_compaction, with_flush, without_job}
 use Rattle.floor_laws.specs.Sound.{IsSound}
 use Rattle.floor_laws.proofs.Members.{In, filter_none}
 use Rattle.floor_laws.proofs.Tables.{has-In, numbers-In, filter_with_table}
