@@ -10,14 +10,7 @@ pub mod StepLemmas
 pub mod SoloLemmas
 pub mod SessionLemmas
 pub mod OutputLemmas
-pub mod GivingBack
-pub mod MakeLemmas
-pub mod Versions
-pub mod Steps
-pub mod Taking
-pub mod Opening
-pub mod States
-pub mod OpeningLaws
+Laws
 pub mod RunLemmas
 pub mod HostLemmas
 pub mod FaultLemmas

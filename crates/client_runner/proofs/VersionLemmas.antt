@@ -24,7 +24,7 @@ use Rattle.wal.specs.Wals.{IsWalOf}
 use Rattle.manifest.specs.declared.fold.Folded.{Folded}
 use Rattle.client_runner.specs.Adding.{op_of}
 use Rattle.udt_model.specs.Versions.{logged}
-use Rattle.client_runner.specs.Stores.{head_of, last_of, state_of, versions_of}
+use Rattle.recovery.specs.Stores.{head_of, last_of, state_of, versions_of}
 
 -- each batch begins behind this sequence, and behind the batch before it, and has an operation
 abbrev pub Above : ℕ → List Numbered → Type 0

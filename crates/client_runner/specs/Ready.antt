@@ -1,6 +1,6 @@
 -- Transcripts that wait to be written, and why there is none.
 use Rattle.std.specs.Prelude.{◌≡◌, ◌⊎◌, ℕ, ◌≤◌, List, ◌++◌, length, All, Some}
-use Rattle.udt_disk.specs.Opens.{Standing, Stands}
+use Rattle.udt_disk.specs.Opens.{Standing, IsStanding}
 use Rattle.client_lang.specs.declared.command.Command.{Command}
 use Rattle.udt_model.specs.Histories.{IsSound}
 use Rattle.client_runner.specs.Expand.{IsSoloHistory}
@@ -22,7 +22,7 @@ use Rattle.udt_model.specs.State.{heads_of}
 -- the commands of the file that stands there
 pub record IsReadAs (standing : Standing) (commands : List Command) : Type 0 where
   pub bytes : List ℕ
-  pub stands : Stands standing (Some bytes)
+  pub stands : IsStanding standing (Some bytes)
   pub spelled : IsFile bytes commands
   pub only : (other : List Command) → IsFile bytes other → other ≡ commands
   pub built : All IsBuiltCommand commands
@@ -50,7 +50,7 @@ pub record IsReady (bytes : List ℕ) (r : Ready) : Type 0 where
 -- the same for the file that stands there
 pub record IsTried (standing : Standing) (r : Ready) : Type 0 where
   pub bytes : List ℕ
-  pub stands : Stands standing (Some bytes)
+  pub stands : IsStanding standing (Some bytes)
   pub ready : IsReady bytes r
 
 -- the stop of a fault of reading

@@ -6,10 +6,8 @@
 
 mod flow;
 mod init;
-mod making;
 mod output;
 mod reading;
-mod recovery;
 mod run;
 mod solo;
 mod status;

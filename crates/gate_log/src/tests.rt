@@ -1,5 +1,5 @@
 ghost use Rattle.std.specs.Prelude.{IfOk};
-ghost use Rattle.gate_log.specs.GateLog.{IsReady};
+ghost use Rattle.gate_log.specs.GateLog.{IsLogReady};
 
 use crate::{FramesFault, GateLog};
 use std::alloc::Global;
@@ -18,7 +18,7 @@ enum Reading {
     Bad(u64, usize),
 }
 
-fn file_of(disk: &mut MemDisk, bytes: &[u8]) -> Result<MemFile, Failed> {
+fn log_file(disk: &mut MemDisk, bytes: &[u8]) -> Result<MemFile, Failed> {
     let mut file = disk.create(LOG)?;
     file.write_at(0, bytes)?;
     Ok(file)
@@ -45,7 +45,7 @@ fn read_bytes(alloc: Global, bytes: &[u8]) -> Result<Reading, Failed> {
     let Ok(mut disk) = MemDisk::new(alloc, Vec::new(alloc)) else {
         return Err(Failed);
     };
-    let file = file_of(&mut disk, bytes)?;
+    let file = log_file(&mut disk, bytes)?;
     read(alloc, file)
 }
 
@@ -73,7 +73,7 @@ fn a_frame_has_a_gate_a_length_and_a_body(rt: HostRuntime) -> Result<(), Fail> {
 fn frames_are_read_with_their_places(rt: HostRuntime) -> Result<(), Fail> {
     let alloc = rt.alloc();
     let mut disk = MemDisk::new(alloc, Vec::new(alloc))?;
-    let Ok(file) = file_of(&mut disk, THREE) else {
+    let Ok(file) = log_file(&mut disk, THREE) else {
         assert!(rt; false, "the file");
         return Ok(());
     };
@@ -94,7 +94,7 @@ fn frames_are_read_with_their_places(rt: HostRuntime) -> Result<(), Fail> {
 fn a_log_goes_on_in_another_file(rt: HostRuntime) -> Result<(), Fail> {
     let alloc = rt.alloc();
     let mut disk = MemDisk::new(alloc, Vec::new(alloc))?;
-    let Ok(old) = file_of(&mut disk, THREE) else {
+    let Ok(old) = log_file(&mut disk, THREE) else {
         assert!(rt; false, "the file");
         return Ok(());
     };
@@ -154,7 +154,7 @@ fn what_stands_behind_a_closed_gate_does_not_count(rt: HostRuntime) {
 
 /// Adds the frames `ab` and `c`. Tells whether the log took the second one.
 fn append_two(log: &mut GateLog<MemFile>) -> Result<bool, Failed>
-    requires { IsReady (⟦<MemFile as DiskFile>⟧) log.old }
+    requires { IsLogReady (⟦<MemFile as DiskFile>⟧) log.old }
 {
     let Ok(()) = log.reserve(2) else {
         return Err(Failed);
@@ -168,7 +168,7 @@ fn append_two(log: &mut GateLog<MemFile>) -> Result<bool, Failed>
 
 /// A log whose file fails at the call with this number.
 fn log_with_trouble(alloc: Global, call: u64) -> Result<(MemDisk, GateLog<MemFile>), Failed>
-    ensures { IfOk result (λ r. IsReady (⟦<MemFile as DiskFile>⟧) r.1) }
+    ensures { IfOk result (λ r. IsLogReady (⟦<MemFile as DiskFile>⟧) r.1) }
 {
     let trouble = Trouble {
         name: LOG,

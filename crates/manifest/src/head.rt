@@ -11,7 +11,7 @@
 ghost use Rattle.std.specs.Prelude.{◌≡◌, ◌≤◌, ◌↔◌, ◌++◌, length, IsTrue, IfOk, OnOk};
 ghost use Rattle.std.specs.List.{All, flat_map, list_any};
 ghost use Rattle.std.specs.Str.{bytes_eq};
-ghost use Rattle.manifest.specs.Heads.{form_code, family_text, head_text, differ, AreNew, IsNew, IsNamed};
+ghost use Rattle.manifest.specs.Heads.{form_code, family_text, head_text, differ, AreNew, IsNewFamily, IsNamed};
 
 use crate::NoMemory;
 use byteorder::{ByteOrder, LittleEndian};
@@ -57,13 +57,13 @@ impl Head {
 }
 
 fn are_new(families: &[FamilyHead]) -> bool
-    ensures { IsTrue result ↔ All IsNew families.now }
+    ensures { IsTrue result ↔ All IsNewFamily families.now }
 {
     families.iter().all(is_new)
 }
 
 fn is_new(family: &FamilyHead) -> bool
-    ensures { IsTrue result ↔ IsNew family.now }
+    ensures { IsTrue result ↔ IsNewFamily family.now }
 {
     family.form == Form::Persist && family.floor.0 == 0
 }

@@ -3,12 +3,10 @@ ghost use Rattle.ts_key.specs.Batches.{IsBatch, IsBatchFault, IsBadStamp, IsStam
 
 use crate::NoMemory;
 use crate::bytes::Key;
+use crate::limits::BATCH_LIMIT;
 use crate::numbers::{Family, Ts};
 use crate::version::Op;
 use std::marker::Model;
-
-/// The most operations that a batch has.
-pub const BATCH_LIMIT: usize = 64;
 
 /// An operation on a key of a family, at a timestamp.
 #[derive(Debug, Drop)]

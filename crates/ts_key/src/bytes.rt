@@ -2,15 +2,10 @@ ghost use Rattle.std.specs.Prelude.{◌≡◌, ◌<◌, ◌≤◌, length, IfOk,
 ghost use Rattle.ts_key.specs.Bytes.{IsBytesFault};
 
 use crate::NoMemory;
+use crate::limits::{KEY_LIMIT, VALUE_LIMIT};
 use std::alloc::{AllocError, Global};
 use std::marker::Model;
 use std::sync::ArcSlice;
-
-/// The most bytes that a key has.
-pub const KEY_LIMIT: usize = 1024;
-
-/// The most bytes that a value has.
-pub const VALUE_LIMIT: usize = 65536;
 
 /// Why bytes are no key or no value.
 #[derive(Clone, Copy, Debug, PartialEq, Eq)]

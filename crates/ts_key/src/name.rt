@@ -3,12 +3,10 @@ ghost use Rattle.std.specs.List.{list_all};
 ghost use Rattle.ts_key.specs.Names as names;
 
 use crate::NoMemory;
+use crate::limits::NAME_LIMIT;
 use std::alloc::{AllocError, Global};
 use std::marker::Model;
 use std::sync::ArcSlice;
-
-/// The most bytes that a name has.
-pub const NAME_LIMIT: usize = 32;
 
 /// Why bytes are no name.
 #[derive(Clone, Copy, Debug, PartialEq, Eq)]

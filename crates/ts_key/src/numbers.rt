@@ -1,3 +1,5 @@
+//! Families, timestamps and sequences.
+
 /// The number of a column family.
 #[derive(Clone, Copy, Debug, PartialEq, Eq, PartialOrd, Ord, Hash)]
 pub struct Family(pub u32);

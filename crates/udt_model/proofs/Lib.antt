@@ -8,3 +8,4 @@ pub mod Limits
 pub mod StandRows
 pub mod EntryRows
 pub mod RunningRows
+pub mod Sorted

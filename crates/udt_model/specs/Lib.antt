@@ -15,3 +15,4 @@ pub mod Histories
 pub mod Crashes
 pub mod Standing
 pub mod Entries
+pub mod SortedLaws

@@ -8,3 +8,4 @@ mod real;
 mod sessions;
 mod stage;
 mod words;
+mod wrong_lines;

@@ -1,6 +1,6 @@
 ghost use Rattle.std.specs.Prelude.{◌≡◌, ◌+◌, ◌^◌, ◌<◌, ◌≤◌, ◌∷◌, [], ℕ, length, All, IfOk, OnOk};
 ghost use Rattle.ts_key.specs.declared.batch.WriteOp.{WriteOp as Operation};
-ghost use Rattle.wal.specs.Wals.{sizes_of, MayGoOn};
+ghost use Rattle.wal.specs.Wals.{wal_sizes, MayGoOn};
 
 use crate::{Numbered, PENDING_LIMIT, ReplayFault, Sizes, Wal};
 use byteorder::{ByteOrder, LittleEndian};
@@ -94,10 +94,10 @@ fn put_of(alloc: Global, ts: u64) -> Result<Batch, Failed>
 fn add_put(alloc: Global, wal: &mut Wal<MemFile>, first: u64) -> Result<(), Failed>
     requires first { 1 ≤ first }
     requires last { first < 2 ^ 56 }
-    requires families { 0 < length (sizes_of wal.old) }
+    requires families { 0 < length (wal_sizes wal.old) }
     requires next { MayGoOn (⟦<MemFile as DiskFile>⟧) wal.old first }
     ensures goes_on { OnOk result (MayGoOn (⟦<MemFile as DiskFile>⟧) wal.new (first + 1)) }
-    ensures sizes { sizes_of wal.new ≡ sizes_of wal.old }
+    ensures sizes { wal_sizes wal.new ≡ wal_sizes wal.old }
 {
     if wal.pending() >= PENDING_LIMIT {
         return Err(Failed);
@@ -261,7 +261,7 @@ fn records_outside_of_the_grammar_are_bad(rt: HostRuntime) {
 
 /// Adds one batch and syncs it, and then two more. Tells whether the second sync went well.
 fn sync_twice(alloc: Global, wal: &mut Wal<MemFile>) -> Result<bool, Failed>
-    requires families { 0 < length (sizes_of wal.old) }
+    requires families { 0 < length (wal_sizes wal.old) }
     requires next { MayGoOn (⟦<MemFile as DiskFile>⟧) wal.old 1 }
 {
     add_put(alloc, wal, 1)?;
@@ -273,7 +273,7 @@ fn sync_twice(alloc: Global, wal: &mut Wal<MemFile>) -> Result<bool, Failed>
 
 /// A log whose file fails at the call with this number.
 fn log_with_trouble(alloc: Global, call: u64) -> Result<(MemDisk, Wal<MemFile>), Failed>
-    ensures families { IfOk result (λ r. 0 < length (sizes_of r.1)) }
+    ensures families { IfOk result (λ r. 0 < length (wal_sizes r.1)) }
     ensures next { IfOk result (λ r. MayGoOn (⟦<MemFile as DiskFile>⟧) r.1 1) }
 {
     let trouble = Trouble {

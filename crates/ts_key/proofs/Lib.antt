@@ -1,0 +1,4 @@
+pub mod NumberBytes
+pub mod Writing
+pub mod Reading
+pub mod StoredKeys

@@ -1,0 +1,13 @@
+use Rattle.std.proofs.Common.{◌≡◌, ◌≤◌, ◌+◌, ◌-◌, drop}
+use Rattle.std.specs.Prelude.{nat_eq}
+use Rattle.std.specs.List.{common_prefix_len}
+use Rattle.ts_lanes.proofs.prefix.prefix_from.Given as goal
+
+abbrev pub invariant-loop-at : goal.invariant-loop-at
+invariant-loop-at l = record {
+  within : l.at ≤ l.both;
+  same : l.at + common_prefix_len nat_eq (drop l.at l.a) (drop l.at l.b) ≡ l.from + common_prefix_len nat_eq (drop l.from l.a) (drop l.from l.b);
+}
+
+abbrev pub decreases-loop-at : goal.decreases-loop-at
+decreases-loop-at l = l.both - l.at
