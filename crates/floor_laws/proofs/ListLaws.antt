@@ -18,7 +18,7 @@ use Rattle.udt_model.specs.Collecting.{collect, collect_all, cutoff}
 use Rattle.udt_model.specs.Standing.{AreAlike, IsSight, Stands}
 use Rattle.udt_model.specs.Jobs.{in_form, floor_over}
 use Rattle.udt_model.specs.Refusals.{fell}
-use Rattle.floor_laws.specs.Lists.{AreSince, IsUpTo, AreAside, AreNewer, AreSame, AreApart, IsNext}
+use Rattle.floor_laws.specs.Lists.{AreSince, IsUpTo, AreAside, AreNewer, AreSame, AreApart, IsNextVersion}
 use Rattle.floor_laws.proofs.Members.{In, Within, In-contains, contains_In, All-In, In-left, In-right, In-append}
 use Rattle.floor_laws.proofs.Best.{Single, Best, best_filter}
 use Rattle.floor_laws.proofs.Counts.{Distinct, pairs_distinct, distinct_single, count-append, count-none, count-filter}
@@ -113,7 +113,7 @@ places_keep c form vs ws w f ss same apart h =
 
 -- ---- a write
 
-next_admitted : (w : List Version) (v : Version) → IsNext w v → Admitted w v
+next_admitted : (w : List Version) (v : Version) → IsNextVersion w v → Admitted w v
 next_admitted w v h = record { low = λ a i. All-In (λ (o : Version). o.seq.0 < v.seq.0) w a h.above i; over = λ a i fam key. h.rises a (In-contains w a i) fam key }
 
 adds_front : (vs : List Version) (v : Version) → Adds vs (v ∷ vs) v
@@ -126,7 +126,7 @@ adds_back w v = record {
   only = λ x i. elim (In-append x w (v ∷ []) i) [ inl j ↦ inl j | inr j ↦ elim j [ inl q ↦ inr q | inr b ↦ absurd b ] ];
 }
 
-pub write_keeps : (form : Form) (vs w : List Version) (f : Ts) (ss : List Seq) (v : Version) → AreApart w → IsNext w v → Stands v.family form vs w f ss → Stands v.family form (v ∷ vs) (w ++ v ∷ []) f ss
+pub write_keeps : (form : Form) (vs w : List Version) (f : Ts) (ss : List Seq) (v : Version) → AreApart w → IsNextVersion w v → Stands v.family form vs w f ss → Stands v.family form (v ∷ vs) (w ++ v ∷ []) f ss
 write_keeps form vs w f ss v apart next h =
     let g = standing_of v.family form vs w f ss h in
     let ad = next_admitted w v next in
@@ -142,7 +142,7 @@ write_keeps form vs w f ss v apart next h =
     stands_from v.family form (v ∷ vs) (w ++ v ∷ []) f ss
     (standing_write form vs w (v ∷ vs) (w ++ v ∷ []) f ss v (adds_front vs v) (adds_back w v) ad (distinct_single w (pairs_distinct w apart)) dist g)
 
-pub other_keeps : (c : Family) (form : Form) (vs w : List Version) (f : Ts) (ss : List Seq) (v : Version) → v.family ≢ c → AreApart w → IsNext w v → Stands c form vs w f ss → Stands c form vs (w ++ v ∷ []) f ss
+pub other_keeps : (c : Family) (form : Form) (vs w : List Version) (f : Ts) (ss : List Seq) (v : Version) → v.family ≢ c → AreApart w → IsNextVersion w v → Stands c form vs w f ss → Stands c form vs (w ++ v ∷ []) f ss
 other_keeps c form vs w f ss v ne apart next h =
     stands_from c form vs (w ++ v ∷ []) f ss
     (standing_other form c vs w (w ++ v ∷ []) f ss v ne (adds_back w v) (Single-add w (w ++ v ∷ []) v (adds_back w v) (next_admitted w v next).low (distinct_single w (pairs_distinct w apart))) (standing_of c form vs w f ss h))

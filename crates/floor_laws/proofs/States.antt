@@ -12,7 +12,7 @@ use Rattle.udt_model.specs.State.{State, FamilyState, LiveTable, Snap, Flush, Co
 use Rattle.udt_model.specs.Jobs.{has_number, hull_of, inputs_hold, is_ascending}
 use Rattle.udt_model.specs.Running.{IsSince, IsFlushing, IsBeside, IsOutside, IsClear, IsCompacting, IsFlushRight, IsCompactionRight}
 use Rattle.floor_laws.specs.Tables.{contents}
-use Rattle.floor_laws.specs.Sound.{IsSoundFamily, IsSound}
+use Rattle.floor_laws.specs.Sound.{IsSoundFamily, IsSoundState}
 use Rattle.floor_laws.proofs.Members.{In, In-contains, contains_In, All-In, All-from, all-In}
 use Rattle.floor_laws.proofs.Best.{Single}
 use Rattle.floor_laws.proofs.Counts.{Distinct, pairs_distinct, distinct_single}
@@ -216,7 +216,7 @@ compaction_is_from : (m : State) (o : Option Compaction) → CompactionIs m o �
 compaction_is_from m None h = tt
 compaction_is_from m (Some job) h = (h.0, h.1, compacting_from m job h.0 h.1 h.2)
 
-pub holds_of : (m : State) → IsSound m → Holds m
+pub holds_of : (m : State) → IsSoundState m → Holds m
 holds_of m h = record {
   written = h.written;
   families = λ i f at. family_of_sound m i f (h.families i f at);
@@ -225,7 +225,7 @@ holds_of m h = record {
   compaction = compaction_is_of m m.compaction h.jobs.compaction;
 }
 
-pub sound_from : (m : State) → Holds m → IsSound m
+pub sound_from : (m : State) → Holds m → IsSoundState m
 sound_from m h = record {
   written = h.written;
   families = λ i f at. sound_family m i f (h.families i f at) (h.used i f at);

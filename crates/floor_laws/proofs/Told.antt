@@ -16,7 +16,7 @@ use Rattle.udt_model.specs.Refusals.{◌or_else◌, ◌otherwise◌, halt, unkno
 use Rattle.udt_model.specs.Jobs.{IsClosed, numbers_of_pieces, unflushed_of}
 use Rattle.udt_model.specs.Steps.{IsFlushed, IsCompacted, IsPicked, IsTold, IsFull, IsReplyTo, after, without_job, with_flush, with_compaction}
 use Rattle.udt_model.specs.Crashes.{is_change}
-use Rattle.floor_laws.specs.Sound.{IsSound}
+use Rattle.floor_laws.specs.Sound.{IsSoundState}
 use Rattle.floor_laws.proofs.States.{FlushIs, CompactionIs, Holds, holds_of, sound_from}
 use Rattle.floor_laws.proofs.Writing.{is_refusal, Refuses, told_other, known_start, or_none, refuses_write, refuses_raise, refuses_flush_start, refuses_compact_start}
 use Rattle.floor_laws.proofs.Stepping.{floor_none, step_write, step_raise, step_snapshot, step_release, step_drop_flush, step_drop_compaction, step_halt, step_flush_start, step_compact_start, all_closed, new_of, step_flush_end, step_compact_end}
@@ -121,5 +121,5 @@ step_told m number (flush_end i start) (Table table kept floor) told c h = flush
 step_told m number (compact_end i start) (Kept kept pieces) told c h = compact_ends m m.compaction kept pieces refl told.1 h
 step_told m number act reply told c h = absurd (false≢true c)
 
-pub sound_after : (m : State) (number : ℕ) (act : Act) (reply : Reply) → IsSound m → IsReplyTo m act reply → IsSound (after m number act reply)
+pub sound_after : (m : State) (number : ℕ) (act : Act) (reply : Reply) → IsSoundState m → IsReplyTo m act reply → IsSoundState (after m number act reply)
 sound_after m number act reply h r = sound_from (after m number act reply) (step_after m number act reply r (holds_of m h))
