@@ -10,7 +10,6 @@ pub mod StepLemmas
 pub mod SoloLemmas
 pub mod SessionLemmas
 pub mod OutputLemmas
-Laws
 pub mod RunLemmas
 pub mod HostLemmas
 pub mod FaultLemmas

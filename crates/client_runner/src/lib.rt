@@ -16,6 +16,3 @@ mod words;
 
 pub use status::Status;
 pub use top::{refuse_words, store_plain};
-
-#[cfg(test)]
-mod tests;

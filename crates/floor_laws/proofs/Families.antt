@@ -1,6 +1,6 @@
 -- What a family's lists and tables keep at each step.
-use Rattle.std.proofs.Common.{◌≡◌, ◌≢◌, ◌⊎◌, ℕ, ◌+◌, ◌<◌, ◌≤◌, ◌&&◌, Bool, true, false, not, List, [], ◌∷◌, ◌++◌, map, max, refl, sym, ap, ◌∙◌, arith, inl, inr, subst}
-use Rattle.std.specs.Prelude.{◌==◌, nat_lt, nat_le, if◌then◌else◌}
+use Rattle.std.proofs.Common.{◌≡◌, ◌⊎◌, ℕ, ◌+◌, ◌<◌, ◌≤◌, ◌&&◌, Bool, true, false, not, List, [], ◌∷◌, ◌++◌, map, refl, sym, ap, ◌∙◌, arith, inl, inr, subst}
+use Rattle.std.specs.Prelude.{◌==◌, nat_lt, nat_le}
 use Rattle.std.specs.List.{filter}
 use Rattle.std.proofs.lemmas.Bool.{cases_Bool, cases_lt, false≢true, and_parts, and_from, leb-true, le-leb, ltb-true, lt-ltb, eqb-true, eq-eqb, false_from_ne_true, and_left, and_right, lt-leb, le-ltb}
 use Rattle.std.proofs.lemmas.List.{append-nil}
@@ -12,23 +12,22 @@ use Rattle.ts_key.specs.declared.version.Form.{Form}
 use Rattle.ts_key.specs.declared.version.Form.TheVariants.{Persist, Strip}
 use Rattle.ts_key.specs.declared.version.Version.{Version}
 use Rattle.udt_model.specs.declared.reply.KeySpan.{KeySpan}
-use Rattle.udt_model.specs.declared.reply.Piece.{Piece}
 use Rattle.udt_model.specs.Versions.{between, up_to}
-use Rattle.udt_model.specs.Orders.{is_in_some, meets, span_of, stored}
-use Rattle.udt_model.specs.Collecting.{collect, collect_all, without_ts, stripped, cutoff}
+use Rattle.udt_model.specs.Orders.{is_in_some, meets, span_of}
+use Rattle.udt_model.specs.Collecting.{collect, collect_all, without_ts, stripped}
 use Rattle.udt_model.specs.State.{LiveTable, numbers_of, with_table, with_tables}
-use Rattle.udt_model.specs.Jobs.{is_input, in_form, floor_over, hull_of, tables_from, are_parts}
+use Rattle.udt_model.specs.Jobs.{is_input, in_form, floor_over, hull_of}
 use Rattle.floor_laws.specs.Tables.{contents}
-use Rattle.floor_laws.proofs.Members.{In, Within, In-left, In-right, In-append, In-filter, filter-In, filter_none, filter_within, In-map, map-In}
+use Rattle.floor_laws.proofs.Members.{In, Within, In-left, In-right, In-append, In-filter, filter-In, filter_none, filter_within, map-In}
 use Rattle.floor_laws.proofs.Best.{Single}
 use Rattle.floor_laws.proofs.Counts.{count, Distinct, count-append, count-none, count-filter, count-stored, count-without_ts}
-use Rattle.floor_laws.proofs.Kept.{NewerOutside, everywhere, collect_by, collect-In, collect_all_is, collect_is, is_of-from, newer_by_seq, stored-In, In-stored, same_number}
+use Rattle.floor_laws.proofs.Kept.{NewerOutside, everywhere, collect_by, collect-In, collect_all_is, is_of-from, newer_by_seq, stored-In, In-stored, same_number}
 use Rattle.floor_laws.proofs.Standing.{Rising, Sees, Standing, Adds, Admitted, kin, standing_raise, standing_snaps, standing_same, standing_collect, standing_write, standing_other, Single-add, SeesLikeThen, like_then}
 use Rattle.floor_laws.proofs.Stripping.{Apart, below_cutoff, standing_strip}
 use Rattle.floor_laws.proofs.Opening.{In-up_to, up_to-In, standing_open}
-use Rattle.floor_laws.proofs.Sorting.{count-collect, ordered_stored}
-use Rattle.floor_laws.proofs.Tables.{contents-from, In-contents, ins, outs, ins-In, ins-below, outs-In, outs-below, contents-split, count-parts, with_table-In, In-with_table, with_tables-In, In-with_tables, count-with_table, count-with_tables, Ordered, Below, Sorted, Once, sorted_filter, sorted_with_table, sorted_with_tables}
-use Rattle.floor_laws.proofs.Pieces.{Cut, cut_is, ends_in, meets_hull}
+use Rattle.floor_laws.proofs.Sorting.{count-collect}
+use Rattle.floor_laws.proofs.Tables.{contents-from, In-contents, ins, outs, ins-below, outs-In, outs-below, contents-split, count-parts, with_table-In, In-with_table, with_tables-In, In-with_tables, count-with_table, count-with_tables, Ordered, Once, sorted_filter, sorted_with_table, sorted_with_tables}
+use Rattle.floor_laws.proofs.Pieces.{Cut, ends_in, meets_hull}
 use Rattle.floor_laws.proofs.Keys.{meets_swap}
 
 -- ---- the versions of a family between two sequences

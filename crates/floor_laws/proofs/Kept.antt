@@ -1,5 +1,5 @@
 -- What a collection keeps, for a read.
-use Rattle.std.proofs.Common.{◌≡◌, ◌⊎◌, ℕ, ◌<◌, ◌≤◌, Bool, true, false, not, ◌&&◌, ◌||◌, List, [], ◌∷◌, ◌++◌, max, Option, Some, None, refl, sym, ap, ◌∙◌, subst, arith, inl, inr}
+use Rattle.std.proofs.Common.{◌≡◌, ◌⊎◌, ℕ, ◌<◌, ◌≤◌, Bool, true, false, not, ◌&&◌, List, [], ◌∷◌, ◌++◌, max, Option, Some, None, refl, sym, ap, ◌∙◌, subst, arith, inl, inr}
 use Rattle.std.specs.List.{filter, list_any}
 use Rattle.std.specs.Str.{bytes_eq}
 use Rattle.std.specs.Prelude.{◌==◌, nat_le, ⊤}
@@ -13,9 +13,9 @@ use Rattle.ts_key.specs.declared.version.Op.{Op}
 use Rattle.ts_key.specs.declared.version.Op.TheVariants.{Put, Del}
 use Rattle.ts_key.specs.declared.version.Version.{Version}
 use Rattle.udt_model.specs.declared.reply.KeySpan.{KeySpan}
-use Rattle.udt_model.specs.Versions.{is_newer, is_of, of_key, is_within, visible, newest_of, is_put, up_to}
+use Rattle.udt_model.specs.Versions.{is_newer, is_of, is_within, visible, newest_of, is_put, up_to}
 use Rattle.udt_model.specs.Orders.{is_before, is_in_some, stored, with_version}
-use Rattle.udt_model.specs.Collecting.{hides, is_hidden, is_seen, is_seen_at, seen_of, is_put_below, is_useless, without_useless, collect, collect_all}
+use Rattle.udt_model.specs.Collecting.{hides, is_hidden, is_seen, is_seen_at, seen_of, is_put_below, collect, collect_all}
 use Rattle.floor_laws.proofs.Members.{In, In-filter, filter-In, filter_every, In-left, In-right, In-append, any-In, In-any, none-any}
 use Rattle.floor_laws.proofs.Best.{Single, IsBest, Best, best_filter}
 

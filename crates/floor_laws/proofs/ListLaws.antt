@@ -1,7 +1,6 @@
 -- The laws of lists that stand for a family's writes, over the model's `Stands`.
-use Rattle.std.proofs.Common.{◌≡◌, ◌≢◌, ◌⊎◌, ℕ, ◌+◌, ◌<◌, ◌≤◌, ◌&&◌, Bool, true, false, List, [], ◌∷◌, ◌++◌, max, Option, Some, None, refl, sym, ap, ◌∙◌, arith, inl, inr, subst}
-use Rattle.std.specs.Prelude.{All, AllPairs, Contains, nat_lt, nat_le, ◌==◌, if◌then◌else◌}
-use Rattle.std.specs.List.{filter}
+use Rattle.std.proofs.Common.{◌≡◌, ◌≢◌, ◌⊎◌, ℕ, ◌+◌, ◌<◌, ◌≤◌, ◌&&◌, Bool, true, List, [], ◌∷◌, ◌++◌, Option, Some, None, refl, sym, ap, ◌∙◌, arith, inl, inr, subst}
+use Rattle.std.specs.Prelude.{All, Contains, nat_lt, nat_le, ◌==◌}
 use Rattle.std.proofs.lemmas.Bool.{cases_Bool, cases_lt, lt-ltb, le-ltb, ltb-false, eqb-true}
 use Rattle.ts_key.specs.declared.numbers.Family.{Family}
 use Rattle.ts_key.specs.declared.numbers.Ts.{Ts}
@@ -9,33 +8,28 @@ use Rattle.ts_key.specs.declared.numbers.Seq.{Seq}
 use Rattle.ts_key.specs.declared.version.Form.{Form}
 use Rattle.ts_key.specs.declared.version.Form.TheVariants.{Persist, Strip}
 use Rattle.ts_key.specs.declared.version.Op.{Op}
-use Rattle.ts_key.specs.declared.version.Op.TheVariants.{Put, Del}
 use Rattle.ts_key.specs.declared.version.Version.{Version}
 use Rattle.udt_model.specs.declared.reply.KeySpan.{KeySpan}
-use Rattle.udt_model.specs.declared.reply.Reply.{Reply}
-use Rattle.udt_model.specs.declared.reply.Reply.TheVariants.{Fell}
-use Rattle.udt_model.specs.declared.read.Answer.{Answer}
-use Rattle.udt_model.specs.declared.read.ModelRead.{ModelRead}
 use Rattle.udt_model.specs.declared.read.ModelRead.TheVariants.{Told}
-use Rattle.udt_model.specs.Versions.{AreWritten, between, is_of, is_within, newest_of, of_key, up_to, visible}
+use Rattle.udt_model.specs.Versions.{AreWritten, between, is_of, newest_of, of_key, up_to, visible}
 use Rattle.udt_model.specs.Orders.{is_in_some}
 use Rattle.udt_model.specs.Reads.{stamp_of, answer_of_op, answer_of, read}
-use Rattle.udt_model.specs.Collecting.{collect, collect_all, without_ts, cutoff}
+use Rattle.udt_model.specs.Collecting.{collect, collect_all, cutoff}
 use Rattle.udt_model.specs.Standing.{AreAlike, IsSight, Stands}
 use Rattle.udt_model.specs.Jobs.{in_form, floor_over}
 use Rattle.udt_model.specs.Refusals.{fell}
-use Rattle.floor_laws.specs.Lists.{AreSince, IsUpTo, AreAside, AreNewer, AreSame, AreApart, IsNext}
-use Rattle.floor_laws.proofs.Members.{In, Within, In-contains, contains_In, All-In, All-from, In-left, In-right, In-append, In-filter, filter-In}
-use Rattle.floor_laws.proofs.Best.{Single, Best, IsBest, best_filter, best_unique}
-use Rattle.floor_laws.proofs.Counts.{Distinct, pairs_distinct, distinct_pairs, distinct_single, count, count-append, count-none, count-filter}
-use Rattle.floor_laws.proofs.Kept.{fits, fits-true, fits-from, is_of-true, is_of-from, collect_by, collect-In, newer_by_seq, NewerOutside}
-use Rattle.floor_laws.proofs.Standing.{Rising, Sees, Standing, Adds, Admitted, kin, visible_is, standing_raise, standing_snaps, standing_same, standing_collect, standing_write, standing_other, Single-add, SeesLikeThen, like_then}
+use Rattle.floor_laws.specs.Lists.{AreSince, IsUpTo, AreAside, AreNewer, AreSame, AreApart, IsNextVersion}
+use Rattle.floor_laws.proofs.Members.{In, Within, In-contains, contains_In, All-In, In-left, In-right, In-append}
+use Rattle.floor_laws.proofs.Best.{Single, Best, best_filter}
+use Rattle.floor_laws.proofs.Counts.{Distinct, pairs_distinct, distinct_single, count-append, count-none, count-filter}
+use Rattle.floor_laws.proofs.Kept.{fits, fits-true, fits-from, is_of-true, is_of-from, collect_by, newer_by_seq, NewerOutside}
+use Rattle.floor_laws.proofs.Standing.{Standing, Adds, Admitted, kin, visible_is, standing_raise, standing_snaps, standing_same, standing_collect, standing_write, standing_other, Single-add, SeesLikeThen, like_then}
 use Rattle.floor_laws.proofs.Stating.{standing_of, stands_from, sees_of}
-use Rattle.floor_laws.proofs.Stripping.{Apart, below_cutoff}
-use Rattle.floor_laws.proofs.Opening.{up_to-In, In-up_to, standing_open}
+use Rattle.floor_laws.proofs.Stripping.{below_cutoff}
+use Rattle.floor_laws.proofs.Opening.{up_to-In, standing_open}
 use Rattle.floor_laws.proofs.Sorting.{count-collect, collect_same, collect_all_same, floor_same}
 use Rattle.floor_laws.proofs.Families.{between-In, In-between, flush_standing, distinct_part}
-use Rattle.floor_laws.proofs.States.{Written, written_of}
+use Rattle.floor_laws.proofs.States.{written_of}
 
 -- ---- reads
 
@@ -119,7 +113,7 @@ places_keep c form vs ws w f ss same apart h =
 
 -- ---- a write
 
-next_admitted : (w : List Version) (v : Version) → IsNext w v → Admitted w v
+next_admitted : (w : List Version) (v : Version) → IsNextVersion w v → Admitted w v
 next_admitted w v h = record { low = λ a i. All-In (λ (o : Version). o.seq.0 < v.seq.0) w a h.above i; over = λ a i fam key. h.rises a (In-contains w a i) fam key }
 
 adds_front : (vs : List Version) (v : Version) → Adds vs (v ∷ vs) v
@@ -132,7 +126,7 @@ adds_back w v = record {
   only = λ x i. elim (In-append x w (v ∷ []) i) [ inl j ↦ inl j | inr j ↦ elim j [ inl q ↦ inr q | inr b ↦ absurd b ] ];
 }
 
-pub write_keeps : (form : Form) (vs w : List Version) (f : Ts) (ss : List Seq) (v : Version) → AreApart w → IsNext w v → Stands v.family form vs w f ss → Stands v.family form (v ∷ vs) (w ++ v ∷ []) f ss
+pub write_keeps : (form : Form) (vs w : List Version) (f : Ts) (ss : List Seq) (v : Version) → AreApart w → IsNextVersion w v → Stands v.family form vs w f ss → Stands v.family form (v ∷ vs) (w ++ v ∷ []) f ss
 write_keeps form vs w f ss v apart next h =
     let g = standing_of v.family form vs w f ss h in
     let ad = next_admitted w v next in
@@ -148,7 +142,7 @@ write_keeps form vs w f ss v apart next h =
     stands_from v.family form (v ∷ vs) (w ++ v ∷ []) f ss
     (standing_write form vs w (v ∷ vs) (w ++ v ∷ []) f ss v (adds_front vs v) (adds_back w v) ad (distinct_single w (pairs_distinct w apart)) dist g)
 
-pub other_keeps : (c : Family) (form : Form) (vs w : List Version) (f : Ts) (ss : List Seq) (v : Version) → v.family ≢ c → AreApart w → IsNext w v → Stands c form vs w f ss → Stands c form vs (w ++ v ∷ []) f ss
+pub other_keeps : (c : Family) (form : Form) (vs w : List Version) (f : Ts) (ss : List Seq) (v : Version) → v.family ≢ c → AreApart w → IsNextVersion w v → Stands c form vs w f ss → Stands c form vs (w ++ v ∷ []) f ss
 other_keeps c form vs w f ss v ne apart next h =
     stands_from c form vs (w ++ v ∷ []) f ss
     (standing_other form c vs w (w ++ v ∷ []) f ss v ne (adds_back w v) (Single-add w (w ++ v ∷ []) v (adds_back w v) (next_admitted w v next).low (distinct_single w (pairs_distinct w apart))) (standing_of c form vs w f ss h))

@@ -1,7 +1,6 @@
 -- Tables that stand for the versions up to a sequence stand, with the later ones beside them, for all.
-use Rattle.std.proofs.Common.{◌≡◌, ℕ, ◌<◌, ◌≤◌, Bool, true, List, [], ◌++◌, Option, Some, None, refl, sym, ap, ◌∙◌, arith, inl, inr, subst}
+use Rattle.std.proofs.Common.{◌≡◌, ℕ, ◌<◌, ◌≤◌, Bool, true, List, [], ◌++◌, Option, Some, None, sym, ◌∙◌, arith, inl, inr}
 use Rattle.std.specs.Prelude.{nat_le}
-use Rattle.std.specs.List.{filter}
 use Rattle.std.proofs.lemmas.Bool.{cases_lt, le-leb, leb-true}
 use Rattle.ts_key.specs.declared.numbers.Family.{Family}
 use Rattle.ts_key.specs.declared.numbers.Ts.{Ts}
@@ -9,7 +8,7 @@ use Rattle.ts_key.specs.declared.numbers.Seq.{Seq}
 use Rattle.ts_key.specs.declared.version.Form.{Form}
 use Rattle.ts_key.specs.declared.version.Version.{Version}
 use Rattle.udt_model.specs.Versions.{is_of, visible, up_to}
-use Rattle.udt_model.specs.Standing.{IsImage, AreAlike}
+use Rattle.udt_model.specs.Standing.{AreAlike}
 use Rattle.floor_laws.proofs.Members.{In, In-left, In-right, In-append, filter-In, In-filter}
 use Rattle.floor_laws.proofs.Best.{Single, IsBest, Best}
 use Rattle.floor_laws.proofs.Counts.{Distinct, distinct_single}

@@ -1,8 +1,7 @@
 -- The tables that a compaction's pieces make.
-use Rattle.std.proofs.Common.{◌≡◌, ◌≢◌, ◌⊎◌, ℕ, zero, suc, ◌+◌, ◌<◌, ◌≤◌, ◌&&◌, Bool, true, false, not, List, [], ◌∷◌, ◌++◌, take, drop, length, refl, sym, ap, ◌∙◌, arith, inl, inr, subst}
+use Rattle.std.proofs.Common.{◌≡◌, ◌≢◌, ℕ, zero, suc, ◌<◌, ◌≤◌, ◌&&◌, true, false, not, List, [], ◌∷◌, ◌++◌, take, drop, length, refl, sym, ap, ◌∙◌, arith, inl, inr, subst}
 use Rattle.std.specs.Prelude.{◌==◌, nat_lt, nat_le}
-use Rattle.std.specs.Str.{bytes_eq}
-use Rattle.std.proofs.lemmas.Bool.{cases_Bool, false≢true, and_parts, and_from, ltb-true, leb-true, eqb-true, and_right, and_left, false_from_ne_true}
+use Rattle.std.proofs.lemmas.Bool.{false≢true, and_parts, and_from, ltb-true, leb-true, eqb-true, and_right, and_left, false_from_ne_true}
 use Rattle.std.proofs.lemmas.List.{take-append-drop}
 use Rattle.std.proofs.lemmas.Slice.Eq.{bytes_eq-Decides}
 use Rattle.ts_key.specs.declared.version.Version.{Version}
@@ -12,10 +11,10 @@ use Rattle.udt_model.specs.Orders.{is_at_most, is_in, meets, hull_with, span_of}
 use Rattle.udt_model.specs.State.{LiveTable, numbers_of}
 use Rattle.udt_model.specs.Jobs.{is_cut, are_parts, tables_from, numbers_of_pieces, spans_of, hull_of}
 use Rattle.floor_laws.specs.Tables.{contents}
-use Rattle.floor_laws.proofs.Members.{In, Within, In-append, In-left, In-right, In-map}
+use Rattle.floor_laws.proofs.Members.{In, Within, In-append, In-right, In-map}
 use Rattle.udt_model.specs.Orders.{joined}
-use Rattle.floor_laws.proofs.Keys.{Ends, ends_of, at_most_itself, at_most_trans, at_most_same, is_in_parts, is_in_from, joined_left, joined_right, meets_from, meets_swap, span_has}
-use Rattle.floor_laws.proofs.Sorting.{Before, InOrder}
+use Rattle.floor_laws.proofs.Keys.{Ends, ends_of, at_most_itself, at_most_trans, at_most_same, is_in_parts, joined_left, joined_right, span_has}
+use Rattle.floor_laws.proofs.Sorting.{InOrder}
 use Rattle.floor_laws.proofs.Tables.{contents-from, In-contents}
 
 -- ---- parts of a list in order

@@ -1,8 +1,8 @@
 -- What a closed plan gives of the tables that it leaves out.
-use Rattle.std.proofs.Common.{◌≡◌, ◌≢◌, ◌⊎◌, ℕ, ◌<◌, ◌≤◌, ◌&&◌, ◌||◌, Bool, true, false, not, List, [], ◌∷◌, ◌++◌, refl, sym, ap, ◌∙◌, arith, inl, inr, subst}
-use Rattle.std.specs.Prelude.{◌==◌, nat_lt, nat_le}
+use Rattle.std.proofs.Common.{◌≡◌, ◌≢◌, ◌⊎◌, ℕ, ◌<◌, ◌&&◌, ◌||◌, true, false, not, List, sym, ap, ◌∙◌, arith, inl, inr, subst}
+use Rattle.std.specs.Prelude.{◌==◌, nat_lt}
 use Rattle.std.specs.List.{filter, list_any, list_all}
-use Rattle.std.proofs.lemmas.Bool.{cases_Bool, false≢true, and_parts, and_from, or_cases, or_parts, or_left, or_right, lt-ltb, ltb-true, eq-eqb, not-true, cases_order, cases_eq, false_from_ne_true}
+use Rattle.std.proofs.lemmas.Bool.{false≢true, and_from, or_cases, or_parts, lt-ltb, eq-eqb, cases_order, false_from_ne_true}
 use Rattle.ts_key.specs.declared.version.Version.{Version}
 use Rattle.udt_model.specs.declared.reply.KeySpan.{KeySpan}
 use Rattle.udt_model.specs.Orders.{is_in, is_in_some, meets, span_of}
@@ -11,7 +11,7 @@ use Rattle.udt_model.specs.Jobs.{has_number, is_input, spans_of, is_amid, goes_w
 use Rattle.floor_laws.specs.Tables.{contents}
 use Rattle.floor_laws.proofs.Members.{In, In-filter, any-In, all-In, In-map}
 use Rattle.floor_laws.proofs.Keys.{meets_from, span_has}
-use Rattle.floor_laws.proofs.Tables.{ins, outs, ins-In, In-contents, Ordered}
+use Rattle.floor_laws.proofs.Tables.{ins, ins-In, Ordered}
 use Rattle.floor_laws.proofs.Pieces.{hull_has}
 
 -- the spans of the tables below a level that aren't inputs

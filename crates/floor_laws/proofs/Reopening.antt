@@ -1,36 +1,32 @@
 -- States that opening a folder gives, and those that a crash leaves.
-use Rattle.std.proofs.Common.{◌≡◌, ◌⊎◌, ℕ, zero, suc, ◌+◌, ◌<◌, ◌≤◌, ◌&&◌, Bool, true, false, not, List, [], ◌∷◌, ◌++◌, map, length, Option, Some, None, refl, sym, ap, ◌∙◌, arith, inl, inr, subst}
-use Rattle.std.specs.Prelude.{All, AllPairs, Contains, IsTrue, find, flat_map, option_map, unwrap_or, nat_lt, nat_le, ◌==◌, slice_get, slice_index_or}
+use Rattle.std.proofs.Common.{◌≡◌, ℕ, zero, suc, ◌<◌, ◌≤◌, Bool, List, [], ◌∷◌, ◌++◌, map, length, Option, Some, None, refl, sym, ap, ◌∙◌, arith, inl, inr, subst}
+use Rattle.std.specs.Prelude.{All, AllPairs, Contains, find, flat_map, option_map, unwrap_or, nat_le, ◌==◌, slice_get, slice_index_or}
 use Rattle.std.specs.List.{filter}
 use Rattle.std.proofs.lemmas.Bool.{cases_Bool, le-leb, leb-true, lt-leb}
 use Rattle.std.proofs.lemmas.List.Elements.{All-filter, All-nil}
 use Rattle.ts_key.specs.declared.numbers.Family.{Family}
 use Rattle.ts_key.specs.declared.numbers.Ts.{Ts}
 use Rattle.ts_key.specs.declared.numbers.Seq.{Seq}
-use Rattle.ts_key.specs.declared.version.Form.TheVariants.{Strip}
 use Rattle.ts_key.specs.declared.version.Version.{Version}
 use Rattle.udt_model.specs.declared.line.FamilyHead.{FamilyHead}
-use Rattle.udt_model.specs.declared.reply.Reply.{Reply}
-use Rattle.udt_model.specs.declared.reply.Reply.TheVariants.{Done, OkAt, Table, Kept}
 use Rattle.udt_model.specs.Versions.{AreWritten, between, up_to}
 use Rattle.udt_model.specs.Reads.{read}
 use Rattle.udt_model.specs.Standing.{HasSource, IsSight, Stands}
 use Rattle.udt_model.specs.State.{State, FamilyState, LiveTable, family_at, live_numbers, numbers_of, seqs_of, sight, unflushed, unflushed_family}
 use Rattle.udt_model.specs.Acts.{Act}
-use Rattle.udt_model.specs.Acts.Act.{write, raise, flush_end, compact_end}
-use Rattle.udt_model.specs.Steps.{IsTold, after}
+use Rattle.udt_model.specs.Steps.{after}
 use Rattle.udt_model.specs.State.{Snap}
 use Rattle.udt_model.specs.Running.{IsFlushRight, IsCompactionRight}
-use Rattle.udt_model.specs.Crashes.{Course, Failing, IsChanged, IsCut, IsFailed, IsOutcome, IsOutcomeUnder, cut_at, is_change, settled}
+use Rattle.udt_model.specs.Crashes.{Course, Failing, IsChanged, IsFailed, IsOutcome, IsOutcomeUnder, cut_at, settled}
 use Rattle.floor_laws.specs.Tables.{contents}
-use Rattle.floor_laws.specs.Sound.{AreSoundTables, IsSound, IsOpened, lists_of}
-use Rattle.floor_laws.proofs.Members.{In, Within, In-contains, contains_In, All-In, All-from, In-left, In-right, In-map, filter-In, filter_every, filter_none, filter_within}
+use Rattle.floor_laws.specs.Sound.{AreSoundTables, IsSoundState, IsSoundOpening, lists_of}
+use Rattle.floor_laws.proofs.Members.{In, In-contains, contains_In, All-In, All-from, In-left, In-right, In-map, filter-In, filter_every, filter_none, filter_within}
 use Rattle.floor_laws.proofs.Standing.{Rising-within}
 use Rattle.floor_laws.proofs.Stating.{rising_of, rising_from}
 use Rattle.floor_laws.proofs.Opening.{up_to-In}
 use Rattle.floor_laws.proofs.Families.{between-In, In-between}
 use Rattle.floor_laws.proofs.ListLaws.{open_keeps, read_same}
-use Rattle.floor_laws.proofs.States.{some_same, Holds, holds_of, sound_from}
+use Rattle.floor_laws.proofs.States.{some_same, holds_of, sound_from}
 use Rattle.floor_laws.proofs.Told.{step_told}
 
 -- ---- opening
@@ -41,7 +37,7 @@ no_flush m e = subst (IsFlushRight m) (sym e) tt
 no_compaction : (m : State) → m.compaction ≡ None → IsCompactionRight m m.compaction
 no_compaction m e = subst (IsCompactionRight m) (sym e) tt
 
-pub sound_opened : (m : State) → IsOpened m → IsSound m
+pub sound_opened : (m : State) → IsSoundOpening m → IsSoundState m
 sound_opened m o = record {
   written = o.written;
   families = λ i f at.
@@ -101,7 +97,7 @@ number_live [] n f t h i = absurd (cc)
 number_live (g ∷ fs) zero f t h i = In-left t.number (numbers_of g.tables) (flat_map (λ (z : FamilyState). numbers_of z.tables) fs) (In-map (λ (x : LiveTable). x.number) t g.tables (subst (λ (z : FamilyState). In t z.tables) (sym (some_same g f h)) i))
 number_live (g ∷ fs) (suc n) f t h i = In-right t.number (numbers_of g.tables) (flat_map (λ (z : FamilyState). numbers_of z.tables) fs) (number_live fs n f t h i)
 
-opened_cut : (m : State) (end : ℕ) → ((i : Family) (f : FamilyState) → family_at m i ≡ Some f → f.through.0 ≤ end) → IsSound m → IsOpened (cut_at m end)
+opened_cut : (m : State) (end : ℕ) → ((i : Family) (f : FamilyState) → family_at m i ≡ Some f → f.through.0 ≤ end) → IsSoundState m → IsSoundOpening (cut_at m end)
 opened_cut m end low h = record {
   written = written_up_to (length m.families) m.last.0 end m.versions h.written;
   families = λ i f at.
@@ -119,10 +115,10 @@ opened_cut m end low h = record {
   compaction = refl;
 }
 
-pub sound_cut : (m : State) (end : ℕ) → ((i : Family) (f : FamilyState) → family_at m i ≡ Some f → f.through.0 ≤ end) → IsSound m → IsSound (cut_at m end)
+pub sound_cut : (m : State) (end : ℕ) → ((i : Family) (f : FamilyState) → family_at m i ≡ Some f → f.through.0 ≤ end) → IsSoundState m → IsSoundState (cut_at m end)
 sound_cut m end low h = sound_opened (cut_at m end) (opened_cut m end low h)
 
-pub sound_settled : (m : State) → IsSound m → IsSound (settled m)
+pub sound_settled : (m : State) → IsSoundState m → IsSoundState (settled m)
 sound_settled m h = sound_opened (settled m) (record {
   written = h.written;
   families = λ i f at.
@@ -141,27 +137,27 @@ sound_settled m h = sound_opened (settled m) (record {
 
 -- ---- what a crash leaves
 
-sound_changed : (m : State) (number : ℕ) (act : Act) (left : State) → IsSound m → IsChanged m number act left → IsSound left
+sound_changed : (m : State) (number : ℕ) (act : Act) (left : State) → IsSoundState m → IsChanged m number act left → IsSoundState left
 sound_changed m number act left h c =
-    subst IsSound (sym c.3) (sound_settled (after m number act c.0) (sound_from (after m number act c.0) (step_told m number act c.0 c.1 c.2 (holds_of m h))))
+    subst IsSoundState (sym c.3) (sound_settled (after m number act c.0) (sound_from (after m number act c.0) (step_told m number act c.0 c.1 c.2 (holds_of m h))))
 
 -- the disk failed in a sound state
 abbrev pub FailedSound : Option Failing → Type 0
 FailedSound None = Unit {0}
-FailedSound (Some f) = IsSound f.state
+FailedSound (Some f) = IsSoundState f.state
 
-sound_failed : (o : Option Failing) (left : State) → FailedSound o → IsFailed o left → IsSound left
+sound_failed : (o : Option Failing) (left : State) → FailedSound o → IsFailed o left → IsSoundState left
 sound_failed None left s h = absurd h
 sound_failed (Some f) left s h = sound_changed f.state f.number f.act left s h
 
-pub sound_outcome : (m : State) (c : Course) (left : State) → IsSound m → ((i : Family) (f : FamilyState) → family_at m i ≡ Some f → f.through.0 ≤ c.synced) → ((f : Failing) → c.failing ≡ Some f → IsSound f.state) → IsOutcome m c left → IsSound left
-sound_outcome m c left h low failed (inl cut) = let l = cut.2 in subst IsSound (sym cut.3) (sound_cut m cut.0 (λ i f at. let k = low i f at in omega (arith, k, l)) h)
+pub sound_outcome : (m : State) (c : Course) (left : State) → IsSoundState m → ((i : Family) (f : FamilyState) → family_at m i ≡ Some f → f.through.0 ≤ c.synced) → ((f : Failing) → c.failing ≡ Some f → IsSoundState f.state) → IsOutcome m c left → IsSoundState left
+sound_outcome m c left h low failed (inl cut) = let l = cut.2 in subst IsSoundState (sym cut.3) (sound_cut m cut.0 (λ i f at. let k = low i f at in omega (arith, k, l)) h)
 sound_outcome m c left h low failed (inr f) = sound_failed c.failing left (failed_sound c.failing failed) f where
-  failed_sound : (o : Option Failing) → ((f : Failing) → o ≡ Some f → IsSound f.state) → FailedSound o
+  failed_sound : (o : Option Failing) → ((f : Failing) → o ≡ Some f → IsSoundState f.state) → FailedSound o
   failed_sound None h = tt
   failed_sound (Some f) h = h f refl
 
-pub sound_under : (m : State) (c : Course) (number : ℕ) (act : Act) (left : State) → IsSound m → ((i : Family) (f : FamilyState) → family_at m i ≡ Some f → f.through.0 ≤ c.synced) → ((f : Failing) → c.failing ≡ Some f → IsSound f.state) → IsOutcomeUnder m c number act left → IsSound left
+pub sound_under : (m : State) (c : Course) (number : ℕ) (act : Act) (left : State) → IsSoundState m → ((i : Family) (f : FamilyState) → family_at m i ≡ Some f → f.through.0 ≤ c.synced) → ((f : Failing) → c.failing ≡ Some f → IsSoundState f.state) → IsOutcomeUnder m c number act left → IsSoundState left
 sound_under m c number act left h low failed (inl o) = sound_outcome m c left h low failed o
 sound_under m c number act left h low failed (inr o) = sound_changed m number act left h o
 
@@ -187,7 +183,7 @@ stands_none i head = record {
   alike = λ key t s le see. tt;
 }
 
-pub sound_fresh : (heads : List FamilyHead) (w : List Version) (last : Seq) (halted : Option ℕ) → AreWritten (length heads) last.0 w → IsSound (unflushed heads w last halted)
+pub sound_fresh : (heads : List FamilyHead) (w : List Version) (last : Seq) (halted : Option ℕ) → AreWritten (length heads) last.0 w → IsSoundState (unflushed heads w last halted)
 sound_fresh heads w last halted h =
     sound_opened (unflushed heads w last halted) (record {
       written = subst (λ n. AreWritten n last.0 w) (sym (length-heads heads)) h;
@@ -228,7 +224,7 @@ pub sight_is : (m : State) (snap : Option ℕ) → AreWritten (length m.families
 sight_is m None h = inr h.bounded
 sight_is m (Some event) h = sight_seen m (find (λ (s : Snap). s.event == event) m.snaps) (λ s e. find-In (λ (z : Snap). z.event == event) m.snaps s e) h
 
-pub sound_reads : (m : State) (i : Family) (f : FamilyState) (key : List ℕ) (t : Ts) (snap : Option ℕ) → IsSound m → family_at m i ≡ Some f → read (lists_of m i f) f.head.floor i key t (sight m snap) ≡ read m.versions f.head.floor i key t (sight m snap)
+pub sound_reads : (m : State) (i : Family) (f : FamilyState) (key : List ℕ) (t : Ts) (snap : Option ℕ) → IsSoundState m → family_at m i ≡ Some f → read (lists_of m i f) f.head.floor i key t (sight m snap) ≡ read m.versions f.head.floor i key t (sight m snap)
 sound_reads m i f key t snap h at = read_same i f.head.form (lists_of m i f) m.versions f.head.floor (seqs_of m) key t (sight m snap) (h.families i f at).lists (sight_is m snap h.written)
 
 -- ---- what fixes the writes
@@ -259,5 +255,5 @@ written_fixed count last end w v a b same =
     (λ x i. (between-In x.family 0 last w x (subst (λ z. In x z) (sym (same x.family (All-In (λ (z : Version). z.family.0 < count) v x b.families i))) (In-between x.family 0 end v x i refl (All-In (λ (z : Version). 1 ≤ z.seq.0) v x b.positive i) (All-In (λ (z : Version). z.seq.0 ≤ end) v x b.bounded i)))).0)
 
 -- nothing is cut where all is kept
-pub cut_whole : (m : State) → IsSound m → cut_at m m.last.0 ≡ settled m
+pub cut_whole : (m : State) → IsSoundState m → cut_at m m.last.0 ≡ settled m
 cut_whole m h = ap (λ (z : List Version). settled (record m { versions = z })) (filter_every (λ (v : Version). nat_le v.seq.0 m.last.0) m.versions (λ v i. le-leb v.seq.0 m.last.0 (All-In (λ (z : Version). z.seq.0 ≤ m.last.0) m.versions v h.written.bounded i)))

@@ -1,9 +1,9 @@
 -- The stored order, and that a collection depends on the versions alone, not on the order in which they come.
-use Rattle.std.proofs.Common.{◌≡◌, ◌⊎◌, ℕ, ◌+◌, ◌<◌, ◌≤◌, ◌&&◌, ◌||◌, Bool, true, false, not, max, List, [], ◌∷◌, ◌++◌, map, refl, sym, ap, ◌∙◌, subst, arith, inl, inr}
+use Rattle.std.proofs.Common.{◌≡◌, ◌⊎◌, ℕ, ◌<◌, ◌≤◌, ◌&&◌, ◌||◌, Bool, true, false, not, max, List, [], ◌∷◌, refl, sym, ap, ◌∙◌, subst, arith, inl, inr}
 use Rattle.std.specs.Prelude.{nat_lt, nat_le, ◌==◌}
-use Rattle.std.specs.List.{filter, list_any}
+use Rattle.std.specs.List.{list_any}
 use Rattle.std.specs.Str.{bytes_eq}
-use Rattle.std.proofs.lemmas.Bool.{cases_Bool, false≢true, cases_order, or_parts, and_from, lt-ltb, eq-eqb, eqb-true, ltb-true, or_cases, or_left, or_right, and_parts, false_from_ne_true}
+use Rattle.std.proofs.lemmas.Bool.{cases_Bool, false≢true, cases_order, or_parts, and_from, lt-ltb, eq-eqb, eqb-true, ltb-true, or_cases, and_parts, false_from_ne_true}
 use Rattle.std.proofs.lemmas.Slice.Eq.{bytes_eq-Decides}
 use Rattle.ts_key.specs.declared.numbers.Ts.{Ts}
 use Rattle.ts_key.specs.declared.numbers.Seq.{Seq}
@@ -13,12 +13,11 @@ use Rattle.ts_key.specs.declared.version.Version.{Version}
 use Rattle.udt_model.specs.declared.reply.KeySpan.{KeySpan}
 use Rattle.udt_model.specs.Versions.{is_newer, is_put, up_to}
 use Rattle.udt_model.specs.Orders.{is_below, is_at_most, is_in_some, is_before, with_version, stored}
-use Rattle.udt_model.specs.Collecting.{hides, is_hidden, is_seen, is_seen_at, seen_of, is_put_below, collect, collect_all, without_ts, stripped, cutoff}
-use Rattle.udt_model.specs.Jobs.{in_form, floor_over}
-use Rattle.floor_laws.proofs.Members.{In, Within, filter-In, In-filter, any-In, In-any, In-map, map-In, In-append, In-right}
-use Rattle.floor_laws.proofs.Best.{Single}
-use Rattle.floor_laws.proofs.Counts.{Distinct, count, count-filter, count-stored, count-without_ts, distinct_head, distinct_tail, distinct_single}
-use Rattle.floor_laws.proofs.Kept.{with_version-In, stored-In, In-stored, is_spent, unspent, everywhere, collect_by, collect-In, collect_is, collect_all_is}
+use Rattle.udt_model.specs.Collecting.{hides, is_hidden, is_seen, is_seen_at, seen_of, is_put_below, collect, collect_all, cutoff}
+use Rattle.udt_model.specs.Jobs.{floor_over}
+use Rattle.floor_laws.proofs.Members.{In, Within, filter-In, In-filter, any-In, In-any}
+use Rattle.floor_laws.proofs.Counts.{Distinct, count, count-filter, count-stored, distinct_head, distinct_tail, distinct_single}
+use Rattle.floor_laws.proofs.Kept.{with_version-In, stored-In, In-stored, is_spent, unspent, everywhere, collect_by, collect_all_is}
 use Rattle.floor_laws.proofs.Keys.{at_most_itself, at_most_trans, at_most_same, below_at_most, below_not, not_below}
 
 -- ---- the stored order

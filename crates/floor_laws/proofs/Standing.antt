@@ -1,6 +1,5 @@
 -- What keeps a list standing for another one.
-use Rattle.std.proofs.Common.{◌≡◌, ◌≢◌, ◌⊎◌, ℕ, ◌+◌, ◌<◌, ◌≤◌, Bool, true, false, List, [], ◌∷◌, ◌++◌, Option, Some, None, refl, sym, ap, ◌∙◌, arith, inl, inr, subst}
-use Rattle.std.specs.Prelude.{All, AllPairs, Contains}
+use Rattle.std.proofs.Common.{◌≡◌, ◌⊎◌, ℕ, ◌<◌, ◌≤◌, Bool, true, false, List, ◌++◌, Option, Some, None, refl, sym, ap, ◌∙◌, arith, inl, inr, subst}
 use Rattle.std.proofs.lemmas.Bool.{cases_Bool, false≢true, false_from_ne_true, le-leb, leb-true}
 use Rattle.std.proofs.lemmas.Bool.Decides.{nat_tests}
 use Rattle.ts_key.specs.declared.numbers.Family.{Family}
@@ -11,11 +10,10 @@ use Rattle.ts_key.specs.declared.version.Form.TheVariants.{Persist, Strip}
 use Rattle.ts_key.specs.declared.version.Op.TheVariants.{Del}
 use Rattle.ts_key.specs.declared.version.Version.{Version}
 use Rattle.udt_model.specs.Versions.{is_newer, is_of, visible}
-use Rattle.udt_model.specs.Collecting.{without_ts}
 use Rattle.udt_model.specs.Standing.{IsImage, AreAlike}
-use Rattle.floor_laws.proofs.Members.{In, Within, In-append, In-left, In-right}
+use Rattle.floor_laws.proofs.Members.{In, Within}
 use Rattle.floor_laws.proofs.Best.{Single, Best, best_unique, not_newer_itself}
-use Rattle.floor_laws.proofs.Counts.{Distinct, count, distinct_single}
+use Rattle.floor_laws.proofs.Counts.{Distinct, distinct_single}
 use Rattle.floor_laws.proofs.Kept.{fits, fits-true, is_of-true, visible_best, IsEnd, SeesAlike, NewerOutside, Spent, collect_by, collect_best, collect_rest-In}
 
 -- the timestamps of a key rise with the sequences

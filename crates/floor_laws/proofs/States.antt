@@ -1,26 +1,23 @@
 -- What holds of a state, by what is in its lists.
-use Rattle.std.proofs.Common.{◌≡◌, ◌≢◌, ◌⊎◌, ℕ, zero, suc, ◌+◌, ◌<◌, ◌≤◌, Bool, true, false, not, List, [], ◌∷◌, ◌++◌, map, length, Option, Some, None, refl, sym, ap, ◌∙◌, arith, inl, inr, subst}
-use Rattle.std.specs.Prelude.{All, AllPairs, Contains, IsTrue, slice_get, slice_index_or, nat_lt, nat_le, ⊤}
-use Rattle.std.specs.List.{filter, list_all}
+use Rattle.std.proofs.Common.{◌≡◌, ◌⊎◌, ℕ, zero, suc, ◌≤◌, Bool, true, false, List, [], ◌∷◌, ◌++◌, length, Option, Some, None, refl, sym, ap, ◌∙◌, arith, inl, inr, subst}
+use Rattle.std.specs.Prelude.{All, Contains, IsTrue, slice_get, ⊤}
+use Rattle.std.specs.List.{list_all}
 use Rattle.ts_key.specs.declared.numbers.Family.{Family}
 use Rattle.ts_key.specs.declared.numbers.Ts.{Ts}
 use Rattle.ts_key.specs.declared.numbers.Seq.{Seq}
-use Rattle.ts_key.specs.declared.version.Form.{Form}
-use Rattle.ts_key.specs.declared.version.Form.TheVariants.{Strip}
 use Rattle.ts_key.specs.declared.version.Version.{Version}
-use Rattle.udt_model.specs.declared.reply.KeySpan.{KeySpan}
-use Rattle.udt_model.specs.Versions.{AreRising, AreWritten, between, up_to}
-use Rattle.udt_model.specs.Orders.{is_in_some, meets, span_of}
+use Rattle.udt_model.specs.Versions.{AreWritten, between, up_to}
+use Rattle.udt_model.specs.Orders.{meets, span_of}
 use Rattle.udt_model.specs.State.{State, FamilyState, LiveTable, Snap, Flush, Compaction, changed_at, family_at, numbers_of, seqs_of, tables_of, tables_of_family}
-use Rattle.udt_model.specs.Jobs.{deeper_of, has_number, hull_of, inputs_hold, inputs_of, is_ascending, is_input}
-use Rattle.udt_model.specs.Running.{IsSince, IsFlushing, IsBeside, IsOutside, IsClear, IsCompacting, IsFlushRight, IsCompactionRight, RunsRightly}
+use Rattle.udt_model.specs.Jobs.{has_number, hull_of, inputs_hold, is_ascending}
+use Rattle.udt_model.specs.Running.{IsSince, IsFlushing, IsBeside, IsOutside, IsClear, IsCompacting, IsFlushRight, IsCompactionRight}
 use Rattle.floor_laws.specs.Tables.{contents}
-use Rattle.floor_laws.specs.Sound.{IsSoundFamily, IsSound}
-use Rattle.floor_laws.proofs.Members.{In, Within, In-contains, contains_In, All-In, All-from, In-map, map-In, all-In}
+use Rattle.floor_laws.specs.Sound.{IsSoundFamily, IsSoundState}
+use Rattle.floor_laws.proofs.Members.{In, In-contains, contains_In, All-In, All-from, all-In}
 use Rattle.floor_laws.proofs.Best.{Single}
 use Rattle.floor_laws.proofs.Counts.{Distinct, pairs_distinct, distinct_single}
 use Rattle.floor_laws.proofs.Standing.{Rising}
-use Rattle.floor_laws.proofs.Stating.{rising_of, rising_from, standing_of, stands_from}
+use Rattle.floor_laws.proofs.Stating.{rising_of, standing_of, stands_from}
 use Rattle.floor_laws.proofs.Tables.{ins, has-In, In-has, ordered_of, ordered_from}
 use Rattle.floor_laws.proofs.Plans.{deeper_in}
 use Rattle.floor_laws.proofs.Families.{FamilyHolds, Outside, Clear}
@@ -219,7 +216,7 @@ compaction_is_from : (m : State) (o : Option Compaction) → CompactionIs m o �
 compaction_is_from m None h = tt
 compaction_is_from m (Some job) h = (h.0, h.1, compacting_from m job h.0 h.1 h.2)
 
-pub holds_of : (m : State) → IsSound m → Holds m
+pub holds_of : (m : State) → IsSoundState m → Holds m
 holds_of m h = record {
   written = h.written;
   families = λ i f at. family_of_sound m i f (h.families i f at);
@@ -228,7 +225,7 @@ holds_of m h = record {
   compaction = compaction_is_of m m.compaction h.jobs.compaction;
 }
 
-pub sound_from : (m : State) → Holds m → IsSound m
+pub sound_from : (m : State) → Holds m → IsSoundState m
 sound_from m h = record {
   written = h.written;
   families = λ i f at. sound_family m i f (h.families i f at) (h.used i f at);

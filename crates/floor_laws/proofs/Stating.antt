@@ -1,6 +1,5 @@
 -- The model's `Stands`, by what is in the lists, and back.
-use Rattle.std.proofs.Common.{◌≡◌, ◌⊎◌, ℕ, ◌<◌, ◌≤◌, List, inl, inr}
-use Rattle.std.specs.Prelude.{All, AllPairs, Contains}
+use Rattle.std.proofs.Common.{◌≤◌, List, inl, inr}
 use Rattle.ts_key.specs.declared.numbers.Family.{Family}
 use Rattle.ts_key.specs.declared.numbers.Ts.{Ts}
 use Rattle.ts_key.specs.declared.numbers.Seq.{Seq}
@@ -8,7 +7,7 @@ use Rattle.ts_key.specs.declared.version.Form.{Form}
 use Rattle.ts_key.specs.declared.version.Version.{Version}
 use Rattle.udt_model.specs.Versions.{AreRising}
 use Rattle.udt_model.specs.Standing.{HasSource, IsSight, Stands}
-use Rattle.floor_laws.proofs.Members.{In, In-contains, contains_In, All-In, All-from}
+use Rattle.floor_laws.proofs.Members.{In-contains, contains_In, All-In, All-from}
 use Rattle.floor_laws.proofs.Counts.{distinct_pairs, pairs_distinct}
 use Rattle.floor_laws.proofs.Standing.{Rising, Sees, Standing}
 

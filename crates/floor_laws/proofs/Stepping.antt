@@ -1,15 +1,13 @@
 -- Each step of the model keeps what holds of a state.
-use Rattle.std.proofs.Common.{◌≡◌, ◌≢◌, ◌⊎◌, ℕ, zero, suc, ◌+◌, ◌<◌, ◌≤◌, ◌&&◌, ◌||◌, Bool, true, false, not, List, [], ◌∷◌, ◌++◌, map, length, Option, Some, None, refl, sym, ap, ◌∙◌, arith, inl, inr, subst}
-use Rattle.std.specs.Prelude.{IsTrue, option_map, slice_get, nat_lt, nat_le, ◌==◌, ⊤, if◌then◌else◌}
-use Rattle.std.specs.List.{filter, list_any, list_all}
-use Rattle.std.proofs.lemmas.Bool.{cases_Bool, cases_eq, false≢true, and_parts, and_from, or_left, ltb-true, lt-ltb, ltb-false, leb-true, le-leb, eqb-true, eq-eqb, not-true, lt-leb, le-ltb, and_left}
+use Rattle.std.proofs.Common.{◌≡◌, ◌⊎◌, ℕ, ◌+◌, ◌<◌, ◌≤◌, ◌&&◌, ◌||◌, Bool, true, false, not, List, [], ◌∷◌, ◌++◌, length, Option, Some, None, refl, sym, ap, ◌∙◌, arith, inl, inr, subst}
+use Rattle.std.specs.Prelude.{slice_get, nat_lt, nat_le, ◌==◌}
+use Rattle.std.specs.List.{filter, list_all}
+use Rattle.std.proofs.lemmas.Bool.{cases_Bool, cases_eq, false≢true, and_parts, or_left, ltb-true, lt-ltb, ltb-false, leb-true, not-true, le-ltb, and_left}
 use Rattle.ts_key.specs.declared.batch.WriteOp.{WriteOp}
 use Rattle.ts_key.specs.declared.numbers.Family.{Family}
 use Rattle.ts_key.specs.declared.numbers.Ts.{Ts}
 use Rattle.ts_key.specs.declared.numbers.Seq.{Seq}
-use Rattle.ts_key.specs.declared.version.Form.{Form}
 use Rattle.ts_key.specs.declared.version.Version.{Version}
-use Rattle.udt_model.specs.declared.place.Place.{Place}
 use Rattle.udt_model.specs.declared.reply.Piece.{Piece}
 use Rattle.udt_model.specs.declared.reply.KeySpan.{KeySpan}
 use Rattle.udt_model.specs.declared.reply.Reply.{Reply}
@@ -17,22 +15,21 @@ use Rattle.udt_model.specs.declared.reply.Reply.TheVariants.{Floor}
 use Rattle.udt_model.specs.Versions.{AreWritten, between, made}
 use Rattle.udt_model.specs.Orders.{is_in_some, meets, span_of}
 use Rattle.udt_model.specs.Collecting.{collect, collect_all, seen_of, without_useless}
-use Rattle.udt_model.specs.State.{State, FamilyState, LiveTable, Snap, Flush, Compaction, changed_at, family_at, floor_at, floor_of, numbers_of, place_at, place_of_family, seqs_of, tables_of, tables_of_family, with_family, with_floor, form_at, form_of, through_at, through_of, with_table, with_tables}
-use Rattle.udt_model.specs.Acts.Act.{write, raise}
+use Rattle.udt_model.specs.State.{State, FamilyState, LiveTable, Snap, Flush, Compaction, changed_at, family_at, floor_at, floor_of, numbers_of, place_of_family, seqs_of, tables_of, tables_of_family, with_family, with_floor, form_at, form_of, through_of, with_table}
+use Rattle.udt_model.specs.Acts.Act.{write}
 use Rattle.udt_model.specs.Refusals.{floor_fell, refusal}
 use Rattle.udt_model.specs.Jobs.{IsClosed, are_new, are_parts, compaction_kept, deeper_of, flush_floor, flush_kept, floor_over, has_number, hull_of, in_form, inputs_hold, is_ascending, is_input, is_wanted, numbers_of_pieces, spans_of, tables_from, taken}
-use Rattle.udt_model.specs.Steps.{flushed, with_flush, compacted, with_compaction}
+use Rattle.udt_model.specs.Steps.{flushed, compacted}
 use Rattle.floor_laws.specs.Tables.{contents}
 use Rattle.floor_laws.proofs.Members.{In, In-left, In-right, In-append, In-filter, filter-In, In-map, map-In, all-In}
 use Rattle.floor_laws.proofs.Kept.{same_number}
-use Rattle.floor_laws.proofs.Standing.{Sees}
 use Rattle.floor_laws.proofs.Sorting.{ordered_stored}
-use Rattle.floor_laws.proofs.Tables.{ins, outs, ins-In, ins-below, contents-from, In-contents, has-In, In-has, number_in, numbers-In, with_table-In, In-with_table, with_tables-In, filter_with_table, Ordered, Once, sorted_from}
+use Rattle.floor_laws.proofs.Tables.{ins, outs, ins-below, has-In, In-has, number_in, numbers-In, with_table-In, In-with_table, with_tables-In, filter_with_table, Ordered, Once, sorted_from}
 use Rattle.floor_laws.proofs.Pieces.{Cut, cut_is, numbers_are}
 use Rattle.floor_laws.proofs.Plans.{deeper_in, closed_outside, closed_clear}
-use Rattle.floor_laws.proofs.Families.{FamilyHolds, tables_below, family_raise, family_snaps, family_flush, family_compact, new_above, floor_rises, Outside, Clear}
+use Rattle.floor_laws.proofs.Families.{FamilyHolds, tables_below, family_raise, family_snaps, family_flush, family_compact, new_above, floor_rises}
 use Rattle.floor_laws.proofs.States.{some_same, at_changed, changed_same, changed_other, length-changed, Written, written_of, Used, FamilyIs, SinceHolds, FlushHolds, CompactionHolds, FlushIs, CompactionIs, Holds}
-use Rattle.floor_laws.proofs.Writing.{write_all, not_refused, known_none}
+use Rattle.floor_laws.proofs.Writing.{write_all, not_refused}
 
 -- ---- what a step does to a family
 

@@ -1,13 +1,13 @@
 -- Live tables: what they hold, and their numbers.
-use Rattle.std.proofs.Common.{◌≡◌, ◌≢◌, ◌⊎◌, ℕ, ◌+◌, ◌<◌, ◌≤◌, ◌&&◌, ◌||◌, Bool, true, false, not, List, [], ◌∷◌, ◌++◌, map, refl, sym, ap, ◌∙◌, arith, inl, inr, subst}
-use Rattle.std.specs.Prelude.{IsTrue, nat_lt, ◌==◌}
-use Rattle.std.specs.List.{filter, list_any}
+use Rattle.std.proofs.Common.{◌≡◌, ◌≢◌, ◌⊎◌, ℕ, ◌+◌, ◌<◌, Bool, true, false, not, List, [], ◌∷◌, ◌++◌, refl, sym, ap, ◌∙◌, arith, inl, inr, subst}
+use Rattle.std.specs.Prelude.{nat_lt, ◌==◌}
+use Rattle.std.specs.List.{filter}
 use Rattle.std.proofs.lemmas.Bool.{cases_Bool, cases_lt, false≢true, and_parts, and_from, ltb-true, lt-ltb, eqb-true, eq-eqb, not-true}
 use Rattle.ts_key.specs.declared.version.Version.{Version}
 use Rattle.udt_model.specs.Orders.{meets, span_of}
 use Rattle.udt_model.specs.State.{LiveTable, numbers_of, with_table, with_tables}
 use Rattle.udt_model.specs.Jobs.{has_number, is_input, is_ascending}
-use Rattle.floor_laws.specs.Tables.{contents, IsBelow, AreOrdered}
+use Rattle.floor_laws.specs.Tables.{contents, AreOrdered}
 use Rattle.floor_laws.proofs.Members.{In, Within, In-contains, contains_In, In-left, In-right, In-append, filter-In, In-filter, any-In, In-any, In-map, map-In}
 use Rattle.floor_laws.proofs.Counts.{count, count-append}
 

@@ -1,8 +1,8 @@
 -- What a running job takes stays the same, whatever happens meanwhile.
-use Rattle.std.proofs.Common.{◌≡◌, ◌⊎◌, ℕ, zero, suc, ◌+◌, ◌<◌, ◌≤◌, ◌&&◌, Bool, true, false, not, List, [], ◌∷◌, ◌++◌, map, length, Option, Some, None, refl, sym, ap, ◌∙◌, arith, inl, inr, subst}
+use Rattle.std.proofs.Common.{◌≡◌, ℕ, zero, suc, ◌+◌, ◌≤◌, ◌&&◌, Bool, false, List, [], ◌∷◌, ◌++◌, Option, Some, None, refl, ap, ◌∙◌, arith, inl, inr, subst}
 use Rattle.std.specs.Prelude.{nat_lt, nat_le, ◌==◌, slice_get, flat_map}
 use Rattle.std.specs.List.{filter}
-use Rattle.std.proofs.lemmas.Bool.{cases_Bool, false≢true, and_right, lt-leb}
+use Rattle.std.proofs.lemmas.Bool.{cases_Bool, and_right, lt-leb}
 use Rattle.std.proofs.lemmas.List.{append-nil}
 use Rattle.std.proofs.lemmas.List.Elements.{filter-append}
 use Rattle.ts_key.specs.declared.batch.WriteOp.{WriteOp}
@@ -13,13 +13,13 @@ use Rattle.ts_key.specs.declared.version.Version.{Version}
 use Rattle.udt_model.specs.declared.reply.Piece.{Piece}
 use Rattle.udt_model.specs.declared.reply.Reply.{Reply}
 use Rattle.udt_model.specs.declared.reply.Reply.TheVariants.{Done, OkAt, Table, Inputs, Kept, DroppedFault, DroppedMemory, DroppedFiles, Halted, Fault}
-use Rattle.udt_model.specs.Versions.{between, logged, made, version_of}
-use Rattle.udt_model.specs.State.{State, FamilyState, LiveTable, Flush, Compaction, changed_at, family_at, numbers_of, tables_of, tables_of_family, through_at, through_of, with_floor, with_table}
+use Rattle.udt_model.specs.Versions.{between, logged, made}
+use Rattle.udt_model.specs.State.{State, FamilyState, LiveTable, Flush, Compaction, changed_at, tables_of_family, through_at, through_of, with_floor}
 use Rattle.udt_model.specs.Acts.{Act}
-use Rattle.udt_model.specs.Acts.Act.{write, raise, make_snapshot, release, flush_start, flush_end, compact_start, compact_end}
+use Rattle.udt_model.specs.Acts.Act.{write, raise, flush_end, compact_start, compact_end}
 use Rattle.udt_model.specs.Jobs.{compaction_kept, flush_kept, inputs_hold, inputs_of, is_input, tables_from, taken}
-use Rattle.udt_model.specs.Steps.{IsFlushed, IsTold, IsReplyTo, after, compacted, flushed, with_compaction, with_flush, without_job}
-use Rattle.floor_laws.specs.Sound.{IsSound}
+use Rattle.udt_model.specs.Steps.{IsFlushed, IsReplyTo, after, compacted, flushed, with_compaction, with_flush, without_job}
+use Rattle.floor_laws.specs.Sound.{IsSoundState}
 use Rattle.floor_laws.proofs.Members.{In, filter_none}
 use Rattle.floor_laws.proofs.Tables.{has-In, numbers-In, filter_with_table}
 use Rattle.floor_laws.proofs.States.{some_same, FlushIs, CompactionIs, Holds, holds_of}
@@ -132,8 +132,8 @@ held_same m number (flush_end i start) (Table table kept floor) job h r e q = he
 held_same m number (compact_end i start) (Kept kept pieces) job h r e q = held_compacted m m.compaction pieces job q
 held_same m number act reply job h r e q = refl
 
-pub flush_takes : (m : State) (number : ℕ) (act : Act) (reply : Reply) (job : Flush) → IsSound m → m.flush ≡ Some job → (after m number act reply).flush ≡ Some job → taken (after m number act reply) job ≡ taken m job
+pub flush_takes : (m : State) (number : ℕ) (act : Act) (reply : Reply) (job : Flush) → IsSoundState m → m.flush ≡ Some job → (after m number act reply).flush ≡ Some job → taken (after m number act reply) job ≡ taken m job
 flush_takes m number act reply job h e q = taken_same m number act reply job (holds_of m h) e q
 
-pub compaction_takes : (m : State) (number : ℕ) (act : Act) (reply : Reply) (job : Compaction) → IsSound m → IsReplyTo m act reply → m.compaction ≡ Some job → (after m number act reply).compaction ≡ Some job → inputs_hold (after m number act reply) job ≡ inputs_hold m job
+pub compaction_takes : (m : State) (number : ℕ) (act : Act) (reply : Reply) (job : Compaction) → IsSoundState m → IsReplyTo m act reply → m.compaction ≡ Some job → (after m number act reply).compaction ≡ Some job → inputs_hold (after m number act reply) job ≡ inputs_hold m job
 compaction_takes m number act reply job h r e q = held_same m number act reply job (holds_of m h) r e q

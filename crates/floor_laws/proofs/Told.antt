@@ -1,26 +1,24 @@
 -- Every legal reply keeps what holds of a state.
-use Rattle.std.proofs.Common.{◌≡◌, ◌⊎◌, ℕ, ◌+◌, ◌≤◌, Bool, true, false, not, List, [], ◌∷◌, ◌++◌, length, Option, Some, None, refl, sym, ap, ◌∙◌, arith, inl, inr, subst}
-use Rattle.std.specs.Prelude.{IsTrue, option_map, ◌==◌, ⊤, if◌then◌else◌}
-use Rattle.std.specs.List.{filter}
+use Rattle.std.proofs.Common.{◌≡◌, ℕ, ◌+◌, Bool, true, false, List, [], ◌∷◌, ◌++◌, length, Option, Some, None, refl, sym, ap, ◌∙◌, inl, inr, subst}
+use Rattle.std.specs.Prelude.{option_map, ◌==◌, if◌then◌else◌}
 use Rattle.std.proofs.lemmas.Bool.{cases_Bool, false≢true}
 use Rattle.ts_key.specs.declared.batch.WriteOp.{WriteOp}
 use Rattle.ts_key.specs.declared.numbers.Family.{Family}
 use Rattle.ts_key.specs.declared.numbers.Ts.{Ts}
-use Rattle.ts_key.specs.declared.numbers.Seq.{Seq}
 use Rattle.udt_model.specs.declared.reply.Piece.{Piece}
 use Rattle.udt_model.specs.declared.reply.Reply.{Reply}
-use Rattle.udt_model.specs.declared.reply.Reply.TheVariants.{Done, OkAt, Nothing, Files, Table, Inputs, Kept, DroppedFault, DroppedMemory, DroppedFiles, Halted, Fault}
+use Rattle.udt_model.specs.declared.reply.Reply.TheVariants.{Done, OkAt, Nothing, Table, Inputs, Kept, DroppedFault, DroppedMemory, DroppedFiles, Halted, Fault}
 use Rattle.udt_model.specs.Versions.{made}
-use Rattle.udt_model.specs.State.{State, FamilyState, Snap, Flush, Compaction, family_at, numbers_of, place_at, place_of_family, tables_of, with_family, with_floor}
+use Rattle.udt_model.specs.State.{State, FamilyState, Flush, Compaction, family_at, numbers_of, place_at, place_of_family, tables_of, with_family, with_floor}
 use Rattle.udt_model.specs.Acts.{Act}
-use Rattle.udt_model.specs.Acts.Act.{write, get, scan, raise, ask_floor, make_snapshot, release, pin, unpin, sync_all, flush_start, flush_end, compact_start, compact_end}
+use Rattle.udt_model.specs.Acts.Act.{write, raise, make_snapshot, release, flush_start, flush_end, compact_start, compact_end}
 use Rattle.udt_model.specs.Refusals.{◌or_else◌, ◌otherwise◌, halt, unknown_family, floor_fell, busy, refusal}
 use Rattle.udt_model.specs.Jobs.{IsClosed, numbers_of_pieces, unflushed_of}
-use Rattle.udt_model.specs.Steps.{IsFlushed, IsCompacted, IsPicked, IsTold, IsFault, IsFull, IsReplyTo, after, compaction_started, without_job, with_flush, with_compaction}
+use Rattle.udt_model.specs.Steps.{IsFlushed, IsCompacted, IsPicked, IsTold, IsFull, IsReplyTo, after, without_job, with_flush, with_compaction}
 use Rattle.udt_model.specs.Crashes.{is_change}
-use Rattle.floor_laws.specs.Sound.{IsSound}
-use Rattle.floor_laws.proofs.States.{some_same, FlushIs, CompactionIs, Holds, holds_of, sound_from}
-use Rattle.floor_laws.proofs.Writing.{is_refusal, Refuses, told_other, known_none, known_start, or_none, refuses_write, refuses_raise, refuses_flush_start, refuses_compact_start}
+use Rattle.floor_laws.specs.Sound.{IsSoundState}
+use Rattle.floor_laws.proofs.States.{FlushIs, CompactionIs, Holds, holds_of, sound_from}
+use Rattle.floor_laws.proofs.Writing.{is_refusal, Refuses, told_other, known_start, or_none, refuses_write, refuses_raise, refuses_flush_start, refuses_compact_start}
 use Rattle.floor_laws.proofs.Stepping.{floor_none, step_write, step_raise, step_snapshot, step_release, step_drop_flush, step_drop_compaction, step_halt, step_flush_start, step_compact_start, all_closed, new_of, step_flush_end, step_compact_end}
 
 step_without : (m : State) (act : Act) → Holds m → Holds (without_job m act)
@@ -123,5 +121,5 @@ step_told m number (flush_end i start) (Table table kept floor) told c h = flush
 step_told m number (compact_end i start) (Kept kept pieces) told c h = compact_ends m m.compaction kept pieces refl told.1 h
 step_told m number act reply told c h = absurd (false≢true c)
 
-pub sound_after : (m : State) (number : ℕ) (act : Act) (reply : Reply) → IsSound m → IsReplyTo m act reply → IsSound (after m number act reply)
+pub sound_after : (m : State) (number : ℕ) (act : Act) (reply : Reply) → IsSoundState m → IsReplyTo m act reply → IsSoundState (after m number act reply)
 sound_after m number act reply h r = sound_from (after m number act reply) (step_after m number act reply r (holds_of m h))

@@ -1,33 +1,27 @@
 -- What refuses, and what a write that is not refused makes.
-use Rattle.std.proofs.Common.{◌≡◌, ◌≢◌, ◌⊎◌, ℕ, zero, suc, ◌+◌, ◌<◌, ◌≤◌, ◌&&◌, ◌||◌, Bool, true, false, not, List, [], ◌∷◌, ◌++◌, map, length, Option, Some, None, refl, sym, ap, ◌∙◌, arith, inl, inr, subst}
-use Rattle.std.specs.Prelude.{◌^◌, ◌-◌, All, AllPairs, Contains, IsTrue, option_map, slice_get, slice_index_or, nat_lt, nat_le, ◌==◌, ⊤, if◌then◌else◌}
-use Rattle.std.specs.List.{filter, list_any, list_all}
-use Rattle.std.proofs.lemmas.Bool.{cases_Bool, cases_lt, false≢true, and_parts, and_from, or_left, or_cases, ltb-true, lt-ltb, ltb-false, leb-true, le-leb, eqb-true, eq-eqb, not-true}
+use Rattle.std.proofs.Common.{◌≡◌, ℕ, zero, suc, ◌+◌, ◌<◌, ◌≤◌, ◌&&◌, Bool, true, false, List, [], ◌∷◌, ◌++◌, length, Option, Some, None, refl, sym, ap, ◌∙◌, arith, inl, inr, subst}
+use Rattle.std.specs.Prelude.{◌^◌, ◌-◌, option_map, slice_get, nat_lt, ◌==◌, ⊤, if◌then◌else◌}
+use Rattle.std.proofs.lemmas.Bool.{cases_Bool, cases_lt, false≢true, and_parts, or_left, or_cases, ltb-true, lt-ltb, eqb-true}
 use Rattle.std.proofs.lemmas.List.{append-nil, append_assoc}
 use Rattle.std.proofs.lemmas.List.Elements.{All-push, All-get_or, All-weaker}
 use Rattle.std.proofs.lemmas.List.Quantifiers.{all_pairs_push}
 use Rattle.ts_key.specs.declared.batch.WriteOp.{WriteOp}
 use Rattle.ts_key.specs.declared.numbers.Family.{Family}
 use Rattle.ts_key.specs.declared.numbers.Ts.{Ts}
-use Rattle.ts_key.specs.declared.numbers.Seq.{Seq}
-use Rattle.ts_key.specs.declared.version.Form.{Form}
 use Rattle.ts_key.specs.declared.version.Version.{Version}
 use Rattle.udt_model.specs.declared.place.Place.{Place}
-use Rattle.udt_model.specs.declared.reply.Piece.{Piece}
 use Rattle.udt_model.specs.declared.reply.Reply.{Reply}
-use Rattle.udt_model.specs.declared.reply.Reply.TheVariants.{Done, OkAt, Below, Fell, Full, Floor, Snapshots, Nothing, Busy, Files, Table, Inputs, Kept, DroppedFault, DroppedMemory, DroppedFiles, Unknown, Halted, Fault}
-use Rattle.udt_model.specs.Versions.{is_newer, is_of, newer, newest_of, of_key, AreRising, AreWritten, made, version_of}
-use Rattle.udt_model.specs.State.{State, FamilyState, LiveTable, Snap, Flush, Compaction, changed_at, family_at, floor_at, floor_of, numbers_of, place_at, place_of_family, seqs_of, tables_of, tables_of_family, with_family, with_floor, form_at, form_of, through_at, through_of, with_table, with_tables}
-use Rattle.udt_model.specs.Acts.{Act}
-use Rattle.udt_model.specs.Acts.Act.{write, get, scan, raise, ask_floor, make_snapshot, release, pin, unpin, sync_all, flush_start, flush_end, compact_start, compact_end}
+use Rattle.udt_model.specs.declared.reply.Reply.TheVariants.{Below, Fell, Full, Floor, Snapshots, Busy, Unknown, Halted}
+use Rattle.udt_model.specs.Versions.{is_newer, is_of, newer, newest_of, of_key, AreWritten, made, version_of}
+use Rattle.udt_model.specs.State.{State, FamilyState, Flush, Compaction, family_at, place_at, place_of_family, seqs_of}
+use Rattle.udt_model.specs.Acts.Act.{write, raise, flush_start, compact_start}
 use Rattle.udt_model.specs.Refusals.{◌or_else◌, ◌otherwise◌, unknown, unknown_family, unknown_place, halt, fell, op_refusal, refused, full, floor_fell, snapshots_full, busy, refusal}
-use Rattle.floor_laws.proofs.Members.{In, In-contains, contains_In, In-left, In-right, In-append, In-filter, filter-In, In-map, map-In, all-In}
-use Rattle.floor_laws.proofs.Best.{Single}
-use Rattle.floor_laws.proofs.Kept.{is_of-true, is_of-from}
-use Rattle.floor_laws.proofs.Standing.{Rising, Adds, Admitted, Rising-add}
+use Rattle.floor_laws.proofs.Members.{In, In-left, In-right, In-append, In-filter}
+use Rattle.floor_laws.proofs.Kept.{is_of-from}
+use Rattle.floor_laws.proofs.Standing.{Admitted, Rising-add}
 use Rattle.floor_laws.proofs.Stating.{rising_of, rising_from}
 use Rattle.floor_laws.proofs.Families.{FamilyHolds, family_write}
-use Rattle.floor_laws.proofs.States.{Written, written_of, some_same}
+use Rattle.floor_laws.proofs.States.{written_of}
 
 -- ---- refusals
 

@@ -20,8 +20,8 @@ use Rattle.udt_model.specs.Refusals.{fell, refused}
 use Rattle.udt_model.specs.Jobs.{floor_over, in_form, inputs_hold, taken}
 use Rattle.udt_model.specs.Steps.{IsReplyTo, after}
 use Rattle.udt_model.specs.Crashes.{Course, Failing, IsOutcomeUnder, cut_at, settled}
-use Rattle.floor_laws.specs.Sound.{IsOpened, IsSound, lists_of}
-use Rattle.floor_laws.specs.Lists.{AreApart, AreAside, AreNewer, AreSame, AreSince, IsNext, IsUpTo}
+use Rattle.floor_laws.specs.Sound.{IsSoundOpening, IsSoundState, lists_of}
+use Rattle.floor_laws.specs.Lists.{AreApart, AreAside, AreNewer, AreSame, AreSince, IsNextVersion, IsUpTo}
 
 -- ---- lists that stand for a family's writes
 
@@ -53,12 +53,12 @@ StandsInPlaces = (family : Family) (form : Form) (vs places w : List Version) (f
 -- when a version of the family is written
 abbrev pub StandsWhenWritten : Type 0
 StandsWhenWritten = (form : Form) (vs w : List Version) (floor : Ts) (seqs : List Seq) (v : Version)
-    → AreApart w → IsNext w v → Stands v.family form vs w floor seqs → Stands v.family form (v ∷ vs) (w ++ v ∷ []) floor seqs
+    → AreApart w → IsNextVersion w v → Stands v.family form vs w floor seqs → Stands v.family form (v ∷ vs) (w ++ v ∷ []) floor seqs
 
 -- when a version of another one is
 abbrev pub StandsBesideWrites : Type 0
 StandsBesideWrites = (family : Family) (form : Form) (vs w : List Version) (floor : Ts) (seqs : List Seq) (v : Version)
-    → v.family ≢ family → AreApart w → IsNext w v → Stands family form vs w floor seqs → Stands family form vs (w ++ v ∷ []) floor seqs
+    → v.family ≢ family → AreApart w → IsNextVersion w v → Stands family form vs w floor seqs → Stands family form vs (w ++ v ∷ []) floor seqs
 
 -- When a part of them is flushed, by the floor and the snapshots of the flush's start, whatever was written and raised since: the part
 -- isn't above the start's sequence, and in a family that strips its timestamps the rest lies aside of it.
@@ -106,43 +106,43 @@ IsFixedByFamilies = (count last end : ℕ) (w v : List Version)
 
 -- every legal step of a sound state leads to a sound one
 abbrev pub StaysSound : Type 0
-StaysSound = (m : State) (number : ℕ) (act : Act) (reply : Reply) → IsSound m → IsReplyTo m act reply → IsSound (after m number act reply)
+StaysSound = (m : State) (number : ℕ) (act : Act) (reply : Reply) → IsSoundState m → IsReplyTo m act reply → IsSoundState (after m number act reply)
 
 -- a read of a family's lists answers as a read of all writes, now and with each registered snapshot
 abbrev pub ReadsSoundly : Type 0
 ReadsSoundly = (m : State) (family : Family) (f : FamilyState) (key : List ℕ) (t : Ts) (snap : Option ℕ)
-    → IsSound m → family_at m family ≡ Some f → read (lists_of m family f) f.head.floor family key t (sight m snap) ≡ read m.versions f.head.floor family key t (sight m snap)
+    → IsSoundState m → family_at m family ≡ Some f → read (lists_of m family f) f.head.floor family key t (sight m snap) ≡ read m.versions f.head.floor family key t (sight m snap)
 
 -- an opened state is sound, and so is one of which nothing is in a table
 abbrev pub OpensSound : Type 0
-OpensSound = (m : State) → IsOpened m → IsSound m
+OpensSound = (m : State) → IsSoundOpening m → IsSoundState m
 
 abbrev pub BeginsSound : Type 0
-BeginsSound = (heads : List FamilyHead) (w : List Version) (last : Seq) (halted : Option ℕ) → AreWritten (length heads) last.0 w → IsSound (unflushed heads w last halted)
+BeginsSound = (heads : List FamilyHead) (w : List Version) (last : Seq) (halted : Option ℕ) → AreWritten (length heads) last.0 w → IsSoundState (unflushed heads w last halted)
 
 -- a sound state is so without its snapshots and jobs, and with the writes up to a sequence that isn't below what is in tables
 abbrev pub SettlesSound : Type 0
-SettlesSound = (m : State) → IsSound m → IsSound (settled m)
+SettlesSound = (m : State) → IsSoundState m → IsSoundState (settled m)
 
 abbrev pub CutsSound : Type 0
-CutsSound = (m : State) (end : ℕ) → ((family : Family) (f : FamilyState) → family_at m family ≡ Some f → f.through.0 ≤ end) → IsSound m → IsSound (cut_at m end)
+CutsSound = (m : State) (end : ℕ) → ((family : Family) (f : FamilyState) → family_at m family ≡ Some f → f.through.0 ≤ end) → IsSoundState m → IsSoundState (cut_at m end)
 
 -- nothing is cut where all is kept
 abbrev pub CutsNothing : Type 0
-CutsNothing = (m : State) → IsSound m → cut_at m m.last.0 ≡ settled m
+CutsNothing = (m : State) → IsSoundState m → cut_at m m.last.0 ≡ settled m
 
 -- What a crash may leave of a sound state is sound, also while the disk works on an act: where all that is in tables was synced, and the
 -- disk failed, if it did, in a sound state.
 abbrev pub CrashesSound : Type 0
-CrashesSound = (m : State) (c : Course) (number : ℕ) (act : Act) (left : State) → IsSound m
-    → ((family : Family) (f : FamilyState) → family_at m family ≡ Some f → f.through.0 ≤ c.synced) → ((f : Failing) → c.failing ≡ Some f → IsSound f.state)
-    → IsOutcomeUnder m c number act left → IsSound left
+CrashesSound = (m : State) (c : Course) (number : ℕ) (act : Act) (left : State) → IsSoundState m
+    → ((family : Family) (f : FamilyState) → family_at m family ≡ Some f → f.through.0 ≤ c.synced) → ((f : Failing) → c.failing ≡ Some f → IsSoundState f.state)
+    → IsOutcomeUnder m c number act left → IsSoundState left
 
 -- a flush that runs on behind a step takes what it took before, and so does a compaction
 abbrev pub FlushTakesTheSame : Type 0
 FlushTakesTheSame = (m : State) (number : ℕ) (act : Act) (reply : Reply) (job : Flush)
-    → IsSound m → m.flush ≡ Some job → (after m number act reply).flush ≡ Some job → taken (after m number act reply) job ≡ taken m job
+    → IsSoundState m → m.flush ≡ Some job → (after m number act reply).flush ≡ Some job → taken (after m number act reply) job ≡ taken m job
 
 abbrev pub CompactionTakesTheSame : Type 0
 CompactionTakesTheSame = (m : State) (number : ℕ) (act : Act) (reply : Reply) (job : Compaction)
-    → IsSound m → IsReplyTo m act reply → m.compaction ≡ Some job → (after m number act reply).compaction ≡ Some job → inputs_hold (after m number act reply) job ≡ inputs_hold m job
+    → IsSoundState m → IsReplyTo m act reply → m.compaction ≡ Some job → (after m number act reply).compaction ≡ Some job → inputs_hold (after m number act reply) job ≡ inputs_hold m job

@@ -31,6 +31,6 @@ abbrev pub AreApart : List Version → Type 0
 AreApart vs = AllPairs (λ (a b : Version). a.seq.0 ≢ b.seq.0) vs
 
 -- the version may be written behind these: its sequence is above theirs, and its timestamp isn't below those of its key
-pub record IsNext (w : List Version) (v : Version) : Type 0 where
+pub record IsNextVersion (w : List Version) (v : Version) : Type 0 where
   pub above : All (λ (o : Version). o.seq.0 < v.seq.0) w
   pub rises : (o : Version) → Contains w o → o.family ≡ v.family → o.key ≡ v.key → o.ts.0 ≤ v.ts.0

@@ -28,13 +28,13 @@ pub record IsSoundFamily (m : State) (family : Family) (f : FamilyState) : Type 
   pub tables : AreSoundTables m family f
 
 -- The versions are what writes made, each family is sound, and the running jobs run rightly.
-pub record IsSound (m : State) : Type 0 where
+pub record IsSoundState (m : State) : Type 0 where
   pub written : AreWritten (length m.families) m.last.0 m.versions
   pub families : (family : Family) (f : FamilyState) → family_at m family ≡ Some f → IsSoundFamily m family f
   pub jobs : RunsRightly m
 
 -- a state with no snapshot and no job, as opening a folder gives it: the versions are what writes made, and the tables are sound
-pub record IsOpened (m : State) : Type 0 where
+pub record IsSoundOpening (m : State) : Type 0 where
   pub written : AreWritten (length m.families) m.last.0 m.versions
   pub families : (family : Family) (f : FamilyState) → family_at m family ≡ Some f → AreSoundTables m family f
   pub snaps : m.snaps ≡ []

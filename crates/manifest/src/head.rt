@@ -16,7 +16,7 @@ ghost use Rattle.manifest.specs.Heads.{form_code, family_text, head_text, differ
 use crate::NoMemory;
 use byteorder::{ByteOrder, LittleEndian};
 use std::alloc::Global;
-use ts_key::Form;
+use ts_key::{FAMILY_LIMIT, Form, STAMP_SIZE};
 use udt_model::{FamilyHead, Items};
 
 /// The first byte of a head.
@@ -25,17 +25,11 @@ pub(crate) const HEAD: u8 = 1;
 /// The version of the format.
 pub(crate) const VERSION: u8 = 1;
 
-/// The most families that a store has.
-pub(crate) const FAMILY_LIMIT: usize = 16;
-
 /// The form of a family whose tables keep timestamps.
 pub(crate) const PERSIST: u8 = 0;
 
 /// The form of a family that strips timestamps.
 const STRIP: u8 = 1;
-
-/// The size of a timestamp.
-pub(crate) const STAMP_SIZE: u8 = 8;
 
 /// The families of a new store, in order.
 #[derive(Debug, Drop)]

@@ -4,4 +4,7 @@ mod cursors;
 mod gate;
 mod keys;
 mod lanes;
+mod memtables;
 mod model;
+mod runs;
+mod versions;

@@ -119,7 +119,7 @@ impl<C, F: Shown<C>> Gate<F, C> {
         HeldCommit { commit }
     }
 
-    /// Gives the commit back. It shows what the seat has seen.
+    /// Gives the commit back, which shows what the seat has seen. A seat that holds both gives the front back first.
     pub fn give_commit(&self, seat: &mut GateSeat<F, C, F::Entry>, held: HeldCommit<C>)
         requires gate { IsSeatOf self.now seat.old }
         requires has { ((known seat.old).has_front ≡ false) × ((known seat.old).has_commit ≡ true) }
@@ -159,7 +159,7 @@ impl<C, F: Shown<C>> Gate<F, C> {
         steps::see_height(&self.table.shared, &mut seat.inner)
     }
 
-    /// Gives the front back without an event. It shows the same list as when it was taken.
+    /// Gives the front back without an event. It shows the same list as before.
     pub fn give_front(&self, seat: &mut GateSeat<F, C, F::Entry>, held: Held<F>)
         requires gate { IsSeatOf self.now seat.old }
         requires has { (known seat.old).has_front ≡ true }

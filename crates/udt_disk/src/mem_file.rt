@@ -1,3 +1,5 @@
+//! What a file in memory holds, and its calls.
+
 ghost use Rattle.std.specs.Prelude.{◌≡◌, map, ◌+◌, ◌-◌, ◌^◌, ◌<◌, ◌≤◌, min, [], ◌∷◌, ◌++◌, List, ℕ, length, reverse, true, take, drop, if◌then◌else◌, ◌↔◌, IsErr, IsTrue, IfOk, OnOk, OnErr, Some};
 ghost use Rattle.std.specs.List.{list_any};
 ghost use Rattle.udt_disk.specs.Bytes.{overwritten};

@@ -1,3 +1,5 @@
+//! What a crash leaves of a folder in memory: three outcomes.
+
 ghost use Rattle.std.specs.Prelude.{◌≡◌, ◌+◌, ℕ, length, reverse, replicate, Option, Some, IfOk, option_map, None};
 ghost use Rattle.udt_disk.specs.History.{undone};
 ghost use Rattle.udt_disk.specs.Outcomes.{settled, spoiled, spoiled_at};

@@ -1,3 +1,5 @@
+//! The entries of a folder in memory, by their names.
+
 ghost use Rattle.std.specs.Prelude.{◌≡◌, ◌≢◌, ℕ, Some, None, IfSome, option_map};
 ghost use Rattle.udt_disk.specs.declared.name.FileName.{FileName as NameOf};
 ghost use Rattle.udt_disk.specs.Tree.{entry_from, entry_of, early, lent, Changed};

@@ -1,3 +1,5 @@
+//! Reads the bodies of frames: the records of a log file, from the front of the bytes on.
+
 ghost use Rattle.std.specs.Prelude.{◌≡◌, ℕ, ◌≤◌, List, ◌++◌, length, All, ⊤};
 ghost use Rattle.std.specs.List.{flat_map};
 ghost use Rattle.wal.specs.Numbers.{number_bytes};

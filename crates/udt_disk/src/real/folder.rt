@@ -1,6 +1,5 @@
-//! Folders of the operating system. One that is open is locked, and what is opened in it is settled: synced, and then
-//! read from the device, since a failed sync of an earlier process may have left the system's copy of it other than the
-//! device has it.
+//! Folders of the operating system. One that is open is locked, and what is opened in it is synced before it is read, since
+//! an earlier process may have been stopped between a write and its sync.
 ghost use Rattle.std.specs.Prelude.{◌≡◌, None, IfOk, IfSome, true, false};
 ghost use Rattle.udt_disk.specs.Folder.{opened};
 ghost use Rattle.udt_disk.specs.Real.{not_told};
@@ -10,7 +9,6 @@ use crate::{Disk, Failed, FileName, NoMemory};
 use std::alloc::Global;
 use std::fs::{File, OpenOptions};
 use std::io::ErrorKind;
-use std::os::fd::AsRawFd;
 use std::rt::Files;
 use std::{fs, io};
 
@@ -22,15 +20,6 @@ pub struct HostFolder<'a, R: Files<File = File>> {
     /// The folder itself, which holds the lock.
     pub(super) handle: File,
     pub(super) faults: Faults,
-}
-
-/// Makes what the file holds reach the device, and drops the system's copies of it.
-fn settle(file: &File) -> io::Result<()> {
-    file.sync_all()?;
-    match libc::posix_fadvise(file.as_raw_fd(), 0, 0, libc::POSIX_FADV_DONTNEED) {
-        0 => Ok(()),
-        error => Err(io::Error::from_raw_os_error(error)),
-    }
 }
 
 /// The path of a file in a folder.
@@ -80,7 +69,7 @@ impl<'a, R: Files<File = File>> HostFolder<'a, R> {
         };
         // A table is named only once its sync answered Ok.
         if !matches!(name, FileName::Table(_)) {
-            settle(&file)?;
+            file.sync_all()?;
         }
         Ok(Some(HostFile {
             file,

@@ -1,3 +1,4 @@
+//! Reasons of command lines, and of files and folders of the operating system.
 use super::reason;
 use client_runner::{Status, store_plain};
 use std::alloc::Global;

@@ -1,0 +1,13 @@
+pub mod Lengths
+pub mod Fielded
+pub mod Nexts
+pub mod Written
+pub mod Runs
+pub mod Filled
+pub mod Stopping
+pub mod Steps
+pub mod Ends
+pub mod Faulting
+pub mod Found
+pub mod Loops
+pub mod Images

@@ -1,0 +1,21 @@
+//! One block of a table: written entry by entry, read exactly, looked up and walked.
+#![tactic(auto)]
+
+pub mod block;
+pub mod cursor;
+mod entry;
+mod fields;
+mod index;
+mod laws;
+mod region;
+mod search;
+mod tail;
+pub mod writer;
+
+pub use block::{Block, BlockFault};
+pub use cursor::BlockCursor;
+pub use laws::{blocks_are_unique, faults_are_right, faults_are_single};
+pub use writer::{BLOCK_TARGET, BlockWriter, RESTART_INTERVAL};
+
+/// Memory ran out.
+pub type NoMemory = std::alloc::AllocError;
