@@ -19,3 +19,4 @@ pub mod Told
 pub mod ListLaws
 pub mod Reopening
 pub mod Taking
+pub mod Histories

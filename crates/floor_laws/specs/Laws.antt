@@ -19,6 +19,9 @@ use Rattle.udt_model.specs.Acts.{Act}
 use Rattle.udt_model.specs.Refusals.{fell, refused}
 use Rattle.udt_model.specs.Jobs.{floor_over, in_form, inputs_hold, taken}
 use Rattle.udt_model.specs.Steps.{IsReplyTo, after}
+use Rattle.udt_model.specs.declared.line.Line.{Line}
+use Rattle.udt_model.specs.Histories.{Leads, Point}
+use Rattle.udt_model.specs.Entries.{AreEntries, Counts, Entry, after_entry}
 use Rattle.udt_model.specs.Crashes.{Course, Failing, IsOutcomeUnder, cut_at, settled}
 use Rattle.floor_laws.specs.Sound.{IsSoundOpening, IsSoundState, lists_of}
 use Rattle.floor_laws.specs.Lists.{AreApart, AreAside, AreNewer, AreSame, AreSince, IsNextVersion, IsUpTo}
@@ -107,6 +110,20 @@ IsFixedByFamilies = (count last end : ℕ) (w v : List Version)
 -- every legal step of a sound state leads to a sound one
 abbrev pub StaysSound : Type 0
 StaysSound = (m : State) (number : ℕ) (act : Act) (reply : Reply) → IsSoundState m → IsReplyTo m act reply → IsSoundState (after m number act reply)
+
+-- and so does every legal transcript
+abbrev pub StaysSoundAlongLines : Type 0
+StaysSoundAlongLines = (old : Point) (lines : List Line) (new : Point) → IsSoundState old.state → Leads old lines new → IsSoundState new.state
+
+-- the state behind entries of the history of the threads
+abbrev pub state_behind : State → ℕ → List Entry → State
+state_behind m number [] = m
+state_behind m number (e ∷ es) = state_behind (after_entry m (number + 1) e) (number + 1) es
+
+-- and every history of the threads
+abbrev pub StaysSoundAlongEntries : Type 0
+StaysSoundAlongEntries = (m : State) (counts : Counts) (number : ℕ) (entries : List Entry)
+    → IsSoundState m → AreEntries m counts number entries → IsSoundState (state_behind m number entries)
 
 -- a read of a family's lists answers as a read of all writes, now and with each registered snapshot
 abbrev pub ReadsSoundly : Type 0

@@ -3,7 +3,7 @@
 #![tactic(auto)]
 
 ghost use Rattle.floor_laws.specs.Laws.{ReadsAsWrites, FallsAsWrites, StandsWhenRaised, StandsWithSnapshots, StandsInPlaces, StandsWhenWritten, StandsBesideWrites, StandsWhenFlushed, StandsWhenCompacted, StandsWhenOpened};
-ghost use Rattle.floor_laws.specs.Laws.{CollectsInAnyOrder, FlushesInAnyOrder, RaisesInAnyOrder, WritesWhatIsAdmitted, StaysSound, ReadsSoundly, OpensSound, BeginsSound, SettlesSound, CutsSound, CutsNothing, IsFixedByFamilies, CrashesSound, FlushTakesTheSame, CompactionTakesTheSame};
+ghost use Rattle.floor_laws.specs.Laws.{CollectsInAnyOrder, FlushesInAnyOrder, RaisesInAnyOrder, WritesWhatIsAdmitted, StaysSound, StaysSoundAlongLines, StaysSoundAlongEntries, ReadsSoundly, OpensSound, BeginsSound, SettlesSound, CutsSound, CutsNothing, IsFixedByFamilies, CrashesSound, FlushTakesTheSame, CompactionTakesTheSame};
 
 /// Lists that stand for a family's writes answer as the writes: each read, and whether the timestamp of an operation falls.
 pub fn lists_answer()
@@ -38,9 +38,12 @@ pub fn writes_rise()
 {}
 
 /// Every legal step keeps a state sound: the lists of each family stand for its writes, its tables alone for those up to `through`, the
-/// tables are in order, and the running jobs run rightly. So reads of the lists answer as the writes.
+/// tables are in order, and the running jobs run rightly. So does every legal transcript, and every history of the threads. And in a
+/// sound state reads of the lists answer as the writes.
 pub fn steps_are_sound()
     ensures step { StaysSound }
+    ensures lines { StaysSoundAlongLines }
+    ensures entries { StaysSoundAlongEntries }
     ensures reads { ReadsSoundly }
 {}
 
