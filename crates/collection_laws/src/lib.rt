@@ -1,2 +1,6 @@
 //! What a collection keeps, plainly: the definition computed, and the laws of the stored order that it rests on (`proofs/`).
 #![tactic(auto)]
+
+mod collect;
+
+pub use collect::plain_collect;
