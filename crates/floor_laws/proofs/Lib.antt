@@ -20,3 +20,4 @@ pub mod ListLaws
 pub mod Reopening
 pub mod Taking
 pub mod Histories
+pub mod Courses

@@ -22,8 +22,8 @@ use Rattle.udt_model.specs.Steps.{IsReplyTo, after}
 use Rattle.udt_model.specs.declared.line.Line.{Line}
 use Rattle.udt_model.specs.Histories.{Leads, Point}
 use Rattle.udt_model.specs.Entries.{AreEntries, Counts, Entry, after_entry}
-use Rattle.udt_model.specs.Crashes.{Course, Failing, IsOutcomeUnder, cut_at, settled}
-use Rattle.floor_laws.specs.Sound.{IsSoundOpening, IsSoundState, lists_of}
+use Rattle.udt_model.specs.Crashes.{Course, IsOutcomeUnder, course_after, course_start, cut_at, settled}
+use Rattle.floor_laws.specs.Sound.{IsSoundCourse, IsSoundOpening, IsSoundState, lists_of}
 use Rattle.floor_laws.specs.Lists.{AreApart, AreAside, AreNewer, AreSame, AreSince, IsNextVersion, IsUpTo}
 
 -- ---- lists that stand for a family's writes
@@ -148,12 +148,17 @@ CutsSound = (m : State) (end : ℕ) → ((family : Family) (f : FamilyState) →
 abbrev pub CutsNothing : Type 0
 CutsNothing = (m : State) → IsSoundState m → cut_at m m.last.0 ≡ settled m
 
--- What a crash may leave of a sound state is sound, also while the disk works on an act: where all that is in tables was synced, and the
--- disk failed, if it did, in a sound state.
+-- what a crash may leave of a sound state on a sound course is sound, also while the disk works on an act
 abbrev pub CrashesSound : Type 0
-CrashesSound = (m : State) (c : Course) (number : ℕ) (act : Act) (left : State) → IsSoundState m
-    → ((family : Family) (f : FamilyState) → family_at m family ≡ Some f → f.through.0 ≤ c.synced) → ((f : Failing) → c.failing ≡ Some f → IsSoundState f.state)
-    → IsOutcomeUnder m c number act left → IsSoundState left
+CrashesSound = (m : State) (c : Course) (number : ℕ) (act : Act) (left : State) → IsSoundState m → IsSoundCourse m c → IsOutcomeUnder m c number act left → IsSoundState left
+
+-- a sound state begins on a sound course, and every legal step keeps it
+abbrev pub CourseBeginsSound : Type 0
+CourseBeginsSound = (m : State) → IsSoundState m → IsSoundCourse m (course_start m)
+
+abbrev pub CourseStaysSound : Type 0
+CourseStaysSound = (m : State) (c : Course) (number : ℕ) (act : Act) (reply : Reply)
+    → IsSoundState m → IsSoundCourse m c → IsReplyTo m act reply → IsSoundCourse (after m number act reply) (course_after m number c act reply)
 
 -- a flush that runs on behind a step takes what it took before, and so does a compaction
 abbrev pub FlushTakesTheSame : Type 0

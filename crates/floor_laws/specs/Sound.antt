@@ -7,6 +7,7 @@ use Rattle.udt_model.specs.Versions.{AreWritten, between, up_to}
 use Rattle.udt_model.specs.Standing.{Stands}
 use Rattle.udt_model.specs.State.{State, FamilyState, LiveTable, family_at, seqs_of}
 use Rattle.udt_model.specs.Running.{RunsRightly}
+use Rattle.udt_model.specs.Crashes.{Course, Failing}
 use Rattle.floor_laws.specs.Tables.{AreOrdered, contents}
 
 -- the lists of a family: the versions that are in no table, and what its tables hold
@@ -40,3 +41,8 @@ pub record IsSoundOpening (m : State) : Type 0 where
   pub snaps : m.snaps ≡ []
   pub flush : m.flush ≡ None
   pub compaction : m.compaction ≡ None
+
+-- The course of a sound state: all that is in tables was synced, and the disk failed, if it did, in a sound state.
+pub record IsSoundCourse (m : State) (c : Course) : Type 0 where
+  pub synced : (family : Family) (f : FamilyState) → family_at m family ≡ Some f → f.through.0 ≤ c.synced
+  pub failing : (f : Failing) → c.failing ≡ Some f → IsSoundState f.state

@@ -3,7 +3,7 @@
 #![tactic(auto)]
 
 ghost use Rattle.floor_laws.specs.Laws.{ReadsAsWrites, FallsAsWrites, StandsWhenRaised, StandsWithSnapshots, StandsInPlaces, StandsWhenWritten, StandsBesideWrites, StandsWhenFlushed, StandsWhenCompacted, StandsWhenOpened};
-ghost use Rattle.floor_laws.specs.Laws.{CollectsInAnyOrder, FlushesInAnyOrder, RaisesInAnyOrder, WritesWhatIsAdmitted, StaysSound, StaysSoundAlongLines, StaysSoundAlongEntries, ReadsSoundly, OpensSound, BeginsSound, SettlesSound, CutsSound, CutsNothing, IsFixedByFamilies, CrashesSound, FlushTakesTheSame, CompactionTakesTheSame};
+ghost use Rattle.floor_laws.specs.Laws.{CollectsInAnyOrder, FlushesInAnyOrder, RaisesInAnyOrder, WritesWhatIsAdmitted, StaysSound, StaysSoundAlongLines, StaysSoundAlongEntries, ReadsSoundly, OpensSound, BeginsSound, SettlesSound, CutsSound, CutsNothing, IsFixedByFamilies, CrashesSound, CourseBeginsSound, CourseStaysSound, FlushTakesTheSame, CompactionTakesTheSame};
 
 /// Lists that stand for a family's writes answer as the writes: each read, and whether the timestamp of an operation falls.
 pub fn lists_answer()
@@ -47,7 +47,7 @@ pub fn steps_are_sound()
     ensures reads { ReadsSoundly }
 {}
 
-/// States that a store begins with, or opens with, are sound, and so are those that a crash may leave of a sound one.
+/// States that a store begins with, or opens with, are sound, and so are those that a crash may leave of a sound one on its course.
 pub fn openings_are_sound()
     ensures begun { BeginsSound }
     ensures opened { OpensSound }
@@ -55,6 +55,8 @@ pub fn openings_are_sound()
     ensures cut { CutsSound }
     ensures whole { CutsNothing }
     ensures crashed { CrashesSound }
+    ensures course_begun { CourseBeginsSound }
+    ensures course { CourseStaysSound }
 {}
 
 /// A running job takes the same, whatever happens since its start: what was built of it is what its end tells.
