@@ -1,4 +1,4 @@
-//! Tests of the public calls of what lies on a disk.
+//! Tests of the public calls of the outside and of gate logs.
 #![tactic(auto)]
 
 #[cfg(test)]

@@ -1,6 +1,6 @@
 use Rattle.std.proofs.Common.{◌+◌, length, arith}
 use Rattle.wal.proofs.WalLemmas.{goes_on_at}
-use Rattle.disk_rows.proofs.tests.wal_rows.add_put.Goals as goal
+use Rattle.store_rows.proofs.tests.wal_rows.add_put.Goals as goal
 
 pub returns-in-Ok-clause-goes_on : goal.returns-in-Ok-clause-goes_on
 returns-in-Ok-clause-goes_on c =

@@ -1,6 +1,6 @@
 use Rattle.std.proofs.Common.{◌≡◌, ℕ, [], refl, arith}
 use Rattle.std.proofs.lemmas.List.Elements.{All-cons, All-nil}
-use Rattle.disk_rows.proofs.tests.wal_rows.one_size.Goals as goal
+use Rattle.store_rows.proofs.tests.wal_rows.one_size.Goals as goal
 
 pub of-requires : goal.of-requires
 of-requires c = record {

@@ -1,5 +1,5 @@
 use Rattle.wal.proofs.WalLemmas.{ready_from}
-use Rattle.disk_rows.proofs.tests.wal_rows.sync_twice.Goals as goal
+use Rattle.store_rows.proofs.tests.wal_rows.sync_twice.Goals as goal
 
 pub add_put-requires-2-clause-next : goal.add_put-requires-2-clause-next
 add_put-requires-2-clause-next c = c.in_ok-sync.ensures.goes_on 2 c.in_ok-add_put.ensures.goes_on

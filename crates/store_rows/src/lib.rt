@@ -1,0 +1,5 @@
+//! Tests of the public calls of logs, manifests and folders of stores.
+#![tactic(auto)]
+
+#[cfg(test)]
+mod tests;
