@@ -10,6 +10,7 @@ use Rattle.ts_key.specs.declared.version.Version.{Version}
 use Rattle.udt_model.specs.declared.line.FamilyHead.{FamilyHead}
 use Rattle.udt_model.specs.declared.reply.KeySpan.{KeySpan}
 use Rattle.udt_model.specs.declared.reply.Reply.{Reply}
+use Rattle.udt_model.specs.declared.reply.Reply.TheVariants.{Done}
 use Rattle.udt_model.specs.Versions.{AreWritten, between, made, newest_of, of_key, up_to}
 use Rattle.udt_model.specs.Reads.{read}
 use Rattle.udt_model.specs.Collecting.{collect, collect_all}
@@ -21,9 +22,11 @@ use Rattle.udt_model.specs.Jobs.{floor_over, in_form, inputs_hold, taken}
 use Rattle.udt_model.specs.Steps.{IsReplyTo, after}
 use Rattle.udt_model.specs.declared.line.Line.{Line}
 use Rattle.udt_model.specs.Histories.{Leads, Point}
+use Rattle.udt_model.specs.Names.{View, given_view}
 use Rattle.udt_model.specs.Entries.{AreEntries, Counts, Entry, after_entry}
 use Rattle.udt_model.specs.Crashes.{Course, IsOutcomeUnder, course_after, course_start, cut_at, settled}
 use Rattle.floor_laws.specs.Sound.{IsSoundCourse, IsSoundOpening, IsSoundState, lists_of}
+use Rattle.floor_laws.specs.Views.{ShowsPin}
 use Rattle.floor_laws.specs.Lists.{HaveOwnSequences, AreAside, AreNewer, AreSame, AreSince, IsNextVersion, IsUpTo}
 
 -- ---- lists that stand for a family's writes
@@ -129,6 +132,16 @@ StaysSoundAlongEntries = (m : State) (counts : Counts) (number : ℕ) (entries :
 abbrev pub ReadsSoundly : Type 0
 ReadsSoundly = (m : State) (family : Family) (f : FamilyState) (key : List ℕ) (t : Ts) (snap : Option ℕ)
     → IsSoundState m → family_at m family ≡ Some f → read (lists_of m family f) f.head.floor family key t (sight m snap) ≡ read m.versions f.head.floor family key t (sight m snap)
+
+-- a view of a sound state, as a pin there gives it, shows that state behind every legal transcript
+abbrev pub ShowsPinAlongLines : Type 0
+ShowsPinAlongLines = (old : Point) (lines : List Line) (new : Point) (number : ℕ) (view : View)
+    → IsSoundState old.state → Leads old lines new → given_view old.state number Done ≡ Some view → ShowsPin old.state new.state view
+
+-- and behind every history of the threads
+abbrev pub ShowsPinAlongEntries : Type 0
+ShowsPinAlongEntries = (m : State) (counts : Counts) (number : ℕ) (entries : List Entry) (pin : ℕ) (view : View)
+    → IsSoundState m → AreEntries m counts number entries → given_view m pin Done ≡ Some view → ShowsPin m (state_behind m number entries) view
 
 -- an opened state is sound, and so is one of which nothing is in a table
 abbrev pub OpensSound : Type 0
