@@ -184,10 +184,10 @@ order_flush ts through n flat fresh new old h = record {
   layered = λ a b i j fa fb ne. elim (with_table-In n a ts i) [
     | inl x ↦ elim (with_table-In n b ts j) [
       | inl y ↦ absurd (ne (ap (λ (z : LiveTable). z.number) (sym x ∙ y)))
-      | inr y ↦ inr (λ u v p q. let l = old u (contents-from ts b u y p) in let k = new v (subst (λ (z : LiveTable). In v z.versions) (sym x) q) in omega (arith, l, k))
+      | inr y ↦ inr (λ u v p q same. let l = old u (contents-from ts b u y p) in let k = new v (subst (λ (z : LiveTable). In v z.versions) (sym x) q) in omega (arith, l, k))
     ]
     | inr x ↦ elim (with_table-In n b ts j) [
-      | inl y ↦ inl (λ u v p q. let l = old u (contents-from ts a u x p) in let k = new v (subst (λ (z : LiveTable). In v z.versions) (sym y) q) in omega (arith, l, k))
+      | inl y ↦ inl (λ u v p q same. let l = old u (contents-from ts a u x p) in let k = new v (subst (λ (z : LiveTable). In v z.versions) (sym y) q) in omega (arith, l, k))
       | inr y ↦ h.layered a b x y fa fb ne
     ]
   ];

@@ -21,7 +21,7 @@ use Rattle.floor_laws.proofs.Told.{sound_after}
 
 -- ---- lines
 
-seen_same : (m : State) (names : Names) (event : Event) → is_numbered event ≡ true → seen_by m names event ≡ m
+pub seen_same : (m : State) (names : Names) (event : Event) → is_numbered event ≡ true → seen_by m names event ≡ m
 seen_same m names (ViewGet view family key t snap) h = absurd (false≢true h)
 seen_same m names (ViewScan view family low high t limit forward snap) h = absurd (false≢true h)
 seen_same m names (ViewFloor view family) h = absurd (false≢true h)

@@ -21,3 +21,4 @@ pub mod Reopening
 pub mod Taking
 pub mod Histories
 pub mod Courses
+pub mod Views

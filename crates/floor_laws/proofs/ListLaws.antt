@@ -18,7 +18,7 @@ use Rattle.udt_model.specs.Collecting.{collect, collect_all, cutoff}
 use Rattle.udt_model.specs.Standing.{AreAlike, IsSight, Stands}
 use Rattle.udt_model.specs.Jobs.{in_form, floor_over}
 use Rattle.udt_model.specs.Refusals.{fell}
-use Rattle.floor_laws.specs.Lists.{AreSince, IsUpTo, AreAside, AreNewer, AreSame, AreApart, IsNextVersion}
+use Rattle.floor_laws.specs.Lists.{AreSince, IsUpTo, AreAside, AreNewer, AreSame, HaveOwnSequences, IsNextVersion}
 use Rattle.floor_laws.proofs.Members.{In, Within, In-contains, contains_In, All-In, In-left, In-right, In-append}
 use Rattle.floor_laws.proofs.Best.{Single, Best, best_filter}
 use Rattle.floor_laws.proofs.Counts.{Distinct, pairs_distinct, distinct_single, count-append, count-none, count-filter}
@@ -80,7 +80,7 @@ fell_alike Strip f ts k (Some a) (Some b) le (inr q) =
     let e2 = le-ltb ts.0 0 (omega arith) in
     ap (λ (x : Version). fell k ts (Some x)) q.1 ∙ rw (e, e2) refl
 
-pub fell_same : (c : Family) (form : Form) (vs w : List Version) (f : Ts) (ss : List Seq) (last : ℕ) (key : List ℕ) (ts : Ts) (k : ℕ) → AreApart w → IsUpTo last w → f.0 ≤ ts.0 → Stands c form vs w f ss → fell k ts (newest_of (of_key vs c key)) ≡ fell k ts (newest_of (of_key w c key))
+pub fell_same : (c : Family) (form : Form) (vs w : List Version) (f : Ts) (ss : List Seq) (last : ℕ) (key : List ℕ) (ts : Ts) (k : ℕ) → HaveOwnSequences w → IsUpTo last w → f.0 ≤ ts.0 → Stands c form vs w f ss → fell k ts (newest_of (of_key vs c key)) ≡ fell k ts (newest_of (of_key w c key))
 fell_same c form vs w f ss last key ts k apart bounded le h =
     let g = standing_of c form vs w f ss h in
     let one = distinct_single w (pairs_distinct w apart) in
@@ -107,7 +107,7 @@ snaps_keep c form vs w f ss new sub h = stands_from c form vs w f new (standing_
 within_of : (vs ws : List Version) → All (Contains ws) vs → Within vs ws
 within_of vs ws h x i = contains_In ws x (All-In (Contains ws) vs x h i)
 
-pub places_keep : (c : Family) (form : Form) (vs ws w : List Version) (f : Ts) (ss : List Seq) → AreSame vs ws → AreApart ws → Stands c form vs w f ss → Stands c form ws w f ss
+pub places_keep : (c : Family) (form : Form) (vs ws w : List Version) (f : Ts) (ss : List Seq) → AreSame vs ws → HaveOwnSequences ws → Stands c form vs w f ss → Stands c form ws w f ss
 places_keep c form vs ws w f ss same apart h =
     stands_from c form ws w f ss (standing_same form c vs ws w f ss (within_of vs ws same.to) (within_of ws vs same.from) (pairs_distinct ws apart) (standing_of c form vs w f ss h))
 
@@ -126,7 +126,7 @@ adds_back w v = record {
   only = λ x i. elim (In-append x w (v ∷ []) i) [ inl j ↦ inl j | inr j ↦ elim j [ inl q ↦ inr q | inr b ↦ absurd b ] ];
 }
 
-pub write_keeps : (form : Form) (vs w : List Version) (f : Ts) (ss : List Seq) (v : Version) → AreApart w → IsNextVersion w v → Stands v.family form vs w f ss → Stands v.family form (v ∷ vs) (w ++ v ∷ []) f ss
+pub write_keeps : (form : Form) (vs w : List Version) (f : Ts) (ss : List Seq) (v : Version) → HaveOwnSequences w → IsNextVersion w v → Stands v.family form vs w f ss → Stands v.family form (v ∷ vs) (w ++ v ∷ []) f ss
 write_keeps form vs w f ss v apart next h =
     let g = standing_of v.family form vs w f ss h in
     let ad = next_admitted w v next in
@@ -142,7 +142,7 @@ write_keeps form vs w f ss v apart next h =
     stands_from v.family form (v ∷ vs) (w ++ v ∷ []) f ss
     (standing_write form vs w (v ∷ vs) (w ++ v ∷ []) f ss v (adds_front vs v) (adds_back w v) ad (distinct_single w (pairs_distinct w apart)) dist g)
 
-pub other_keeps : (c : Family) (form : Form) (vs w : List Version) (f : Ts) (ss : List Seq) (v : Version) → v.family ≢ c → AreApart w → IsNextVersion w v → Stands c form vs w f ss → Stands c form vs (w ++ v ∷ []) f ss
+pub other_keeps : (c : Family) (form : Form) (vs w : List Version) (f : Ts) (ss : List Seq) (v : Version) → v.family ≢ c → HaveOwnSequences w → IsNextVersion w v → Stands c form vs w f ss → Stands c form vs (w ++ v ∷ []) f ss
 other_keeps c form vs w f ss v ne apart next h =
     stands_from c form vs (w ++ v ∷ []) f ss
     (standing_other form c vs w (w ++ v ∷ []) f ss v ne (adds_back w v) (Single-add w (w ++ v ∷ []) v (adds_back w v) (next_admitted w v next).low (distinct_single w (pairs_distinct w apart))) (standing_of c form vs w f ss h))
@@ -195,10 +195,10 @@ open_keeps c form tables w f through number last written le h =
 
 -- ---- a collection depends on the versions alone
 
-pub collect_by_versions : (vs ws : List Version) (f : Ts) (ss : List Seq) (deeper : List KeySpan) → AreSame vs ws → AreApart vs → AreApart ws → collect vs f ss deeper ≡ collect ws f ss deeper
+pub collect_by_versions : (vs ws : List Version) (f : Ts) (ss : List Seq) (deeper : List KeySpan) → AreSame vs ws → HaveOwnSequences vs → HaveOwnSequences ws → collect vs f ss deeper ≡ collect ws f ss deeper
 collect_by_versions vs ws f ss deeper same a b = collect_same vs ws f ss deeper (within_of vs ws same.to) (within_of ws vs same.from) (pairs_distinct vs a) (pairs_distinct ws b)
 
-pub flush_by_versions : (form : Form) (vs ws : List Version) (f : Ts) (ss : List Seq) → AreSame vs ws → AreApart vs → AreApart ws → in_form form (collect_all vs f ss) ≡ in_form form (collect_all ws f ss)
+pub flush_by_versions : (form : Form) (vs ws : List Version) (f : Ts) (ss : List Seq) → AreSame vs ws → HaveOwnSequences vs → HaveOwnSequences ws → in_form form (collect_all vs f ss) ≡ in_form form (collect_all ws f ss)
 flush_by_versions form vs ws f ss same a b = ap (in_form form) (collect_all_same vs ws f ss (within_of vs ws same.to) (within_of ws vs same.from) (pairs_distinct vs a) (pairs_distinct ws b))
 
 pub floor_by_versions : (form : Form) (vs ws : List Version) (f : Ts) → AreSame vs ws → floor_over form f vs ≡ floor_over form f ws

@@ -212,7 +212,7 @@ sight_seen : (m : State) (o : Option Snap) → ((s : Snap) → o ≡ Some s → 
 sight_seen m None there h = inr h.bounded
 sight_seen m (Some s) there h = inl (In-contains (seqs_of m) s.seq (In-map (λ (z : Snap). z.seq) s m.snaps (there s refl)))
 
-find-In : (p : Snap → Bool) (xs : List Snap) (x : Snap) → find p xs ≡ Some x → In x xs
+pub find-In : (p : Snap → Bool) (xs : List Snap) (x : Snap) → find p xs ≡ Some x → In x xs
 find-In p [] x h = absurd (cc)
 find-In p (y ∷ xs) x h =
     elim (cases_Bool (p y)) [

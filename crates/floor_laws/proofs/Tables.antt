@@ -7,7 +7,7 @@ use Rattle.ts_key.specs.declared.version.Version.{Version}
 use Rattle.udt_model.specs.Orders.{meets, span_of}
 use Rattle.udt_model.specs.State.{LiveTable, numbers_of, with_table, with_tables}
 use Rattle.udt_model.specs.Jobs.{has_number, is_input, is_ascending}
-use Rattle.floor_laws.specs.Tables.{contents, AreOrdered}
+use Rattle.floor_laws.specs.Tables.{contents, AreTablesOrdered}
 use Rattle.floor_laws.proofs.Members.{In, Within, In-contains, contains_In, In-left, In-right, In-append, filter-In, In-filter, any-In, In-any, In-map, map-In}
 use Rattle.floor_laws.proofs.Counts.{count, count-append}
 
@@ -225,7 +225,7 @@ sorted_with_tables (t ∷ new) ts h other once =
 -- ---- the order, by what is in the lists
 
 abbrev pub Below : LiveTable → LiveTable → Type 0
-Below a b = (u v : Version) → In u a.versions → In v b.versions → u.seq.0 < v.seq.0
+Below a b = (u v : Version) → In u a.versions → In v b.versions → u.key ≡ v.key → u.seq.0 < v.seq.0
 
 pub record Ordered (ts : List LiveTable) : Type 0 where
   pub sorted : Sorted (numbers_of ts)
@@ -233,24 +233,24 @@ pub record Ordered (ts : List LiveTable) : Type 0 where
   pub layered : (a b : LiveTable) → In a ts → In b ts → a.level ≡ 0 → b.level ≡ 0 → a.number ≢ b.number → Below a b ⊎ Below b a
   pub spread : (a b : LiveTable) → In a ts → In b ts → a.level ≡ b.level → 0 < a.level → a.number ≢ b.number → meets (span_of a.versions) (span_of b.versions) ≡ false
 
-pub ordered_of : (ts : List LiveTable) → AreOrdered ts → Ordered ts
+pub ordered_of : (ts : List LiveTable) → AreTablesOrdered ts → Ordered ts
 ordered_of ts h = record {
   sorted = sorted_of (numbers_of ts) h.ascending;
   levels = λ a b i j lt u v x y k. h.levels a b (In-contains ts a i) (In-contains ts b j) lt u v (In-contains a.versions u x) (In-contains b.versions v y) k;
   layered = λ a b i j x y ne. elim (h.layered a b (In-contains ts a i) (In-contains ts b j) x y ne) [
-    | inl l ↦ inl (λ u v p q. l u v (In-contains a.versions u p) (In-contains b.versions v q))
-    | inr l ↦ inr (λ u v p q. l u v (In-contains b.versions u p) (In-contains a.versions v q))
+    | inl l ↦ inl (λ u v p q k. l u v (In-contains a.versions u p) (In-contains b.versions v q) k)
+    | inr l ↦ inr (λ u v p q k. l u v (In-contains b.versions u p) (In-contains a.versions v q) k)
   ];
   spread = λ a b i j e lt ne. h.spread a b (In-contains ts a i) (In-contains ts b j) e lt ne;
 }
 
-pub ordered_from : (ts : List LiveTable) → Ordered ts → AreOrdered ts
+pub ordered_from : (ts : List LiveTable) → Ordered ts → AreTablesOrdered ts
 ordered_from ts h = record {
   ascending = sorted_from (numbers_of ts) h.sorted;
   levels = λ a b i j lt u v x y k. h.levels a b (contains_In ts a i) (contains_In ts b j) lt u v (contains_In a.versions u x) (contains_In b.versions v y) k;
   layered = λ a b i j x y ne. elim (h.layered a b (contains_In ts a i) (contains_In ts b j) x y ne) [
-    | inl l ↦ inl (λ u v p q. l u v (contains_In a.versions u p) (contains_In b.versions v q))
-    | inr l ↦ inr (λ u v p q. l u v (contains_In b.versions u p) (contains_In a.versions v q))
+    | inl l ↦ inl (λ u v p q k. l u v (contains_In a.versions u p) (contains_In b.versions v q) k)
+    | inr l ↦ inr (λ u v p q k. l u v (contains_In b.versions u p) (contains_In a.versions v q) k)
   ];
   spread = λ a b i j e lt ne. h.spread a b (contains_In ts a i) (contains_In ts b j) e lt ne;
 }

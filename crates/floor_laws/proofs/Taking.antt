@@ -28,7 +28,7 @@ use Rattle.floor_laws.proofs.Told.{told_of}
 
 -- ---- a flush
 
-logged_above : (n : ℕ) (os : List WriteOp) (v : Version) → In v (logged n os) → n ≤ v.seq.0
+pub logged_above : (n : ℕ) (os : List WriteOp) (v : Version) → In v (logged n os) → n ≤ v.seq.0
 logged_above n [] v i = absurd i
 logged_above n (o ∷ os) v (inl q) = let e : n ≡ v.seq.0 = ap (λ (z : Version). z.seq.0) q in omega (arith, e)
 logged_above n (o ∷ os) v (inr i) = let l = logged_above (n + 1) os v i in omega (arith, l)

@@ -10,6 +10,7 @@ use Rattle.ts_key.specs.declared.version.Version.{Version}
 use Rattle.udt_model.specs.declared.line.FamilyHead.{FamilyHead}
 use Rattle.udt_model.specs.declared.reply.KeySpan.{KeySpan}
 use Rattle.udt_model.specs.declared.reply.Reply.{Reply}
+use Rattle.udt_model.specs.declared.reply.Reply.TheVariants.{Done}
 use Rattle.udt_model.specs.Versions.{AreWritten, between, made, newest_of, of_key, up_to}
 use Rattle.udt_model.specs.Reads.{read}
 use Rattle.udt_model.specs.Collecting.{collect, collect_all}
@@ -21,10 +22,12 @@ use Rattle.udt_model.specs.Jobs.{floor_over, in_form, inputs_hold, taken}
 use Rattle.udt_model.specs.Steps.{IsReplyTo, after}
 use Rattle.udt_model.specs.declared.line.Line.{Line}
 use Rattle.udt_model.specs.Histories.{Leads, Point}
+use Rattle.udt_model.specs.Names.{View, given_view}
 use Rattle.udt_model.specs.Entries.{AreEntries, Counts, Entry, after_entry}
 use Rattle.udt_model.specs.Crashes.{Course, IsOutcomeUnder, course_after, course_start, cut_at, settled}
 use Rattle.floor_laws.specs.Sound.{IsSoundCourse, IsSoundOpening, IsSoundState, lists_of}
-use Rattle.floor_laws.specs.Lists.{AreApart, AreAside, AreNewer, AreSame, AreSince, IsNextVersion, IsUpTo}
+use Rattle.floor_laws.specs.Views.{ShowsPin}
+use Rattle.floor_laws.specs.Lists.{HaveOwnSequences, AreAside, AreNewer, AreSame, AreSince, IsNextVersion, IsUpTo}
 
 -- ---- lists that stand for a family's writes
 
@@ -36,7 +39,7 @@ ReadsAsWrites = (family : Family) (form : Form) (vs w : List Version) (floor : T
 -- An operation at or above the floor falls below their newest version of its key where it falls below the writes', and by as much.
 abbrev pub FallsAsWrites : Type 0
 FallsAsWrites = (family : Family) (form : Form) (vs w : List Version) (floor : Ts) (seqs : List Seq) (last : ℕ) (key : List ℕ) (ts : Ts) (k : ℕ)
-    → AreApart w → IsUpTo last w → floor.0 ≤ ts.0 → Stands family form vs w floor seqs → fell k ts (newest_of (of_key vs family key)) ≡ fell k ts (newest_of (of_key w family key))
+    → HaveOwnSequences w → IsUpTo last w → floor.0 ≤ ts.0 → Stands family form vs w floor seqs → fell k ts (newest_of (of_key vs family key)) ≡ fell k ts (newest_of (of_key w family key))
 
 -- they go on standing when the floor is raised
 abbrev pub StandsWhenRaised : Type 0
@@ -51,17 +54,17 @@ StandsWithSnapshots = (family : Family) (form : Form) (vs w : List Version) (flo
 -- when the same versions stand in other places, as behind a seal
 abbrev pub StandsInPlaces : Type 0
 StandsInPlaces = (family : Family) (form : Form) (vs places w : List Version) (floor : Ts) (seqs : List Seq)
-    → AreSame vs places → AreApart places → Stands family form vs w floor seqs → Stands family form places w floor seqs
+    → AreSame vs places → HaveOwnSequences places → Stands family form vs w floor seqs → Stands family form places w floor seqs
 
 -- when a version of the family is written
 abbrev pub StandsWhenWritten : Type 0
 StandsWhenWritten = (form : Form) (vs w : List Version) (floor : Ts) (seqs : List Seq) (v : Version)
-    → AreApart w → IsNextVersion w v → Stands v.family form vs w floor seqs → Stands v.family form (v ∷ vs) (w ++ v ∷ []) floor seqs
+    → HaveOwnSequences w → IsNextVersion w v → Stands v.family form vs w floor seqs → Stands v.family form (v ∷ vs) (w ++ v ∷ []) floor seqs
 
 -- when a version of another one is
 abbrev pub StandsBesideWrites : Type 0
 StandsBesideWrites = (family : Family) (form : Form) (vs w : List Version) (floor : Ts) (seqs : List Seq) (v : Version)
-    → v.family ≢ family → AreApart w → IsNextVersion w v → Stands family form vs w floor seqs → Stands family form vs (w ++ v ∷ []) floor seqs
+    → v.family ≢ family → HaveOwnSequences w → IsNextVersion w v → Stands family form vs w floor seqs → Stands family form vs (w ++ v ∷ []) floor seqs
 
 -- When a part of them is flushed, by the floor and the snapshots of the flush's start, whatever was written and raised since: the part
 -- isn't above the start's sequence, and in a family that strips its timestamps the rest lies aside of it.
@@ -86,11 +89,11 @@ StandsWhenOpened = (family : Family) (form : Form) (tables w : List Version) (fl
 
 abbrev pub CollectsInAnyOrder : Type 0
 CollectsInAnyOrder = (vs ws : List Version) (floor : Ts) (seqs : List Seq) (deeper : List KeySpan)
-    → AreSame vs ws → AreApart vs → AreApart ws → collect vs floor seqs deeper ≡ collect ws floor seqs deeper
+    → AreSame vs ws → HaveOwnSequences vs → HaveOwnSequences ws → collect vs floor seqs deeper ≡ collect ws floor seqs deeper
 
 abbrev pub FlushesInAnyOrder : Type 0
 FlushesInAnyOrder = (form : Form) (vs ws : List Version) (floor : Ts) (seqs : List Seq)
-    → AreSame vs ws → AreApart vs → AreApart ws → in_form form (collect_all vs floor seqs) ≡ in_form form (collect_all ws floor seqs)
+    → AreSame vs ws → HaveOwnSequences vs → HaveOwnSequences ws → in_form form (collect_all vs floor seqs) ≡ in_form form (collect_all ws floor seqs)
 
 abbrev pub RaisesInAnyOrder : Type 0
 RaisesInAnyOrder = (form : Form) (vs ws : List Version) (floor : Ts) → AreSame vs ws → floor_over form floor vs ≡ floor_over form floor ws
@@ -129,6 +132,16 @@ StaysSoundAlongEntries = (m : State) (counts : Counts) (number : ℕ) (entries :
 abbrev pub ReadsSoundly : Type 0
 ReadsSoundly = (m : State) (family : Family) (f : FamilyState) (key : List ℕ) (t : Ts) (snap : Option ℕ)
     → IsSoundState m → family_at m family ≡ Some f → read (lists_of m family f) f.head.floor family key t (sight m snap) ≡ read m.versions f.head.floor family key t (sight m snap)
+
+-- a view of a sound state, as a pin there gives it, shows that state behind every legal transcript
+abbrev pub ShowsPinAlongLines : Type 0
+ShowsPinAlongLines = (old : Point) (lines : List Line) (new : Point) (number : ℕ) (view : View)
+    → IsSoundState old.state → Leads old lines new → given_view old.state number Done ≡ Some view → ShowsPin old.state new.state view
+
+-- and behind every history of the threads
+abbrev pub ShowsPinAlongEntries : Type 0
+ShowsPinAlongEntries = (m : State) (counts : Counts) (number : ℕ) (entries : List Entry) (pin : ℕ) (view : View)
+    → IsSoundState m → AreEntries m counts number entries → given_view m pin Done ≡ Some view → ShowsPin m (state_behind m number entries) view
 
 -- an opened state is sound, and so is one of which nothing is in a table
 abbrev pub OpensSound : Type 0

@@ -1,4 +1,5 @@
 pub mod Tables
 pub mod Sound
+pub mod Views
 pub mod Lists
 pub mod Laws

@@ -27,8 +27,8 @@ pub record AreSame (vs ws : List Version) : Type 0 where
   pub from : All (Contains vs) ws
 
 -- no two versions have one sequence
-abbrev pub AreApart : List Version → Type 0
-AreApart vs = AllPairs (λ (a b : Version). a.seq.0 ≢ b.seq.0) vs
+abbrev pub HaveOwnSequences : List Version → Type 0
+HaveOwnSequences vs = AllPairs (λ (a b : Version). a.seq.0 ≢ b.seq.0) vs
 
 -- the version may be written behind these: its sequence is above theirs, and its timestamp isn't below those of its key
 pub record IsNextVersion (w : List Version) (v : Version) : Type 0 where

@@ -8,7 +8,7 @@ use Rattle.udt_model.specs.Standing.{Stands}
 use Rattle.udt_model.specs.State.{State, FamilyState, LiveTable, family_at, seqs_of}
 use Rattle.udt_model.specs.Running.{RunsRightly}
 use Rattle.udt_model.specs.Crashes.{Course, Failing}
-use Rattle.floor_laws.specs.Tables.{AreOrdered, contents}
+use Rattle.floor_laws.specs.Tables.{AreTablesOrdered, contents}
 
 -- the lists of a family: the versions that are in no table, and what its tables hold
 abbrev pub lists_of : State → Family → FamilyState → List Version
@@ -20,7 +20,7 @@ pub record AreSoundTables (m : State) (family : Family) (f : FamilyState) : Type
   pub through : f.through.0 ≤ m.last.0
   pub stand : Stands family f.head.form (contents f.tables) (up_to f.through.0 m.versions) f.head.floor []
   pub flat : f.head.form ≡ Strip → All (λ (v : Version). v.ts.0 ≡ 0) (contents f.tables)
-  pub ordered : AreOrdered f.tables
+  pub ordered : AreTablesOrdered f.tables
   pub used : All (λ (t : LiveTable). Contains m.used t.number) f.tables
 
 -- the lists of a family stand for its writes, at its floor and with the registered snapshots, and its tables are sound

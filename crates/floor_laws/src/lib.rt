@@ -3,7 +3,7 @@
 #![tactic(auto)]
 
 ghost use Rattle.floor_laws.specs.Laws.{ReadsAsWrites, FallsAsWrites, StandsWhenRaised, StandsWithSnapshots, StandsInPlaces, StandsWhenWritten, StandsBesideWrites, StandsWhenFlushed, StandsWhenCompacted, StandsWhenOpened};
-ghost use Rattle.floor_laws.specs.Laws.{CollectsInAnyOrder, FlushesInAnyOrder, RaisesInAnyOrder, WritesWhatIsAdmitted, StaysSound, StaysSoundAlongLines, StaysSoundAlongEntries, ReadsSoundly, OpensSound, BeginsSound, SettlesSound, CutsSound, CutsNothing, IsFixedByFamilies, CrashesSound, CourseBeginsSound, CourseStaysSound, FlushTakesTheSame, CompactionTakesTheSame};
+ghost use Rattle.floor_laws.specs.Laws.{CollectsInAnyOrder, FlushesInAnyOrder, RaisesInAnyOrder, WritesWhatIsAdmitted, StaysSound, StaysSoundAlongLines, StaysSoundAlongEntries, ReadsSoundly, ShowsPinAlongLines, ShowsPinAlongEntries, OpensSound, BeginsSound, SettlesSound, CutsSound, CutsNothing, IsFixedByFamilies, CrashesSound, CourseBeginsSound, CourseStaysSound, FlushTakesTheSame, CompactionTakesTheSame};
 
 /// Lists that stand for a family's writes answer as the writes: each read, and whether the timestamp of an operation falls.
 pub fn lists_answer()
@@ -45,6 +45,13 @@ pub fn steps_are_sound()
     ensures lines { StaysSoundAlongLines }
     ensures entries { StaysSoundAlongEntries }
     ensures reads { ReadsSoundly }
+{}
+
+/// A view shows the state at its pin, whatever follows: each get in it, also with a snapshot of a later moment, answers what a read of the
+/// lists at the pin does, by the floor of the pin. So it does behind every legal transcript, and behind every history of the threads.
+pub fn views_show_their_pin()
+    ensures lines { ShowsPinAlongLines }
+    ensures entries { ShowsPinAlongEntries }
 {}
 
 /// States that a store begins with, or opens with, are sound, and so are those that a crash may leave of a sound one on its course.
