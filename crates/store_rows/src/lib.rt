@@ -1,4 +1,4 @@
-//! Tests of the public calls of logs, manifests and folders of stores.
+//! Tests of the public calls of log files and manifests.
 #![tactic(auto)]
 
 #[cfg(test)]
