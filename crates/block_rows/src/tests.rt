@@ -58,14 +58,6 @@ fn push(writer: &mut BlockWriter, form: Form, v: &Version) -> Result<(), Fail>
     Ok(())
 }
 
-fn block_of(alloc: Global, form: Form, versions: &[Version]) -> Result<Vec<u8>, Fail> {
-    let mut writer = BlockWriter::new(alloc, form)?;
-    for v in versions {
-        push(&mut writer, form, v)?;
-    }
-    Ok(writer.finish()?)
-}
-
 fn read(alloc: Global, image: &[u8], form: Form) -> Result<Result<Block, BlockFault>, Fail> {
     let image = Bytes::copy_from_slice(alloc, image)?;
     Ok(Block::read(alloc, image, form))
@@ -75,8 +67,9 @@ fn read(alloc: Global, image: &[u8], form: Form) -> Result<Result<Block, BlockFa
 fn one_put_is_34_bytes(rt: HostRuntime) -> Result<(), Fail> {
     let alloc = rt.alloc();
     let a = put(alloc, b"a", 5, 1, b"v")?;
-    let versions = vec![in alloc; a]?;
-    let image = block_of(alloc, Form::Persist, &versions)?;
+    let mut writer = BlockWriter::new(alloc, Form::Persist)?;
+    push(&mut writer, Form::Persist, &a)?;
+    let image = writer.finish()?;
     assert_eq!(rt; image.as_slice(), PUT_OF_A.as_slice());
     Ok(())
 }
