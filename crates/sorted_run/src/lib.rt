@@ -4,6 +4,7 @@
 //! of its key and its value.
 #![tactic(auto)]
 
+mod heads;
 mod merging;
 mod run;
 mod search;
