@@ -379,7 +379,7 @@ fn by_hand(alloc: Global, count: u16) -> Result<Vec<u8>, Fail> {
         ];
         let shared = if i % 16 == 0 { 0 } else { 1 };
         if i % 16 == 0 {
-            restarts.push(image.len() as u32)?;
+            restarts.push(u32::try_from(image.len())?)?;
         }
         put_u16(&mut image, shared)?;
         put_u16(&mut image, 18 - shared)?;
@@ -389,7 +389,7 @@ fn by_hand(alloc: Global, count: u16) -> Result<Vec<u8>, Fail> {
     for at in &restarts {
         put_u32(&mut image, *at)?;
     }
-    put_u32(&mut image, restarts.len() as u32)?;
+    put_u32(&mut image, u32::try_from(restarts.len())?)?;
     Ok(image)
 }
 
