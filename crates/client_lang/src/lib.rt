@@ -7,7 +7,9 @@
 mod command;
 mod grammar;
 mod print;
+mod wrong;
 
 pub use command::Command;
 pub use grammar::{COMMAND_LIMIT, FILE_LIMIT, ReadFault, read_client};
 pub use print::{Word, print_header, print_line, push_line};
+pub use wrong::{Wrong, wrong_with};

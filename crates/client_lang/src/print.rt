@@ -25,9 +25,6 @@ use itoa::Buffer;
 use ts_key::{Form, NoMemory, Op};
 use udt_model::{Event, FamilyHead, Line, Mark, NamedOp, Reply, Stamp, Who};
 
-#[cfg(test)]
-mod tests;
-
 /// A word of a line.
 #[derive(Clone, Copy)]
 pub enum Word<'a> {

@@ -7,7 +7,7 @@ use Rattle.udt_disk.specs.Opens.{Standing}
 use Rattle.udt_disk.specs.OpensFolder.{Holding}
 use Rattle.udt_model.specs.declared.line.FamilyHead.{FamilyHead}
 use Rattle.udt_model.specs.declared.line.Line.{Line}
-use Rattle.udt_model.specs.State.{State}
+use Rattle.udt_model.specs.State.{State, heads_of}
 use Rattle.udt_model.specs.Histories.{Point, Leads, start}
 use Rattle.client_lang.specs.Print.{IsBuiltLine, print_header, print_lines}
 use Rattle.client_runner.specs.Commands.{IsRun}
@@ -15,7 +15,7 @@ use Rattle.client_runner.specs.Ends.{IsEnd, IsInitWork, IsRunLeft, IsRunWork}
 use Rattle.client_runner.specs.Hosts.{IsFileOf, IsFolderOf, StaysElsewhere}
 use Rattle.client_runner.specs.HostRuns.{IsRunFrom, IsStoppedFrom}
 use Rattle.client_runner.specs.Inits.{IsInitLeft}
-use Rattle.client_runner.specs.Left.{Leaves, status_of_lines, tells_fault}
+use Rattle.client_runner.specs.Left.{LeavesByName, status_of_lines, tells_fault}
 use Rattle.client_runner.specs.Ready.{IsMessage, text_of}
 use Rattle.client_runner.specs.Solo.{AreSoundUnless}
 use Rattle.client_runner.specs.Stops.{IsInitStop}
@@ -45,17 +45,17 @@ gave_up Work was failed w = record { meant = statuses.NoMemory; text = []; work 
 
 -- ---- init
 
-pub init_gave_up : (old : Holding) (leaves : Leaves) (before now : ℕ) (families : List FamilyHead) → IsInitWork old old leaves before now families statuses.NoMemory []
+pub init_gave_up : (old : Holding) (leaves : LeavesByName) (before now : ℕ) (families : List FamilyHead) → IsInitWork old old leaves before now families statuses.NoMemory []
 init_gave_up old leaves before now families = inr (record { stop = NoMemory; cause = tt; status_is = refl; text_is = refl; left = inl refl })
 
 -- a folder that is refused was no folder without a store
-refused_unmade : (P : Folder → Type 0) (old new : Holding) (leaves : Leaves) (Q : Folder → Type 0) → ((folder : Folder) → Q folder → ¬ Means folder no_store) → TellsFolder old Q → StaysAsItWas old new leaves → IsUnmadeAt P old new leaves
+refused_unmade : (P : Folder → Type 0) (old new : Holding) (leaves : LeavesByName) (Q : Folder → Type 0) → ((folder : Folder) → Q folder → ¬ Means folder no_store) → TellsFolder old Q → StaysAsItWas old new leaves → IsUnmadeAt P old new leaves
 refused_unmade P None new leaves Q none told stays = tt
 refused_unmade P (Some None) new leaves Q none told stays = absurd told
 refused_unmade P (Some (Some folder)) new leaves Q none told stays = record { none = λ means. absurd (none folder told means); some = λ other. stays }
 
 -- what is left for a stop is left where memory ran out before it was told
-wanted_init : (old new : Holding) (leaves : Leaves) (before now : ℕ) (families : List FamilyHead) (stop : Stop) → IsInitStop old before now stop → IsInitLeft old new leaves before now families stop → IsInitLeft old new leaves before now families NoMemory
+wanted_init : (old new : Holding) (leaves : LeavesByName) (before now : ℕ) (families : List FamilyHead) (stop : Stop) → IsInitStop old before now stop → IsInitLeft old new leaves before now families stop → IsInitLeft old new leaves before now families NoMemory
 wanted_init old new leaves before now families StoreExists cause left =
     inr (inl (refused_unmade (λ folder. Means folder no_store) old new leaves (λ folder. (fold : Folded) × Means folder (store fold)) (λ folder some none. not_store folder some.0 none some.1) cause left))
 wanted_init old new leaves before now families (BadManifest at) cause left =
@@ -65,7 +65,7 @@ wanted_init old new leaves before now families DiskFault cause (inr left) = inr 
 wanted_init old new leaves before now families NoMemory cause left = left
 wanted_init old new leaves before now families stop cause left = absurd cause
 
-pub init_said : (old new : Holding) (leaves : Leaves) (before now : ℕ) (families : List FamilyHead) (stop : Stop) → IsInitStop old before now stop → IsInitLeft old new leaves before now families stop
+pub init_said : (old new : Holding) (leaves : LeavesByName) (before now : ℕ) (families : List FamilyHead) (stop : Stop) → IsInitStop old before now stop → IsInitLeft old new leaves before now families stop
     → (status : Status) (text : List ℕ) → IsMessage [] stop status text → IsInitWork old new leaves before now families status text
 init_said old new leaves before now families stop cause left status text (inl said) = inr (record { stop = stop; cause = cause; status_is = said.0; text_is = said.1; left = left })
 init_said old new leaves before now families stop cause left status text (inr want) =
@@ -73,11 +73,11 @@ init_said old new leaves before now families stop cause left status text (inr wa
 
 -- ---- run
 
-not_opened : {IsAsked : List Command → Type 0} {old new : Holding} {leaves : Leaves} → (new ≡ old) ⊎ StaysAsItWas old new leaves → IsRunLeft IsAsked old new leaves NoMemory
+not_opened : {IsAsked : List Command → Type 0} {old new : Holding} {leaves : LeavesByName} → (new ≡ old) ⊎ StaysAsItWas old new leaves → IsRunLeft IsAsked old new leaves NoMemory
 not_opened (inl same) = inl same
 not_opened (inr was) = inr (inl was)
 
-wanted_left : (IsAsked : List Command → Type 0) (old new : Holding) (leaves : Leaves) (stop : Stop) → IsRunLeft IsAsked old new leaves stop → IsRunLeft IsAsked old new leaves NoMemory
+wanted_left : (IsAsked : List Command → Type 0) (old new : Holding) (leaves : LeavesByName) (stop : Stop) → IsRunLeft IsAsked old new leaves stop → IsRunLeft IsAsked old new leaves NoMemory
 wanted_left IsAsked old new leaves NoStore h = inr (inl h)
 wanted_left IsAsked old new leaves (BadManifest at) h = inr (inl h)
 wanted_left IsAsked old new leaves (BadLog n at) h = inr (inl h)
@@ -91,7 +91,7 @@ wanted_left IsAsked old new leaves TooLong h = not_opened h
 wanted_left IsAsked old new leaves (TooMany n) h = not_opened h
 wanted_left IsAsked old new leaves (BadLine n) h = not_opened h
 
-pub run_said : (standing : Standing) (old new : Holding) (leaves : Leaves) (before now : ℕ) (file : List ℕ) (stop : Stop) → IsStoppedFrom standing old new leaves before now stop
+pub run_said : (standing : Standing) (old new : Holding) (leaves : LeavesByName) (before now : ℕ) (file : List ℕ) (stop : Stop) → IsStoppedFrom standing old new leaves before now stop
     → (status : Status) (text : List ℕ) → IsMessage file stop status text → IsRunWork standing old new leaves before now file status text
 run_said standing old new leaves before now file stop s status text (inl said) = inr (record { stop = stop; cause = s.cause; status_is = said.0; text_is = said.1; left = s.left })
 run_said standing old new leaves before now file stop s status text (inr want) = inr (record { stop = NoMemory; cause = inl tt; status_is = want.0; text_is = want.1; left = wanted_left (Spells standing) old new leaves stop s.left })
@@ -106,7 +106,7 @@ fault_rose before now m lines end status built works legal (inl sound) e fault =
 text_is : (r : Ready) (header : List ℕ) (lines : List Line) → r.buffer.items ≡ header → r.lines.items ≡ lines → text_of r ≡ header ++ print_lines lines
 text_is r header lines h l = ap (λ (t : List ℕ). t ++ print_lines r.lines.items) h ∙ ap (λ (ls : List Line). header ++ print_lines ls) l
 
-pub run_told : (standing : Standing) (old new : Holding) (leaves : Leaves) (before now : ℕ) (file : List ℕ) (r : Ready) (status : Status) → IsRunFrom standing old new leaves before now r → status ≡ status_of_lines r.lines.items
+pub run_told : (standing : Standing) (old new : Holding) (leaves : LeavesByName) (before now : ℕ) (file : List ℕ) (r : Ready) (status : Status) → IsRunFrom standing old new leaves before now r → status ≡ status_of_lines r.lines.items
     → IsRunWork standing old new leaves before now file status (text_of r)
 run_told standing old new leaves before now file r status from e =
     let run = from.run in
@@ -123,7 +123,7 @@ run_told standing old new leaves before now file r status from e =
         spelled = from.read.spelled;
         only = from.read.only;
         history = run.history;
-        printed = text_is r (print_header run.m.last.0 run.m.heads) run.lines run.waits.header_is run.waits.lines_are;
+        printed = text_is r (print_header run.m.last.0 (heads_of run.m)) run.lines run.waits.header_is run.waits.lines_are;
       };
       status_is = lines_are;
       cause = fault_rose before now run.m run.lines run.end status (subst (λ (ls : List Line). All IsBuiltLine ls) run.waits.lines_are run.waits.built) run.works run.history.legal run.sound lines_are;

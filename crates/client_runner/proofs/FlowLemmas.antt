@@ -4,7 +4,7 @@ use Rattle.std.specs.Prelude.{IfSome}
 use Rattle.std.proofs.lemmas.List.{take_rest, take-append-drop, length-append}
 use Rattle.std.specs.Io.KnownBytes.{Appends, Consumes, IsAtEnd, Keeps}
 use Rattle.client_runner.specs.Flows.{AppendsFront}
-use Rattle.udt_disk.specs.Opens.{Standing, Stands, Told}
+use Rattle.udt_disk.specs.Opens.{Standing, IsStanding, Told}
 
 nothing : (n : ℕ) → take n (let none : List ℕ = [] in none) ≡ []
 nothing zero = refl
@@ -44,7 +44,7 @@ consumes_long (Some x) None bs n p lt = absurd p
 consumes_long (Some x) (Some y) bs n p lt = omega (arith, ap length p, length-append bs y)
 
 -- a source that is too long stands there
-pub told_long : (standing : Standing) (left : Option (List ℕ)) (n : ℕ) → Stands standing left → IfSome left (λ bytes. n < length bytes) → Told standing (λ bytes. n < length bytes)
+pub told_long : (standing : Standing) (left : Option (List ℕ)) (n : ℕ) → IsStanding standing left → IfSome left (λ bytes. n < length bytes) → Told standing (λ bytes. n < length bytes)
 told_long None left n p q = tt
 told_long (Some None) left n p q = p
 told_long (Some (Some bytes)) left n p q = rw p at q

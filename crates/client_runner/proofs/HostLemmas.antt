@@ -17,29 +17,32 @@ use Rattle.udt_model.specs.Histories.{Point}
 use Rattle.manifest.specs.Files.{HasFold, IsBadFile}
 use Rattle.manifest.specs.Folders.{Meaning, Means, chosen, chosen_by}
 use Rattle.manifest.specs.Folders.Meaning.{no_store, bad_at, store}
-use Rattle.manifest.specs.Moments.{OnlyLooks}
+use Rattle.udt_disk.specs.Moments.{OnlyReads, alone}
+use Rattle.udt_disk.proofs.Moments.{stands_all, leaves_all}
 use Rattle.wal.specs.Replays.{ReadsAs}
 use Rattle.client_lang.specs.declared.command.Command.{Command}
 use Rattle.client_runner.specs.Ends.{IsRunLeft, Spells}
 use Rattle.client_runner.specs.Inits.{IsInitLeft, stop_of_making}
 use Rattle.client_runner.specs.HostRuns.{IsRunAt, IsRunFrom, IsStoppedAt, IsStoppedFrom}
-use Rattle.client_runner.specs.Left.{Leaves, IsMadeSo, IsMadeAt, IsUnmadeAt, StaysAsItWas, ContinuesFrom, TellsFolder, TellsNoneOr}
-use Rattle.client_runner.specs.MakingStores.{new_state, IsMakingRefusal, IsNoneOrNew, IsClean, MayLeaveFolder, RefusesMaking}
-use Rattle.client_runner.specs.declared.making.InitFault.{InitFault}
-use Rattle.client_runner.specs.declared.making.InitFault.TheVariants as inits
-use Rattle.client_runner.specs.Openings.{IsBadLog, IsBadLogFile, RefusesOpening}
+use Rattle.client_runner.specs.Left.{LeavesByName, IsMadeSo, IsMadeAt, IsUnmadeAt, StaysAsItWas, ContinuesFrom, TellsFolder, TellsNoneOr}
+use Rattle.recovery.specs.Making.{new_state, IsNoneOrNew}
+use Rattle.recovery.specs.Fault.{IsMakingRefusal, RefusesMaking}
+use Rattle.udt_disk.specs.Moments.{IsClean, MayLeaveFolder}
+use Rattle.recovery.specs.declared.fault.InitFault.{InitFault}
+use Rattle.recovery.specs.declared.fault.InitFault.TheVariants as inits
+use Rattle.recovery.specs.Fault.{IsBadLog, IsBadLogFile, RefusesOpening}
 use Rattle.client_runner.specs.Ready.{IsReadAs}
 use Rattle.client_runner.specs.Runs.{KeepsLines, KeepsSome, IsSameFolder, IsRunReady, IsRunRefused, stop_of_opening}
 use Rattle.client_runner.specs.Solo.{AreSoundUnless}
 use Rattle.client_runner.specs.Stops.{IsFileStop, IsOpenStop}
-use Rattle.client_runner.specs.Stores.{FolderStands, sizes_of}
+use Rattle.recovery.specs.Stores.{FolderStands, sizes_of}
 use Rattle.client_runner.specs.declared.output.Ready.{Ready}
-use Rattle.client_runner.specs.declared.recovery.OpenFault.{OpenFault}
-use Rattle.client_runner.specs.declared.recovery.OpenFault.TheVariants as faults
+use Rattle.recovery.specs.declared.fault.OpenFault.{OpenFault}
+use Rattle.recovery.specs.declared.fault.OpenFault.TheVariants as faults
 use Rattle.client_runner.specs.declared.status.Stop.{Stop}
 use Rattle.client_runner.specs.declared.status.Stop.TheVariants as stops
 use Rattle.client_runner.proofs.SoloLemmas.{rose_earlier}
-use Rattle.client_runner.proofs.States.{one_state}
+use Rattle.recovery.proofs.States.{one_state}
 
 -- ---- folders that hold the same under each name
 
@@ -86,7 +89,7 @@ sound_with before opened now start end lines kept is (inr rose) = inr (rose_with
 
 -- A folder was opened, clean and as it stood, or new and empty where there was none and one was asked for; after calls on it, it
 -- was given back.
-pub record IsGivenBack {D F : Type 0} (d : disk.Ghosts D F) (old new : Holding) (leaves : Leaves) (make : Bool) (first last : D) : Type 0 where
+pub record IsGivenBack {D F : Type 0} (d : disk.Ghosts D F) (old new : Holding) (leaves : LeavesByName) (make : Bool) (first last : D) : Type 0 where
   pub gives : GivesFolder old make (d.is_told first) (d.faults first) (d.stands first)
   pub clean : IsClean d first
   pub told : d.is_told last ≡ d.is_told first
@@ -100,7 +103,7 @@ put_back (Some holding) mid new stands out told given = given (ap is_some out)
 
 module _ {D F : Type 0} (d : disk.Ghosts D F) where
   -- so it is where a host opened a folder and took it back
-  pub given_back : (E : Type 0) (old mid : List ℕ → Holding) (new : Holding) (leaves : Leaves) (path : List ℕ) (make place : Bool) (opened : Option D) (first last : D) → opened ≡ Some first
+  pub given_back : (E : Type 0) (old mid : List ℕ → Holding) (new : Holding) (leaves : LeavesByName) (path : List ℕ) (make place : Bool) (opened : Option D) (first last : D) → opened ≡ Some first
       → OpensFolder {D = D} {E = E} d.is_told d.faults d.stands old mid path make (Ok opened) → IfSome opened (λ x. (n : FileName) (c : Image) → d.may_leave x n c → c ≡ d.stands x n) → OnSome opened (IsTrue place) → d.is_told last ≡ d.is_told first
       → (IsTrue place → IsTrue (d.is_told last) → IsSome (mid path) → new ≡ Some (Some (d.stands last))) → (IsTrue place → (n : FileName) → NoMore (d.may_leave last n) (leaves n)) → IsGivenBack d (old path) new leaves make first last
   given_back E old mid new leaves path make place opened first last is opens clean here told stands crash =
@@ -114,7 +117,7 @@ module _ {D F : Type 0} (d : disk.Ghosts D F) where
         crash = crash placed;
       }
 
-  module _ (new : Holding) (leaves : Leaves) (first last : D) where
+  module _ (new : Holding) (leaves : LeavesByName) (first last : D) where
     -- what is true of the folder that was opened is true of the one that stood there
     tells : (P : Folder → Type 0) (old : Holding) → IsGivenBack d old new leaves false first last → ((folder : Folder) → ((n : FileName) → folder n ≡ d.stands first n) → P (d.stands first) → P folder)
         → (IsTrue (d.is_told first) → P (d.stands first)) → TellsFolder old P
@@ -229,7 +232,7 @@ module _ {D F : Type 0} (d : disk.Ghosts D F) where
       -- where there was no store the folder has P, as each that a crash may leave
       unmade_at : (P : Folder → Type 0) (f : file.Ghosts F) (old : Holding) → IsGivenBack d old new leaves true first last → (IsTrue (d.is_told first) → Means (d.stands first) no_store → P (d.stands last))
           → (IsTrue (d.is_told first) → IsClean d first → Means (d.stands first) no_store → (folder : Folder) → MayLeaveFolder d last folder → P folder)
-          → (IsTrue (d.is_told first) → ¬ Means (d.stands first) no_store → OnlyLooks d f first last) → IsUnmadeAt P old new leaves
+          → (IsTrue (d.is_told first) → ¬ Means (d.stands first) no_store → OnlyReads d f (alone first) (alone last)) → IsUnmadeAt P old new leaves
       unmade_at P f None given stopped crash kept = tt
       unmade_at P f (Some None) given stopped crash kept =
           let told = given.gives.1 in
@@ -244,13 +247,13 @@ module _ {D F : Type 0} (d : disk.Ghosts D F) where
                 record {
                   stands = d.stands last;
                   new_is = given.back (subst IsTrue (sym given.told) told) refl;
-                  same = λ n. looks.stands told n ∙ given.gives.1 n;
-                  crash = λ n c left. given.clean n c (looks.no_more n c (given.crash n c left)) ∙ given.gives.1 n;
+                  same = λ n. stands_all d f first last looks told n ∙ given.gives.1 n;
+                  crash = λ n c left. given.clean n c (leaves_all d f first last looks n c (given.crash n c left)) ∙ given.gives.1 n;
                 };
           }
 
       -- a folder that is refused is as it was
-      refused_stays : (f : file.Ghosts F) (old : Holding) → IsGivenBack d old new leaves true first last → (IsTrue (d.is_told first) → d.stands first Made ≢ None) → OnlyLooks d f first last → StaysAsItWas old new leaves
+      refused_stays : (f : file.Ghosts F) (old : Holding) → IsGivenBack d old new leaves true first last → (IsTrue (d.is_told first) → d.stands first Made ≢ None) → OnlyReads d f (alone first) (alone last) → StaysAsItWas old new leaves
       refused_stays f None given made looks = tt
       refused_stays f (Some None) given made looks = absurd (made given.gives.1 (given.gives.3 Made))
       refused_stays f (Some (Some folder)) given made looks =
@@ -258,19 +261,19 @@ module _ {D F : Type 0} (d : disk.Ghosts D F) where
           record {
             stands = d.stands last;
             new_is = given.back (subst IsTrue (sym given.told) told) refl;
-            same = λ n. looks.stands told n ∙ given.gives.1 n;
-            crash = λ n c left. given.clean n c (looks.no_more n c (given.crash n c left)) ∙ given.gives.1 n;
+            same = λ n. stands_all d f first last looks told n ∙ given.gives.1 n;
+            crash = λ n c left. given.clean n c (leaves_all d f first last looks n c (given.crash n c left)) ∙ given.gives.1 n;
           }
 
       -- what `make_store` says where it failed
       pub record IsMakingFailed (f : file.Ghosts F) (fault : InitFault) : Type 0 where
         pub refused : IsTrue (d.is_told first) → RefusesMaking (d.stands first) fault
-        pub looked : IsMakingRefusal fault → OnlyLooks d f first last
+        pub looked : IsMakingRefusal fault → OnlyReads d f (alone first) (alone last)
         pub stopped : IsTrue (d.is_told first) → Means (d.stands first) no_store → IsNoneOrNew families (d.stands last)
         pub stopped_crash : IsTrue (d.is_told first) → IsClean d first → Means (d.stands first) no_store → (folder : Folder) → MayLeaveFolder d last folder → IsNoneOrNew families folder
         pub no_memory : fault ≡ inits.NoMemory → IsTrue (d.is_told first) → Means (d.stands first) no_store → Means (d.stands last) no_store
         pub no_memory_crash : fault ≡ inits.NoMemory → IsTrue (d.is_told first) → IsClean d first → Means (d.stands first) no_store → (folder : Folder) → MayLeaveFolder d last folder → Means folder no_store
-        pub kept : IsTrue (d.is_told first) → ¬ Means (d.stands first) no_store → OnlyLooks d f first last
+        pub kept : IsTrue (d.is_told first) → ¬ Means (d.stands first) no_store → OnlyReads d f (alone first) (alone last)
 
       pub init_left : (f : file.Ghosts F) (old : Holding) (before now : ℕ) (fault : InitFault) → IsGivenBack d old new leaves true first last → IsMakingFailed f fault → IsInitLeft old new leaves before now families (stop_of_making fault)
       init_left f old before now inits.StoreExists given e = refused_stays f old given (λ told. (e.refused told).1.0) (e.looked tt)
@@ -299,7 +302,7 @@ sound_earlier : (first before now : ℕ) (lines : List Line) → first ≤ befor
 sound_earlier first before now lines le (inl sound) = inl sound
 sound_earlier first before now lines le (inr rose) = inr (rose_earlier first before now le rose)
 
-pub run_from : (standing : Standing) (old mid new : Holding) (leaves : Leaves) (first before now : ℕ) (commands : List Command) (r : Ready) → IsReadAs standing commands → mid ≡ old → first ≤ before
+pub run_from : (standing : Standing) (old mid new : Holding) (leaves : LeavesByName) (first before now : ℕ) (commands : List Command) (r : Ready) → IsReadAs standing commands → mid ≡ old → first ≤ before
     → IsRunAt mid new leaves before now commands r → IsRunFrom standing old new leaves first now r
 run_from standing old mid new leaves first before now commands r read same le run = record {
   commands = commands;
@@ -316,13 +319,13 @@ run_from standing old mid new leaves first before now commands r read same le ru
   };
 }
 
-pub stopped_from : (standing : Standing) (old mid new : Holding) (leaves : Leaves) (first before now : ℕ) (commands : List Command) (stop : Stop) → IsReadAs standing commands → mid ≡ old → first ≤ before
+pub stopped_from : (standing : Standing) (old mid new : Holding) (leaves : LeavesByName) (first before now : ℕ) (commands : List Command) (stop : Stop) → IsReadAs standing commands → mid ≡ old → first ≤ before
     → IsStoppedAt mid new leaves before now commands stop → IsStoppedFrom standing old new leaves first now stop
 stopped_from standing old mid new leaves first before now commands stop read same le stopped = record {
   cause = inr (record { bytes = read.bytes; commands = commands; stands = read.stands; spelled = read.spelled }, stop_earlier old first before now stop le (subst (λ (h : Holding). IsOpenStop h before now stop) same stopped.cause));
   left = asked_more (λ asked. asked ≡ commands) (Spells standing) (λ asked is. subst (Spells standing) (sym is) (read.bytes, read.stands, read.spelled)) old new leaves stop (subst (λ (h : Holding). IsRunLeft (λ asked. asked ≡ commands) h new leaves stop) same stopped.left);
 } where
-  asked_more : (P Q : List Command → Type 0) → ((asked : List Command) → P asked → Q asked) → (old new : Holding) (leaves : Leaves) (stop : Stop) → IsRunLeft P old new leaves stop → IsRunLeft Q old new leaves stop
+  asked_more : (P Q : List Command → Type 0) → ((asked : List Command) → P asked → Q asked) → (old new : Holding) (leaves : LeavesByName) (stop : Stop) → IsRunLeft P old new leaves stop → IsRunLeft Q old new leaves stop
   asked_more P Q more old new leaves stops.NoStore h = h
   asked_more P Q more old new leaves (stops.BadManifest at) h = h
   asked_more P Q more old new leaves (stops.BadLog n at) h = h
@@ -340,7 +343,7 @@ stopped_from standing old mid new leaves first before now commands stop read sam
   asked_more P Q more old new leaves (stops.BadLine n) h = h
 
 -- a file that isn't read leaves the folder as it was
-pub file_left : (standing : Standing) (IsAsked : List Command → Type 0) (old new : Holding) (leaves : Leaves) (before now : ℕ) (stop : Stop) → IsFileStop standing before now stop → new ≡ old → IsRunLeft IsAsked old new leaves stop
+pub file_left : (standing : Standing) (IsAsked : List Command → Type 0) (old new : Holding) (leaves : LeavesByName) (before now : ℕ) (stop : Stop) → IsFileStop standing before now stop → new ≡ old → IsRunLeft IsAsked old new leaves stop
 file_left standing IsAsked old new leaves before now stops.NoFile h same = inl same
 file_left standing IsAsked old new leaves before now stops.TooLong h same = inl same
 file_left standing IsAsked old new leaves before now (stops.TooMany n) h same = inl same
@@ -350,7 +353,7 @@ file_left standing IsAsked old new leaves before now stops.NoMemory h same = inl
 file_left standing IsAsked old new leaves before now stop h same = absurd h
 
 -- where no folder stands there, none does behind
-pub missing_stays : (old new : Holding) (leaves : Leaves) → IsNoFolder old → new ≡ old → StaysAsItWas old new leaves
+pub missing_stays : (old new : Holding) (leaves : LeavesByName) → IsNoFolder old → new ≡ old → StaysAsItWas old new leaves
 missing_stays None new leaves none same = tt
 missing_stays (Some None) new leaves none same = same
 missing_stays (Some (Some folder)) new leaves none same = absurd (cc none)

@@ -7,16 +7,16 @@ use Rattle.std.proofs.lemmas.List.{append-nil, append_assoc}
 use Rattle.std.proofs.lemmas.List.Elements.{Contains-append_left, Contains-push}
 use Rattle.udt_disk.specs.Crash.{Image}
 use Rattle.udt_disk.specs.declared.file.DiskFile.{Ghosts}
-use Rattle.udt_disk.proofs.Moments.{started}
+use Rattle.udt_disk.proofs.Runs.{started}
 use Rattle.udt_disk.proofs.Runs.{run_weaker}
-use Rattle.gate_log.specs.Tearing.{Leaves}
+use Rattle.udt_disk.specs.Runs.{Leaves}
 use Rattle.ts_key.specs.declared.version.Version.{Version}
 use Rattle.udt_model.specs.declared.event.Event.{Event}
 use Rattle.udt_model.specs.declared.event.Event.TheVariants.{Write, Sync}
 use Rattle.udt_model.specs.declared.event.NamedOp.{NamedOp}
 use Rattle.udt_model.specs.declared.reply.Reply.{Reply}
 use Rattle.udt_model.specs.declared.reply.Reply.TheVariants.{OkAt, Fault, Done}
-use Rattle.udt_model.specs.State.{State}
+use Rattle.udt_model.specs.State.{State, heads_of}
 use Rattle.client_runner.specs.Named.{made}
 use Rattle.udt_model.specs.Crashes.{Course, Failing, IsOutcome, course_start, cut_at, settled}
 use Rattle.udt_model.specs.Acts.Act.{write}
@@ -27,16 +27,16 @@ use Rattle.client_runner.proofs.Naming.{same_made}
 use Rattle.wal.specs.declared.numbered.Numbered.{Numbered}
 use Rattle.wal.specs.declared.wal.Wal.{Wal}
 use Rattle.wal.specs.Replays.{ReadsAs, IsBeforeOrAfter}
-use Rattle.wal.specs.Wals.{Holds, file_of, sizes_of}
+use Rattle.wal.specs.Wals.{Holds, wal_file, wal_sizes}
 use Rattle.wal.proofs.WalLemmas.{images_read}
 use Rattle.manifest.specs.declared.fold.Folded.{Folded}
 use Rattle.gate_log.specs.declared.fault.LogFault.TheVariants.{DiskFault}
 use Rattle.client_runner.specs.Keeping.{IsLive, Keeps, ReadsAsOutcome}
 use Rattle.client_runner.specs.Logging.{HoldsLogged, IsLogged}
 use Rattle.client_runner.specs.LoggedStores.{KeepsOn}
-use Rattle.client_runner.specs.Stores.{last_of, state_of}
-use Rattle.client_runner.specs.Stores as stores
-use Rattle.client_runner.proofs.VersionLemmas.{Above, above_behind, cut_state, last_append, last_behind, last_up, length-made, numbered_of, state_more, wal_above, whole_state}
+use Rattle.recovery.specs.Stores.{last_of, state_of}
+use Rattle.recovery.specs.Stores as stores
+use Rattle.client_runner.proofs.VersionLemmas.{Above, above_behind, cut_state, last_append, last_behind, last_up, length-made, numbered_of, settled_state, state_more, wal_above, whole_state}
 
 -- the state after a write that was taken
 abbrev pub taken : State → List NamedOp → State
@@ -51,7 +51,7 @@ abbrev pub course_taken : State → Course → List NamedOp → Bool → Course
 course_taken m c os sync = record c { ends = c.ends ++ (m.last.0 + length os) ∷ []; synced = if sync then m.last.0 + length os else c.synced }
 
 abbrev pub course_failed : State → ℕ → Course → List NamedOp → Bool → Course
-course_failed m number c os sync = record c { failing = Some (record { state = m; number = number; act = write (map (named_op m.heads) os) sync }) }
+course_failed m number c os sync = record c { failing = Some (record { state = m; number = number; act = write (map (named_op (heads_of m)) os) sync }) }
 
 synced_within : (sync : Bool) (before last : ℕ) → before ≤ last → (if sync then last else before) ≤ last
 synced_within true before last le = omega arith
@@ -83,7 +83,7 @@ module _ {F : Type 0} (g : Ghosts F) where
       inl (last_of fold.last.0 live.batches, live.here, live.synced, live_cut_is fold wal m c zero live)
 
   -- an image with the batches that don't wait
-  before_outcome : (fold : Folded) (wal : Wal F g) (m : State) (c : Course) → fold.last.0 ≡ 0 → stores.sizes_of fold ≡ sizes_of wal → (live : IsLive g fold wal m c) (image : Image) → ReadsAs (sizes_of wal) live.batches image → ReadsAsOutcome fold m c image
+  before_outcome : (fold : Folded) (wal : Wal F g) (m : State) (c : Course) → fold.last.0 ≡ 0 → stores.sizes_of fold ≡ wal_sizes wal → (live : IsLive g fold wal m c) (image : Image) → ReadsAs (wal_sizes wal) live.batches image → ReadsAsOutcome fold m c image
   before_outcome fold wal m c zero sizes live image reads = record {
     batches = live.batches;
     reads = subst (λ (s : List ℕ). ReadsAs s live.batches image) (sym sizes) reads;
@@ -91,7 +91,7 @@ module _ {F : Type 0} (g : Ghosts F) where
   }
 
   -- an image with all batches
-  all_outcome : (fold : Folded) (wal : Wal F g) (m : State) (c : Course) → fold.last.0 ≡ 0 → stores.sizes_of fold ≡ sizes_of wal → (live : IsLive g fold wal m c) (image : Image) → ReadsAs (sizes_of wal) (live.batches ++ live.waiting) image → ReadsAsOutcome fold m c image
+  all_outcome : (fold : Folded) (wal : Wal F g) (m : State) (c : Course) → fold.last.0 ≡ 0 → stores.sizes_of fold ≡ wal_sizes wal → (live : IsLive g fold wal m c) (image : Image) → ReadsAs (wal_sizes wal) (live.batches ++ live.waiting) image → ReadsAsOutcome fold m c image
   all_outcome fold wal m c zero sizes live image reads =
       let all : List Numbered = live.batches ++ live.waiting in
       let whole : state_of fold all ≡ cut_at m m.last.0 =
@@ -103,12 +103,12 @@ module _ {F : Type 0} (g : Ghosts F) where
         outcome = inl (m.last.0, live.all, omega (arith, live.synced, live_up fold wal m c zero live), whole);
       }
 
-  either_outcome : (fold : Folded) (wal : Wal F g) (m : State) (c : Course) → fold.last.0 ≡ 0 → stores.sizes_of fold ≡ sizes_of wal → (live : IsLive g fold wal m c) (image : Image) → IsBeforeOrAfter (sizes_of wal) live.batches live.waiting image → ReadsAsOutcome fold m c image
+  either_outcome : (fold : Folded) (wal : Wal F g) (m : State) (c : Course) → fold.last.0 ≡ 0 → stores.sizes_of fold ≡ wal_sizes wal → (live : IsLive g fold wal m c) (image : Image) → IsBeforeOrAfter (wal_sizes wal) live.batches live.waiting image → ReadsAsOutcome fold m c image
   either_outcome fold wal m c zero sizes live image reads =
       ⊎_elim (λ before. before_outcome fold wal m c zero sizes live image before) (λ all. all_outcome fold wal m c zero sizes live image all) reads
 
   -- while the log goes with the state, what a crash leaves is an outcome
-  pub live_keeps : (fold : Folded) (wal : Wal F g) (m : State) (c : Course) → fold.last.0 ≡ 0 → stores.sizes_of fold ≡ sizes_of wal → IsLive g fold wal m c → Keeps g fold wal m c
+  pub live_keeps : (fold : Folded) (wal : Wal F g) (m : State) (c : Course) → fold.last.0 ≡ 0 → stores.sizes_of fold ≡ wal_sizes wal → IsLive g fold wal m c → Keeps g fold wal m c
   live_keeps fold wal m c zero sizes live = record {
     live = λ works. live;
     outcomes = λ image left. before_outcome fold wal m c zero sizes live image (images_read g wal live.batches live.waiting live.holds image left);
@@ -117,7 +117,7 @@ module _ {F : Type 0} (g : Ghosts F) where
   -- ---- nothing is written
 
   -- the file is as it was, and the log holds what it held
-  pub same_keeps : (fold : Folded) (old new : Wal F g) (m : State) (c : Course) → file_of new ≡ file_of old → ((bs ws : List Numbered) → Holds g old bs ws → Holds g new bs ws) → Keeps g fold old m c → Keeps g fold new m c
+  pub same_keeps : (fold : Folded) (old new : Wal F g) (m : State) (c : Course) → wal_file new ≡ wal_file old → ((bs ws : List Numbered) → Holds g old bs ws → Holds g new bs ws) → Keeps g fold old m c → Keeps g fold new m c
   same_keeps fold old new m c file holds keeps = record {
     live = λ works.
         let live = keeps.live works in
@@ -126,16 +126,16 @@ module _ {F : Type 0} (g : Ghosts F) where
   }
 
   -- no call is made on the file
-  pub same_moments : ((x : F) (image : Image) → g.left_since x (g.moment x) image → g.may_leave x image) → (fold : Folded) (old new : Wal F g) (m n : State) (c d : Course) → file_of new ≡ file_of old → Keeps g fold old m c
-      → Leaves g (file_of old) (file_of new) (λ image. ReadsAsOutcome fold m c image ⊎ ReadsAsOutcome fold n d image)
+  pub same_moments : ((x : F) (image : Image) → g.left_since x (g.moment x) image → g.may_leave x image) → (fold : Folded) (old new : Wal F g) (m n : State) (c d : Course) → wal_file new ≡ wal_file old → Keeps g fold old m c
+      → Leaves g (wal_file old) (wal_file new) (λ image. ReadsAsOutcome fold m c image ⊎ ReadsAsOutcome fold n d image)
   same_moments only_now fold old new m n c d file keeps =
       let P : Image → Type 0 = λ image. ReadsAsOutcome fold m c image ⊎ ReadsAsOutcome fold n d image in
-      subst (λ (x : F). Leaves g (file_of old) x P) (sym file) (started g (file_of old) P (λ image left. inl (keeps.outcomes image left)) (λ image left. only_now (file_of old) image left))
+      subst (λ (x : F). Leaves g (wal_file old) x P) (sym file) (started g (wal_file old) P (λ image left. inl (keeps.outcomes image left)) (λ image left. only_now (wal_file old) image left))
 
   -- ---- syncs
 
   -- all is on the disk
-  pub sync_keeps : (fold : Folded) (old new : Wal F g) (m : State) (c : Course) → fold.last.0 ≡ 0 → stores.sizes_of fold ≡ sizes_of old → sizes_of new ≡ sizes_of old → m.halted ≡ None
+  pub sync_keeps : (fold : Folded) (old new : Wal F g) (m : State) (c : Course) → fold.last.0 ≡ 0 → stores.sizes_of fold ≡ wal_sizes old → wal_sizes new ≡ wal_sizes old → m.halted ≡ None
       → ((bs ws : List Numbered) → Holds g old bs ws → Holds g new (bs ++ ws) []) → Keeps g fold old m c → Keeps g fold new m (record c { synced = m.last.0 })
   sync_keeps fold old new m c zero sizes same works holds keeps =
       let live = keeps.live works in
@@ -152,20 +152,20 @@ module _ {F : Type 0} (g : Ghosts F) where
         synced = omega (arith, last);
       })
 
-  pub sync_moments : (fold : Folded) (old new : Wal F g) (m n : State) (c d : Course) → fold.last.0 ≡ 0 → stores.sizes_of fold ≡ sizes_of old → m.halted ≡ None
-      → ((bs ws : List Numbered) → Holds g old bs ws → Leaves g (file_of old) (file_of new) (IsBeforeOrAfter (sizes_of old) bs ws)) → Keeps g fold old m c
-      → Leaves g (file_of old) (file_of new) (λ image. ReadsAsOutcome fold m c image ⊎ ReadsAsOutcome fold n d image)
+  pub sync_moments : (fold : Folded) (old new : Wal F g) (m n : State) (c d : Course) → fold.last.0 ≡ 0 → stores.sizes_of fold ≡ wal_sizes old → m.halted ≡ None
+      → ((bs ws : List Numbered) → Holds g old bs ws → Leaves g (wal_file old) (wal_file new) (IsBeforeOrAfter (wal_sizes old) bs ws)) → Keeps g fold old m c
+      → Leaves g (wal_file old) (wal_file new) (λ image. ReadsAsOutcome fold m c image ⊎ ReadsAsOutcome fold n d image)
   sync_moments fold old new m n c d zero sizes works run keeps =
       let live = keeps.live works in
-      run_weaker g (file_of old) (file_of new) (IsBeforeOrAfter (sizes_of old) live.batches live.waiting) (λ image. ReadsAsOutcome fold m c image ⊎ ReadsAsOutcome fold n d image)
+      run_weaker g (wal_file old) (wal_file new) (IsBeforeOrAfter (wal_sizes old) live.batches live.waiting) (λ image. ReadsAsOutcome fold m c image ⊎ ReadsAsOutcome fold n d image)
       (λ image reads. inl (either_outcome fold old m c zero sizes live image reads)) (run live.batches live.waiting live.holds)
 
   halted_reads : (fold : Folded) (m : State) (number : ℕ) (c : Course) (image : Image) → ReadsAsOutcome fold m c image → ReadsAsOutcome fold (halted_at m number) c image
   halted_reads fold m number c image r = record { batches = r.batches; reads = r.reads; outcome = outcome_halted m number c (state_of fold r.batches) r.outcome }
 
   -- the disk failed under a sync
-  pub sync_fails : (fold : Folded) (old new : Wal F g) (m : State) (number : ℕ) (c : Course) → fold.last.0 ≡ 0 → stores.sizes_of fold ≡ sizes_of old → m.halted ≡ None
-      → ((bs ws : List Numbered) → Holds g old bs ws → Leaves g (file_of old) (file_of new) (IsBeforeOrAfter (sizes_of old) bs ws)) → Keeps g fold old m c → Keeps g fold new (halted_at m number) c
+  pub sync_fails : (fold : Folded) (old new : Wal F g) (m : State) (number : ℕ) (c : Course) → fold.last.0 ≡ 0 → stores.sizes_of fold ≡ wal_sizes old → m.halted ≡ None
+      → ((bs ws : List Numbered) → Holds g old bs ws → Leaves g (wal_file old) (wal_file new) (IsBeforeOrAfter (wal_sizes old) bs ws)) → Keeps g fold old m c → Keeps g fold new (halted_at m number) c
   sync_fails fold old new m number c zero sizes works run keeps =
       let live = keeps.live works in
       record {
@@ -230,22 +230,23 @@ module _ {F : Type 0} (g : Ghosts F) where
         let live = keeps.live works in
         let all : List Numbered = live.batches ++ (live.waiting ++ numbered_of m os ∷ []) in
         let next = taken_live fold old new m os sync c zero works live (logged.holds live.batches live.waiting live.holds) in
-        run_weaker g (file_of old) (file_of new) (IsBeforeOrAfter (sizes_of old) live.batches (live.waiting ++ numbered_of m os ∷ [])) (λ image. ReadsAsOutcome fold m c image ⊎ ReadsAsOutcome fold (taken m os) (course_taken m c os sync) image)
+        run_weaker g (wal_file old) (wal_file new) (IsBeforeOrAfter (wal_sizes old) live.batches (live.waiting ++ numbered_of m os ∷ [])) (λ image. ReadsAsOutcome fold m c image ⊎ ReadsAsOutcome fold (taken m os) (course_taken m c os sync) image)
         (λ image reads. ⊎_elim (λ before. inl (before_outcome fold old m c zero sizes live image before))
-        (λ after. inr (all_outcome fold new (taken m os) (course_taken m c os sync) zero (sizes ∙ sym logged.sizes) next.0 image (subst (λ (s : List ℕ). ReadsAs s (next.0.batches ++ next.0.waiting) image) (sym logged.sizes) (subst (λ (bs : List Numbered). ReadsAs (sizes_of old) bs image) (sym next.1) after)))) reads)
+        (λ after. inr (all_outcome fold new (taken m os) (course_taken m c os sync) zero (sizes ∙ sym logged.sizes) next.0 image (subst (λ (s : List ℕ). ReadsAs s (next.0.batches ++ next.0.waiting) image) (sym logged.sizes) (subst (λ (bs : List Numbered). ReadsAs (wal_sizes old) bs image) (sym next.1) after)))) reads)
         (logged.moments live.batches live.waiting live.holds);
   }
 
   -- the disk failed under a write: a crash leaves all before it, or it too
-  failed_outcome : (fold : Folded) (old : Wal F g) (m : State) (number : ℕ) (os : List NamedOp) (sync : Bool) (c : Course) → OkAt (m.last.0 + length os) ≡ act_admitted m (map (named_op m.heads) os) → fold.last.0 ≡ 0 → stores.sizes_of fold ≡ sizes_of old → (live : IsLive g fold old m c) (image : Image)
-      → IsBeforeOrAfter (sizes_of old) live.batches (live.waiting ++ numbered_of m os ∷ []) image → ReadsAsOutcome fold (halted_at m number) (course_failed m number c os sync) image
+  failed_outcome : (fold : Folded) (old : Wal F g) (m : State) (number : ℕ) (os : List NamedOp) (sync : Bool) (c : Course) → OkAt (m.last.0 + length os) ≡ act_admitted m (map (named_op (heads_of m)) os) → fold.last.0 ≡ 0 → stores.sizes_of fold ≡ wal_sizes old → (live : IsLive g fold old m c) (image : Image)
+      → IsBeforeOrAfter (wal_sizes old) live.batches (live.waiting ++ numbered_of m os ∷ []) image → ReadsAsOutcome fold (halted_at m number) (course_failed m number c os sync) image
   failed_outcome fold old m number os sync c told zero sizes live image (inl before) =
       record { batches = live.batches; reads = subst (λ (s : List ℕ). ReadsAs s live.batches image) (sym sizes) before; outcome = inl (last_of fold.last.0 live.batches, live.here, live.synced, live_cut_is fold old m c zero live) }
   failed_outcome fold old m number os sync c told zero sizes live image (inr all_of) =
       let n : Numbered = numbered_of m os in
       let all : List Numbered = live.batches ++ (live.waiting ++ n ∷ []) in
-      let state : state_of fold all ≡ settled (after_act m number (write (map (named_op m.heads) os) sync) (OkAt (m.last.0 + length os))) =
+      let state : state_of fold all ≡ settled (after_act m number (write (map (named_op (heads_of m)) os) sync) (OkAt (m.last.0 + length os))) =
       ap (state_of fold) (sym (append_assoc live.batches live.waiting (n ∷ [])))
+      ∙ sym (settled_state fold ((live.batches ++ live.waiting) ++ n ∷ []))
       ∙ ap settled (sym (state_more fold m (live.batches ++ live.waiting) os live.state_is))
       ∙ ap (λ (vs : List Version). let s : State = record m { versions = m.versions ++ vs; last = record { 0 = m.last.0 + length os } } in settled s) (sym (same_made m os m.last.0)) in
       record {
@@ -254,7 +255,7 @@ module _ {F : Type 0} (g : Ghosts F) where
         outcome = inr (OkAt (m.last.0 + length os), told, refl, state);
       }
 
-  pub write_fails : (old new : Wal F g) (m : State) (number : ℕ) (os : List NamedOp) (sync : Bool) → m.halted ≡ None → OkAt (m.last.0 + length os) ≡ act_admitted m (map (named_op m.heads) os) → IsLogged g old new (numbered_of m os) sync (Err DiskFault) → KeepsOn g old new m (halted_at m number) number (Write os sync) Fault
+  pub write_fails : (old new : Wal F g) (m : State) (number : ℕ) (os : List NamedOp) (sync : Bool) → m.halted ≡ None → OkAt (m.last.0 + length os) ≡ act_admitted m (map (named_op (heads_of m)) os) → IsLogged g old new (numbered_of m os) sync (Err DiskFault) → KeepsOn g old new m (halted_at m number) number (Write os sync) Fault
   write_fails old new m number os sync works told logged = record {
     keeps = λ fold c zero sizes keeps.
         let live = keeps.live works in
@@ -264,28 +265,28 @@ module _ {F : Type 0} (g : Ghosts F) where
         };
     moments = λ fold c zero sizes keeps.
         let live = keeps.live works in
-        run_weaker g (file_of old) (file_of new) (IsBeforeOrAfter (sizes_of old) live.batches (live.waiting ++ numbered_of m os ∷ [])) (λ image. ReadsAsOutcome fold m c image ⊎ ReadsAsOutcome fold (halted_at m number) (course_failed m number c os sync) image)
+        run_weaker g (wal_file old) (wal_file new) (IsBeforeOrAfter (wal_sizes old) live.batches (live.waiting ++ numbered_of m os ∷ [])) (λ image. ReadsAsOutcome fold m c image ⊎ ReadsAsOutcome fold (halted_at m number) (course_failed m number c os sync) image)
         (λ image reads. inr (failed_outcome fold old m number os sync c told zero sizes live image reads)) (logged.moments live.batches live.waiting live.holds);
   }
 
   -- ---- events that leave the state
 
   pub still_on : ((x : F) (image : Image) → g.left_since x (g.moment x) image → g.may_leave x image) → (old new : Wal F g) (m : State) (number : ℕ) (event : Event) (reply : Reply) → ((c : Course) → course_after m number c event reply ≡ c)
-      → file_of new ≡ file_of old → ((bs ws : List Numbered) → Holds g old bs ws → Holds g new bs ws) → KeepsOn g old new m m number event reply
+      → wal_file new ≡ wal_file old → ((bs ws : List Numbered) → Holds g old bs ws → Holds g new bs ws) → KeepsOn g old new m m number event reply
   still_on only_now old new m number event reply course file holds = record {
     keeps = λ fold c zero sizes keeps. subst (Keeps g fold new m) (sym (course c)) (same_keeps fold old new m c file holds keeps);
     moments = λ fold c zero sizes keeps. same_moments only_now fold old new m m c (course_after m number c event reply) file keeps;
   }
 
-  pub sync_on : (old new : Wal F g) (m : State) (number : ℕ) → m.halted ≡ None → sizes_of new ≡ sizes_of old → ((bs ws : List Numbered) → Holds g old bs ws → Holds g new (bs ++ ws) [])
-      → ((bs ws : List Numbered) → Holds g old bs ws → Leaves g (file_of old) (file_of new) (IsBeforeOrAfter (sizes_of old) bs ws)) → KeepsOn g old new m m number Sync Done
+  pub sync_on : (old new : Wal F g) (m : State) (number : ℕ) → m.halted ≡ None → wal_sizes new ≡ wal_sizes old → ((bs ws : List Numbered) → Holds g old bs ws → Holds g new (bs ++ ws) [])
+      → ((bs ws : List Numbered) → Holds g old bs ws → Leaves g (wal_file old) (wal_file new) (IsBeforeOrAfter (wal_sizes old) bs ws)) → KeepsOn g old new m m number Sync Done
   sync_on old new m number works same holds run = record {
     keeps = λ fold c zero sizes keeps. sync_keeps fold old new m c zero sizes same works holds keeps;
     moments = λ fold c zero sizes keeps. sync_moments fold old new m m c (record c { synced = m.last.0 }) zero sizes works run keeps;
   }
 
   pub sync_fails_on : (old new : Wal F g) (m : State) (number : ℕ) → m.halted ≡ None
-      → ((bs ws : List Numbered) → Holds g old bs ws → Leaves g (file_of old) (file_of new) (IsBeforeOrAfter (sizes_of old) bs ws)) → KeepsOn g old new m (halted_at m number) number Sync Fault
+      → ((bs ws : List Numbered) → Holds g old bs ws → Leaves g (wal_file old) (wal_file new) (IsBeforeOrAfter (wal_sizes old) bs ws)) → KeepsOn g old new m (halted_at m number) number Sync Fault
   sync_fails_on old new m number works run = record {
     keeps = λ fold c zero sizes keeps. sync_fails fold old new m number c zero sizes works run keeps;
     moments = λ fold c zero sizes keeps. sync_moments fold old new m (halted_at m number) c c zero sizes works run keeps;
@@ -294,7 +295,7 @@ module _ {F : Type 0} (g : Ghosts F) where
   -- ---- at the opening, and at the end
 
   -- a log that was read at rest keeps the history that begins there
-  pub opens_kept : (fold : Folded) (wal : Wal F g) (batches : List Numbered) (m : State) → Holds g wal batches [] → sizes_of wal ≡ stores.sizes_of fold → m ≡ state_of fold batches → Keeps g fold wal m (course_start m)
+  pub opens_kept : (fold : Folded) (wal : Wal F g) (batches : List Numbered) (m : State) → Holds g wal batches [] → wal_sizes wal ≡ stores.sizes_of fold → m ≡ state_of fold batches → Keeps g fold wal m (course_start m)
   opens_kept fold wal batches m holds sizes is =
       let last : m.last.0 ≡ last_of fold.last.0 batches = ap (λ (s : State). s.last.0) is in
       let above : Above 0 batches = subst (Above 0) (append-nil batches) (wal_above g wal batches [] holds.shown) in

@@ -2,12 +2,12 @@
 use Rattle.std.proofs.Common.{◌≡◌, inr, ℕ, Bool, true, false, List, [], ◌∷◌, ◌++◌, subst}
 use Rattle.std.specs.Prelude.{Ok}
 use Rattle.udt_disk.specs.declared.file.DiskFile.{Ghosts}
-use Rattle.gate_log.specs.Outcomes.{IsSameFile}
-use Rattle.gate_log.specs.Tearing.{Leaves}
+use Rattle.udt_disk.specs.Runs.{IsSameFile}
+use Rattle.udt_disk.specs.Runs.{Leaves}
 use Rattle.wal.specs.declared.numbered.Numbered.{Numbered}
 use Rattle.wal.specs.declared.wal.Wal.{Wal}
 use Rattle.wal.specs.Replays.{IsBeforeOrAfter}
-use Rattle.wal.specs.Wals.{Holds, file_of, sizes_of}
+use Rattle.wal.specs.Wals.{Holds, wal_file, wal_sizes}
 use Rattle.client_runner.specs.Logging.{HoldsLogged}
 
 module _ {F : Type 0} (g : Ghosts F) where
@@ -17,9 +17,9 @@ module _ {F : Type 0} (g : Ghosts F) where
   holds_synced wal bs ws n false holds = inr holds
 
   -- a run of calls from the same file
-  pub run_from : (old mid : Wal F g) (new : F) (bs ws : List Numbered) → file_of mid ≡ file_of old → sizes_of mid ≡ sizes_of old → Leaves g (file_of mid) new (IsBeforeOrAfter (sizes_of mid) bs ws) → Leaves g (file_of old) new (IsBeforeOrAfter (sizes_of old) bs ws)
+  pub run_from : (old mid : Wal F g) (new : F) (bs ws : List Numbered) → wal_file mid ≡ wal_file old → wal_sizes mid ≡ wal_sizes old → Leaves g (wal_file mid) new (IsBeforeOrAfter (wal_sizes mid) bs ws) → Leaves g (wal_file old) new (IsBeforeOrAfter (wal_sizes old) bs ws)
   run_from old mid new bs ws file sizes run =
-      subst (λ (x : F). Leaves g x new (IsBeforeOrAfter (sizes_of old) bs ws)) file (subst (λ (s : List ℕ). Leaves g (file_of mid) new (IsBeforeOrAfter s bs ws)) sizes run)
+      subst (λ (x : F). Leaves g x new (IsBeforeOrAfter (wal_sizes old) bs ws)) file (subst (λ (s : List ℕ). Leaves g (wal_file mid) new (IsBeforeOrAfter s bs ws)) sizes run)
 
   pub same_from : (old mid new : F) → mid ≡ old → IsSameFile g mid new → IsSameFile g old new
   same_from old mid new is same = subst (λ (x : F). IsSameFile g x new) is same

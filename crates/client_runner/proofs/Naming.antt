@@ -18,7 +18,8 @@ use Rattle.udt_model.specs.declared.place.Place.{Place}
 use Rattle.udt_model.specs.declared.reply.Reply.{Reply}
 use Rattle.udt_model.specs.declared.reply.Reply.TheVariants.{OkAt, Below, Fell, Full, Halted, Fault, Done}
 use Rattle.udt_model.specs.Versions.{newest_of, of_key}
-use Rattle.udt_model.specs.State.{State, place_at, family_of as family_named}
+use Rattle.udt_model.specs.Versions as versions
+use Rattle.udt_model.specs.State.{State, place_at, family_of as family_named, heads_of}
 use Rattle.udt_model.specs.Acts.Act.{write}
 use Rattle.udt_model.specs.Refusals as refusals
 use Rattle.udt_model.specs.Refusals.{◌or_else◌, ◌otherwise◌, unknown_place, fell, halt}
@@ -32,9 +33,9 @@ use Rattle.client_runner.specs.Expand.{held_after, held_behind}
 use Rattle.client_runner.specs.Named as named
 
 abbrev pub ops_of : State → List NamedOp → List WriteOp
-ops_of m os = map (op_of m.heads) os
+ops_of m os = map (op_of (heads_of m)) os
 
-same_place : (m : State) (name : List ℕ) → place_at m (family_named m.heads name) ≡ named.place_of m name
+same_place : (m : State) (name : List ℕ) → place_at m (family_named (heads_of m) name) ≡ named.place_of m name
 same_place m name = place_of_name m name
 
 same_or : (a b c d : Option Reply) → a ≡ b → c ≡ d → (a or_else c) ≡ (b or_else d)
@@ -43,7 +44,7 @@ same_or a b c d p q = rw (p, q) refl
 same_unknown : (m : State) (os : List NamedOp) → refusals.unknown m (ops_of m os) ≡ named.unknown m os
 same_unknown m [] = refl
 same_unknown m (o ∷ os) =
-    same_or (unknown_place (place_at m (family_named m.heads o.family))) (unknown_place (named.place_of m o.family)) (refusals.unknown m (ops_of m os)) (named.unknown m os)
+    same_or (unknown_place (place_at m (family_named (heads_of m) o.family))) (unknown_place (named.place_of m o.family)) (refusals.unknown m (ops_of m os)) (named.unknown m os)
     (ap unknown_place (same_place m o.family)) (same_unknown m os)
 
 same_op : (w : List Version) (k : ℕ) (p : Option Place) (heads : List FamilyHead) (o : NamedOp) → refusals.op_refusal w k p (op_of heads o) ≡ named.refusal w k p o
@@ -53,12 +54,12 @@ same_op w k (Some p) heads o = refl
 same_refused : (m : State) (os : List NamedOp) (w : List Version) (n k : ℕ) → refusals.refused m w n k (ops_of m os) ≡ named.refused m w n k os
 same_refused m [] w n k = refl
 same_refused m (o ∷ os) w n k =
-    same_or (refusals.op_refusal w k (place_at m (family_named m.heads o.family)) (op_of m.heads o)) (named.refusal w k (named.place_of m o.family) o) _ _
-    (ap (λ (p : Option Place). refusals.op_refusal w k p (op_of m.heads o)) (same_place m o.family) ∙ same_op w k (named.place_of m o.family) m.heads o)
+    same_or (refusals.op_refusal w k (place_at m (family_named (heads_of m) o.family)) (op_of (heads_of m) o)) (named.refusal w k (named.place_of m o.family) o) _ _
+    (ap (λ (p : Option Place). refusals.op_refusal w k p (op_of (heads_of m) o)) (same_place m o.family) ∙ same_op w k (named.place_of m o.family) (heads_of m) o)
     (same_refused m os (w ++ named.version_of (named.family_of m o) o (n + 1) ∷ []) (n + 1) (k + 1))
 
 same_full : (m : State) (os : List NamedOp) → refusals.full m (ops_of m os) ≡ named.full m os
-same_full m os = ap (λ (k : ℕ). if nat_lt (2 ^ 56 - 1) (m.last.0 + k) then Some (Full m.last) else None) (length-map os (op_of m.heads))
+same_full m os = ap (λ (k : ℕ). if nat_lt (2 ^ 56 - 1) (m.last.0 + k) then Some (Full m.last) else None) (length-map os (op_of (heads_of m)))
 
 -- the refusal of a write
 abbrev pub named_refusal : State → List NamedOp → Option Reply
@@ -76,10 +77,10 @@ same_unless (Some r) b k n e same = ap (named.accepted_unless n) e
 
 -- the reply to a write is the same
 pub same_admitted : (m : State) (os : List NamedOp) → steps.admitted m (ops_of m os) ≡ named.admitted m os
-same_admitted m os = same_unless (refusals.refusal m (write (ops_of m os) false)) (named_refusal m os) (m.last.0 + length (ops_of m os)) (m.last.0 + length os) (same_refusal m os false) (ap (λ (k : ℕ). m.last.0 + k) (length-map os (op_of m.heads)))
+same_admitted m os = same_unless (refusals.refusal m (write (ops_of m os) false)) (named_refusal m os) (m.last.0 + length (ops_of m os)) (m.last.0 + length os) (same_refusal m os false) (ap (λ (k : ℕ). m.last.0 + k) (length-map os (op_of (heads_of m))))
 
 -- and so are its versions
-pub same_made : (m : State) (os : List NamedOp) (n : ℕ) → refusals.made n (ops_of m os) ≡ named.made m n os
+pub same_made : (m : State) (os : List NamedOp) (n : ℕ) → versions.made n (ops_of m os) ≡ named.made m n os
 same_made m [] n = refl
 same_made m (o ∷ os) n = ap (λ (vs : List Version). named.version_of (named.family_of m o) o (n + 1) ∷ vs) (same_made m os (n + 1))
 
@@ -194,8 +195,12 @@ named_when (Client n) names Sync built = refl
 named_when Runner names (Write os sync) built = refl
 named_when Runner names (Get family key t None) built = refl
 named_when Runner names Sync built = refl
-named_when Flusher names event built = refl
-named_when Compactor names event built = refl
+named_when Flusher names (Write os sync) built = refl
+named_when Flusher names (Get family key t None) built = refl
+named_when Flusher names Sync built = refl
+named_when Compactor names (Write os sync) built = refl
+named_when Compactor names (Get family key t None) built = refl
+named_when Compactor names Sync built = refl
 named_when who names event built = absurd built
 
 pub is_named_built : (who : Who) (names : Names) (event : Event) → IsBuilt event → IsTrue (is_named who names event)

@@ -1,11 +1,11 @@
 -- What a run over the store in a folder leaves there.
 use Rattle.std.proofs.Common.{◌⊎◌, ◌≡◌, ◌≢◌, inl, inr, ⊎_elim, ℕ, ◌+◌, ◌≤◌, Bool, true, false, if◌then◌else◌, ◌||◌, List, [], ◌∷◌, ◌++◌, refl, sym, ap, ◌∙◌, subst, arith}
-use Rattle.std.specs.Prelude.{Some, None, Option, IsTrue, IfOk, Result, Ok, Err}
+use Rattle.std.specs.Prelude.{map, Some, None, Option, IsTrue, IfOk, Result, Ok, Err}
 use Rattle.std.specs.List.{list_any}
 use Rattle.std.proofs.lemmas.List.Folds.{list_any-append}
 use Rattle.udt_disk.specs.Causes.{plus_faults, Rose}
 use Rattle.udt_disk.specs.Crash.{Image, NoMore}
-use Rattle.udt_disk.specs.Joint.{Folder, IsFree}
+use Rattle.udt_disk.specs.Joint.{Folder, IsFree, IsHeld}
 use Rattle.udt_disk.specs.declared.name.FileName.{FileName}
 use Rattle.udt_disk.specs.declared.name.FileName.TheVariants.{Current, Log, Made}
 use Rattle.udt_disk.specs.declared.file.DiskFile as file
@@ -23,43 +23,46 @@ use Rattle.udt_model.specs.declared.line.Who.TheVariants.{Client}
 use Rattle.udt_model.specs.State.{State, unflushed}
 use Rattle.client_runner.specs.Named.{IsReply, after}
 use Rattle.udt_model.specs.Histories.{Point, start, IsLegal, behind, Leads, own}
-use Rattle.udt_model.specs.Crashes.{Course, IsOutcome, course_start, course_behind}
+use Rattle.udt_model.specs.Crashes.{Course, IsOutcome, course_start, course_behind, settled}
+use Rattle.udt_model.proofs.Laws.{heads_unflushed}
 use Rattle.client_runner.specs.Named.{course_after}
 use Rattle.client_runner.proofs.Naming.{after_agrees, reply_agrees_back}
-use Rattle.gate_log.specs.Outcomes.{IsSameFile}
+use Rattle.udt_disk.specs.Runs.{IsSameFile}
 use Rattle.wal.specs.declared.numbered.Numbered.{Numbered}
 use Rattle.wal.specs.declared.wal.Wal.{Wal}
 use Rattle.wal.specs.Replays.{ReadsAs}
-use Rattle.wal.specs.Wals.{Holds, file_of as wal_file, sizes_of as wal_sizes}
+use Rattle.wal.specs.Wals.{Holds, wal_file, wal_sizes}
 use Rattle.manifest.specs.declared.fold.Folded.{Folded}
 use Rattle.manifest.specs.Files.{HasFold}
 use Rattle.manifest.specs.Folds.{IsManifest}
 use Rattle.manifest.specs.Folders.{Means, chosen, chosen_by}
 use Rattle.manifest.specs.Folders.Meaning.{store}
-use Rattle.manifest.specs.Manifest.{file_of as manifest_file}
-use Rattle.manifest.specs.Moments.{holding, OnlyReads}
+use Rattle.manifest.specs.Manifest.{manifest_file}
+use Rattle.udt_disk.specs.Moments.{alone, holding, OnlyReads}
+use Rattle.udt_disk.proofs.Moments.{stands_free, stands_held, leaves_free, leaves_held}
 use Rattle.client_lang.specs.declared.command.Command.{Command}
 use Rattle.client_lang.specs.Print.{IsBuilt, print_header}
 use Rattle.client_runner.specs.Expand.{IsRunHistory}
 use Rattle.client_runner.specs.Left.{MayBeLeft, status_of_lines, tells_fault}
 use Rattle.client_runner.specs.LoggedStores.{state_of, wal_of}
-use Rattle.client_runner.specs.MakingStores.{IsClean}
-use Rattle.client_runner.specs.Opened.{IsOpened}
+use Rattle.udt_disk.specs.Moments.{IsClean}
+use Rattle.recovery.specs.Opening.{IsOpened}
 use Rattle.client_runner.specs.Runs.{HasRunOver, HasRunParts, IsRunReady, IsRunRefused, KeepsLines, Waits, files_of, state_of_parts}
 use Rattle.client_runner.specs.Sessions.{HasSession, KeepsCourse, faults_of}
 use Rattle.client_runner.specs.Solo.{AreSoundUnless}
-use Rattle.client_runner.specs.Stores.{FolderStands, sizes_of}
-use Rattle.client_runner.specs.Stores as stores
+use Rattle.recovery.specs.Stores.{FolderStands, sizes_of}
+use Rattle.recovery.specs.Stores as stores
 use Rattle.client_runner.specs.declared.output.Ready.{Ready}
-use Rattle.client_runner.specs.declared.recovery.OpenFault.TheVariants as opens
-use Rattle.client_runner.specs.declared.recovery.Parts.{Parts}
+use Rattle.recovery.specs.declared.fault.OpenFault.TheVariants as opens
+use Rattle.recovery.specs.declared.opening.Parts.{Parts}
 use Rattle.client_runner.specs.declared.solo.logged.LoggedStore.{LoggedStore}
 use Rattle.client_runner.specs.declared.status.Status.TheVariants as statuses
 use Rattle.client_runner.specs.declared.status.Stop.TheVariants.{NoMemory}
 use Rattle.client_runner.proofs.KeepingLemmas.{all_synced, opens_kept}
-use Rattle.client_runner.proofs.Opening.{chosen_isn't_log}
+use Rattle.client_runner.proofs.VersionLemmas.{settled_state}
+use Rattle.recovery.proofs.OpeningLemmas.{chosen_isn't_log}
 use Rattle.client_runner.proofs.SoloLemmas.{course_push, height_kept, sound_none}
-use Rattle.client_runner.proofs.States.{opened_stands}
+use Rattle.recovery.proofs.States.{opened_stands}
 
 -- ---- where no line tells a fault, all is synced at the end
 
@@ -206,36 +209,43 @@ module _ {D F : Type 0} (d : disk.Ghosts D F) (f : file.Ghosts F) where
 
   -- a name of neither file is free
   free_of : (old : D) (parts : Parts D F f) (n : FileName) → n ≢ f.name (manifest_file parts.manifest) → n ≢ f.name (wal_file parts.wal) → IsFree d f (holding old (files_of parts)) n
-  free_of old parts n not_manifest not_log x (inl is) = subst (λ (z : F). n ≢ f.name z) is not_manifest
-  free_of old parts n not_manifest not_log x (inr (inl is)) = subst (λ (z : F). n ≢ f.name z) is not_log
+  free_of old parts n not_manifest not_log x (inl is) = subst (λ (z : F). n ≢ f.name z) is not_log
+  free_of old parts n not_manifest not_log x (inr (inl is)) = subst (λ (z : F). n ≢ f.name z) is not_manifest
   free_of old parts n not_manifest not_log x (inr (inr none)) = absurd none
 
+  -- no other held file has the manifest's name
+  one_manifest : (parts : Parts D F f) → f.name (manifest_file parts.manifest) ≢ f.name (wal_file parts.wal) → (y : F) → IsHeld (files_of parts) y → f.name y ≡ f.name (manifest_file parts.manifest) → manifest_file parts.manifest ≡ y
+  one_manifest parts apart y (inl is) same = absurd (apart (sym (ap f.name is ∙ same)))
+  one_manifest parts apart y (inr (inl is)) same = is
+  one_manifest parts apart y (inr (inr none)) same = absurd none
+
   -- under each name but that of the live log there stands what stood there
-  closed_stands : (opened new : D) (parts : Parts D F f) (log : F) → IsTrue (d.is_told opened) → (o : IsOpened d f opened parts) → OnlyReads d f opened parts.disk (files_of parts)
+  closed_stands : (opened new : D) (parts : Parts D F f) (log : F) → IsTrue (d.is_told opened) → (o : IsOpened d f opened parts) → OnlyReads d f (alone opened) (holding parts.disk (files_of parts))
       → d.is_told parts.disk ≡ d.is_told opened → f.is_told (manifest_file parts.manifest) ≡ d.is_told opened → f.name log ≡ Log o.number
       → IsClosed parts.disk new log (manifest_file parts.manifest) → IsSameBut o.number (d.stands opened) (d.stands new)
   closed_stands opened new parts log told o reads told_disk told_manifest named closed n other =
       let m : F = manifest_file parts.manifest in
       ⊎_elim
-      (λ is. ap (d.stands new) is ∙ closed.manifest_stands (subst IsTrue (sym told_disk) told) (subst IsTrue (sym told_manifest) told) ∙ sym (reads.seen told m (inl refl)) ∙ ap (d.stands opened) (sym is))
-      (λ apart. closed.others_stand n apart (λ is. other (is ∙ named)) ∙ reads.stands told n (free_of parts.disk parts n apart (λ is. other (is ∙ o.name))))
+      (λ is. ap (d.stands new) is ∙ closed.manifest_stands (subst IsTrue (sym told_disk) told) (subst IsTrue (sym told_manifest) told) ∙ sym (stands_held d f opened parts.disk (files_of parts) reads told m (inr (inl refl)) (λ y held same. ap f.seen (one_manifest parts o.apart y held same))) ∙ ap (d.stands opened) (sym is))
+      (λ apart. closed.others_stand n apart (λ is. other (is ∙ named)) ∙ stands_free d f opened parts.disk (files_of parts) reads told n (free_of parts.disk parts n apart (λ is. other (is ∙ o.name))))
       (same_or_other (f.name m) n)
 
   -- and a crash leaves nothing else
-  closed_leaves : (opened new : D) (parts : Parts D F f) (log : F) → IsClean d opened → (o : IsOpened d f opened parts) → OnlyReads d f opened parts.disk (files_of parts) → f.name log ≡ Log o.number
+  closed_leaves : (opened new : D) (parts : Parts D F f) (log : F) → IsClean d opened → (o : IsOpened d f opened parts) → OnlyReads d f (alone opened) (holding parts.disk (files_of parts)) → f.name log ≡ Log o.number
       → IsClosed parts.disk new log (manifest_file parts.manifest) → (folder : Folder) → MayBeLeft (d.may_leave new) folder → IsSameBut o.number (d.stands opened) folder
   closed_leaves opened new parts log clean o reads named closed folder left n other =
       let m : F = manifest_file parts.manifest in
       ⊎_elim
-      (λ is. clean n (folder n) (subst (λ (k : FileName). d.may_leave opened k (folder n)) (sym is) (reads.held m (inl refl) (folder n) (closed.manifest_leaves (folder n) (subst (λ (k : FileName). d.may_leave new k (folder n)) is (left n))))))
-      (λ apart. clean n (folder n) (reads.no_more n (folder n) (free_of parts.disk parts n apart (λ is. other (is ∙ o.name))) (closed.others n (folder n) apart (λ is. other (is ∙ named)) (left n))))
+      (λ is. clean n (folder n) (subst (λ (k : FileName). d.may_leave opened k (folder n)) (sym is) (leaves_held d f opened parts.disk (files_of parts) reads m (inr (inl refl)) (one_manifest parts o.apart) (folder n) (closed.manifest_leaves (folder n) (subst (λ (k : FileName). d.may_leave new k (folder n)) is (left n))))))
+      (λ apart. clean n (folder n) (leaves_free d f opened parts.disk (files_of parts) reads n (folder n) (free_of parts.disk parts n apart (λ is. other (is ∙ o.name))) (closed.others n (folder n) apart (λ is. other (is ∙ named)) (left n))))
       (same_or_other (f.name m) n)
 
   -- the parts say what the manifest and the log say
   parts_say : (opened : D) (parts : Parts D F f) → (o : IsOpened d f opened parts) → state_of_parts parts ≡ stores.state_of o.fold o.batches
   parts_say opened parts o =
       let m : State = stores.state_of o.fold o.batches in
-      ap (λ (heads : List FamilyHead). with_state heads parts.versions.items parts.last) o.heads ∙ ap (λ (versions : List Version). with_state m.heads versions parts.last) o.versions ∙ ap (with_state m.heads m.versions) o.last
+      let heads : List FamilyHead = map stores.head_of o.fold.families in
+      ap (λ (heads : List FamilyHead). with_state heads parts.versions.items parts.last) o.heads ∙ ap (λ (versions : List Version). with_state heads versions parts.last) o.versions ∙ ap (with_state heads m.versions) o.last
 
   -- at the opening the log keeps the history that begins there
   opened_keeps : (opened : D) (parts : Parts D F f) (first : LoggedStore F f) → IsClean d opened → (o : IsOpened d f opened parts) → state_of first ≡ state_of_parts parts → wal_of first ≡ parts.wal
@@ -266,7 +276,7 @@ module _ {D F : Type 0} (d : disk.Ghosts D F) (f : file.Ghosts F) where
   made_apart opened parts log o named is = o.apart (is ∙ named ∙ sym o.name)
 
   -- each folder that a crash may leave stands for an outcome
-  crash_left : (opened new : D) (parts : Parts D F f) (first now : LoggedStore F f) (lines : List Line) (end : Point) → IsClean d opened → (o : IsOpened d f opened parts) → OnlyReads d f opened parts.disk (files_of parts)
+  crash_left : (opened new : D) (parts : Parts D F f) (first now : LoggedStore F f) (lines : List Line) (end : Point) → IsClean d opened → (o : IsOpened d f opened parts) → OnlyReads d f (alone opened) (holding parts.disk (files_of parts))
       → wal_of first ≡ parts.wal → HasMade first now (state_of_parts parts) lines end → IsClosed parts.disk new (wal_file (wal_of now)) (manifest_file parts.manifest) → (folder : Folder) → MayBeLeft (d.may_leave new) folder
       → (left : State) × FolderStands folder left × IsOutcome end.state (course_behind (start (state_of_parts parts)) (course_start (state_of_parts parts)) lines) left
   crash_left opened new parts first now lines end clean o reads wal made closed folder left =
@@ -284,44 +294,44 @@ module _ {D F : Type 0} (d : disk.Ghosts D F) (f : file.Ghosts F) where
 
   -- where no line tells a fault the folder stands for the end
   whole_left : (opened new : D) (parts : Parts D F f) (first now : LoggedStore F f) (lines : List Line) (end : Point) → IsTrue (d.is_told opened) → IsClean d opened → (o : IsOpened d f opened parts)
-      → OnlyReads d f opened parts.disk (files_of parts) → d.is_told parts.disk ≡ d.is_told opened → f.is_told (wal_file parts.wal) ≡ d.is_told opened → f.is_told (manifest_file parts.manifest) ≡ d.is_told opened
+      → OnlyReads d f (alone opened) (holding parts.disk (files_of parts)) → d.is_told parts.disk ≡ d.is_told opened → f.is_told (wal_file parts.wal) ≡ d.is_told opened → f.is_told (manifest_file parts.manifest) ≡ d.is_told opened
       → wal_of first ≡ parts.wal → HasMade first now (state_of_parts parts) lines end → IsClosed parts.disk new (wal_file (wal_of now)) (manifest_file parts.manifest)
-      → status_of_lines lines ≡ statuses.Done → FolderStands (d.stands new) end.state
+      → status_of_lines lines ≡ statuses.Done → FolderStands (d.stands new) (settled end.state)
   whole_left opened new parts first now lines end told clean o reads told_disk told_wal told_manifest wal made closed done =
       let log : F = wal_file (wal_of now) in
       let c : Course = course_behind (start (state_of_parts parts)) (course_start (state_of_parts parts)) lines in
       let named = made_name opened parts first now o wal made.same in
       let kept = made_keeps opened parts first now lines end clean o wal made in
-      let settled = made.settled done in
-      let works : (state_of now).halted ≡ None = ap (λ (s : State). s.halted) (sym made.state_is) ∙ settled.0 in
-      let all : c.synced ≡ (state_of now).last.0 = settled.1 ∙ ap (λ (s : State). s.last.0) made.state_is in
+      let both = made.settled done in
+      let works : (state_of now).halted ≡ None = ap (λ (s : State). s.halted) (sym made.state_is) ∙ both.0 in
+      let all : c.synced ≡ (state_of now).last.0 = both.1 ∙ ap (λ (s : State). s.last.0) made.state_is in
       let is = all_synced f o.fold (wal_of now) (state_of now) c kept.0 kept.2 works all in
       let told_log : f.is_told log ≡ d.is_told opened = made.same.told ∙ ap (λ (w : Wal F f). f.is_told (wal_file w)) wal ∙ told_wal in
       let stands : d.stands new (Log o.number) ≡ Some (f.seen log) =
       ap (d.stands new) (sym named) ∙ closed.log_stands (subst IsTrue (sym told_disk) told) (subst IsTrue (sym told_log) told) (made_apart opened parts log o named) in
       let held : ReadsAs (sizes_of o.fold) is.0 (d.stands new (Log o.number)) = subst (λ (image : Image). ReadsAs (sizes_of o.fold) is.0 image) (sym stands) (holds_reads o.fold (wal_of now) is.0 kept.1 is.1) in
       let same = closed_stands opened new parts log told o reads told_disk told_manifest named closed in
-      stands_so o.number (d.stands opened) (d.stands new) o.fold is.0 end.state same o.means o.live held (made.state_is ∙ is.2)
+      stands_so o.number (d.stands opened) (d.stands new) o.fold is.0 (settled end.state) same o.means o.live held (ap settled (made.state_is ∙ is.2) ∙ settled_state o.fold is.0)
 
   -- and so does each that a crash may leave
-  whole_crash : (opened new : D) (parts : Parts D F f) (first now : LoggedStore F f) (lines : List Line) (end : Point) → IsClean d opened → (o : IsOpened d f opened parts) → OnlyReads d f opened parts.disk (files_of parts)
+  whole_crash : (opened new : D) (parts : Parts D F f) (first now : LoggedStore F f) (lines : List Line) (end : Point) → IsClean d opened → (o : IsOpened d f opened parts) → OnlyReads d f (alone opened) (holding parts.disk (files_of parts))
       → wal_of first ≡ parts.wal → HasMade first now (state_of_parts parts) lines end → IsClosed parts.disk new (wal_file (wal_of now)) (manifest_file parts.manifest)
-      → status_of_lines lines ≡ statuses.Done → (folder : Folder) → MayBeLeft (d.may_leave new) folder → FolderStands folder end.state
+      → status_of_lines lines ≡ statuses.Done → (folder : Folder) → MayBeLeft (d.may_leave new) folder → FolderStands folder (settled end.state)
   whole_crash opened new parts first now lines end clean o reads wal made closed done folder left =
       let log : F = wal_file (wal_of now) in
       let c : Course = course_behind (start (state_of_parts parts)) (course_start (state_of_parts parts)) lines in
       let named = made_name opened parts first now o wal made.same in
       let kept = made_keeps opened parts first now lines end clean o wal made in
-      let settled = made.settled done in
-      let works : (state_of now).halted ≡ None = ap (λ (s : State). s.halted) (sym made.state_is) ∙ settled.0 in
-      let all : c.synced ≡ (state_of now).last.0 = settled.1 ∙ ap (λ (s : State). s.last.0) made.state_is in
+      let both = made.settled done in
+      let works : (state_of now).halted ≡ None = ap (λ (s : State). s.halted) (sym made.state_is) ∙ both.0 in
+      let all : c.synced ≡ (state_of now).last.0 = both.1 ∙ ap (λ (s : State). s.last.0) made.state_is in
       let is = all_synced f o.fold (wal_of now) (state_of now) c kept.0 kept.2 works all in
       let image : Image = folder (Log o.number) in
       let leaves : f.may_leave log image =
       closed.log_leaves (made_apart opened parts log o named) image (subst (λ (k : FileName). d.may_leave new k image) (sym named) (left (Log o.number))) in
       let held : ReadsAs (sizes_of o.fold) is.0 image = subst (ReadsAs (sizes_of o.fold) is.0) (sym (is.1.durable image leaves)) (holds_reads o.fold (wal_of now) is.0 kept.1 is.1) in
       let same = closed_leaves opened new parts log clean o reads named closed folder left in
-      stands_so o.number (d.stands opened) folder o.fold is.0 end.state same o.means o.live held (made.state_is ∙ is.2)
+      stands_so o.number (d.stands opened) folder o.fold is.0 (settled end.state) same o.means o.live held (ap settled (made.state_is ∙ is.2) ∙ settled_state o.fold is.0)
 
   -- ---- runs
 
@@ -399,7 +409,7 @@ module _ {D F : Type 0} (d : disk.Ghosts D F) (f : file.Ghosts F) where
   -- a store was opened of a folder
   pub record IsOpenedFrom (old : D) (parts : Parts D F f) : Type 0 where
     pub opened : IsTrue (d.is_told old) → IsOpened d f old parts
-    pub reads : OnlyReads d f old parts.disk (files_of parts)
+    pub reads : OnlyReads d f (alone old) (holding parts.disk (files_of parts))
     pub told : d.is_told parts.disk ≡ d.is_told old
     pub wal_told : f.is_told (wal_file parts.wal) ≡ d.is_told old
     pub manifest_told : f.is_told (manifest_file parts.manifest) ≡ d.is_told old
@@ -416,7 +426,7 @@ module _ {D F : Type 0} (d : disk.Ghosts D F) (f : file.Ghosts F) where
     lines = run.lines;
     end = run.end;
     history = run.ready.0;
-    waits = run.ready.1;
+    waits = subst (λ (heads : List FamilyHead). Waits (print_header parts.last.0 heads) run.lines r) (sym (heads_unflushed parts.heads.items)) run.ready.1;
     sound = subst (λ (n : ℕ). AreSoundUnless n (d.faults new) run.lines) from.kept run.sound;
     kept = keeps_from old new parts commands (Ok r) from run;
   }

@@ -10,7 +10,7 @@ use Rattle.udt_model.specs.declared.line.Line.{Line}
 use Rattle.udt_model.specs.declared.line.Mark.{Mark}
 use Rattle.udt_model.specs.declared.line.Who.{Who}
 use Rattle.udt_model.specs.declared.line.Who.TheVariants.{Client, Runner}
-use Rattle.udt_model.specs.State.{State}
+use Rattle.udt_model.specs.State.{State, heads_of}
 use Rattle.client_runner.specs.Named.{IsReply, after}
 use Rattle.udt_model.specs.Lines.{is_step, says_fault}
 use Rattle.udt_model.specs.Histories.{Point, start, IsLegal, IsSound, next_mark, behind, Leads, is_same, own}
@@ -52,32 +52,16 @@ nothing_more : (b : Bool) → (if b then no_task else no_task) ≡ no_task
 nothing_more true = refl
 nothing_more false = refl
 
-no_release : (ls : List Line) → map (λ (l : Line). l.event) ls ≡ [] → ls ≡ []
-no_release [] e = refl
-no_release (l ∷ ls) e = absurd (cc e)
-
-built_front : (xs ys : List Line) → All IsBuiltLine (xs ++ ys) → All IsBuiltLine xs
-built_front [] ys built = All-nil IsBuiltLine
-built_front (x ∷ xs) ys built = All-cons IsBuiltLine x xs (All-head IsBuiltLine x (xs ++ ys) built) (built_front xs ys (All-tail IsBuiltLine x (xs ++ ys) built))
-
 -- a client that makes no snapshot has the lines of its commands alone
-pub client_lines : (cs : List Command) (ls : List Line) → All IsBuiltLine ls → IsClient cs ls → Expand cs ls
-client_lines cs ls built c =
-    let front_built : All IsBuiltLine c.0 = built_front c.0 c.1 (subst (λ (xs : List Line). All IsBuiltLine xs) c.4 built) in
-    let none : c.1 ≡ [] = no_release c.1 (c.3 ∙ ap (map Release) (none_held c.0 front_built)) in
-    subst (λ (xs : List Line). Expand cs xs) (sym (c.4 ∙ ap (λ (xs : List Line). c.0 ++ xs) none ∙ append-nil c.0)) c.2
-
 pub lines_client : (cs : List Command) (ls : List Line) → All IsBuiltLine ls → Expand cs ls → IsClient cs ls
 lines_client cs ls built e = (ls, [], e, ap (map Release) (sym (none_held ls built)), sym (append-nil ls))
 
-client_more : (cs : List Command) (event : Event) (ls : List Line) (line : Line) → All IsBuiltLine ls → IsBuiltLine line → line.event ≡ event → IsClient cs ls → IsClient (cs ++ kinds.Line event ∷ []) (ls ++ line ∷ [])
-client_more cs event ls line built one is c =
-    lines_client (cs ++ kinds.Line event ∷ []) (ls ++ line ∷ []) (All-push IsBuiltLine ls line built one)
-    (Expand-append cs (kinds.Line event ∷ []) ls (line ∷ []) (client_lines cs ls built c) (line ∷ [], [], (is, nothing_more (goes_on line.reply)), refl, refl))
+lines_more : (cs : List Command) (event : Event) (ls : List Line) (line : Line) → line.event ≡ event → Expand cs ls → Expand (cs ++ kinds.Line event ∷ []) (ls ++ line ∷ [])
+lines_more cs event ls line is e = Expand-append cs (kinds.Line event ∷ []) ls (line ∷ []) e (line ∷ [], [], (is, nothing_more (goes_on line.reply)), refl, refl)
 
 pub none_yet : (m : State) (lines : List Line) → lines ≡ [] → HasRun m [] lines m no_mark
 none_yet m lines e = subst (λ (ls : List Line). HasRun m [] ls m no_mark) (sym e)
-    (record { end = start m; run = record { legal = refl; once = ([], [], refl, refl, refl); alone = refl }; state_is = refl; number_is = refl; last_is = refl; runner_is = refl; count = omega arith; printed = All-nil IsBuiltLine })
+    (record { end = start m; run = record { legal = refl; once = refl; alone = refl }; state_is = refl; number_is = refl; last_is = refl; runner_is = refl; count = omega arith; printed = All-nil IsBuiltLine })
 
 -- what a line says that was made behind the step of this number
 pub record IsNext (store : State) (who : Who) (number : ℕ) (last : Mark) (event : Event) (line : Line) (new : State) : Type 0 where
@@ -140,7 +124,7 @@ ran_more m cs lines store new last event line r n =
       end = behind r.end line;
       run = record {
         legal = Leads-append (start m) r.end (behind r.end line) lines (line ∷ []) r.run.legal (legal_line, refl);
-        once = rw (own-append (Client 1) lines (line ∷ []), own_new) (client_more cs event (own (Client 1) lines) line (subst (λ (ls : List Line). All IsBuiltLine ls) (sym r.run.alone) r.printed) n.printed n.event_is r.run.once);
+        once = rw (own-append (Client 1) lines (line ∷ []), own_new) (lines_more cs event (own (Client 1) lines) line n.event_is r.run.once);
         alone = own-append (Client 1) lines (line ∷ []) ∙ ap (λ (ls : List Line). ls ++ own (Client 1) (line ∷ [])) r.run.alone ∙ ap (λ (ls : List Line). lines ++ ls) own_new;
       };
       state_is = state_next r.end (Client 1) last.number last store new event line r.state_is r.number_is n;
@@ -148,10 +132,10 @@ ran_more m cs lines store new last event line r n =
       last_is = last_behind r.end line n.who_is;
       runner_is = runner_behind r.end line n.who_is ∙ r.runner_is;
       count =
-          let le = count_behind last line (length cs) r.count in
+          let le = count_behind last line (length lines) r.count in
           let number : line.mark.number ≡ (mark_behind last.number last line.event line.reply).number = ap (λ (k : Mark). k.number) n.mark in
           let sub : line.mark.sub ≡ (mark_behind last.number last line.event line.reply).sub = ap (λ (k : Mark). k.sub) n.mark in
-          let one = length_push cs (kinds.Line event) in
+          let one = length_push lines line in
           omega arith;
       printed = All-push IsBuiltLine lines line r.printed n.printed;
     }
@@ -160,7 +144,12 @@ pub run_of : (m : State) (commands taken : List Command) (lines : List Line) (st
 run_of m commands taken lines store last e r = subst (λ (cs : List Command). HasRun m cs lines store last) e r
 
 pub whole_history : (m : State) (commands : List Command) (lines : List Line) (store : State) (last : Mark) → HasRun m commands lines store last → IsSoloHistory m commands lines
-whole_history m commands lines store last r = record { end = r.end; run = r.run }
+whole_history m commands lines store last r = record {
+  end = r.end;
+  legal = r.run.legal;
+  once = lines_client commands (own (Client 1) lines) (subst (All IsBuiltLine) (sym r.run.alone) r.printed) r.run.once;
+  alone = r.run.alone;
+}
 
 -- ---- the runner's sync
 
@@ -177,7 +166,7 @@ synced_last m cs lines store new last line r n =
       end = behind r.end line;
       history = record {
         legal = Leads-append (start m) r.end (behind r.end line) lines (line ∷ []) r.run.legal (legal_line, refl);
-        once = subst (λ (ls : List Line). IsClient cs ls) (r.run.alone ∙ sym mine) r.run.once;
+        once = subst (λ (ls : List Line). IsClient cs ls) (r.run.alone ∙ sym mine) (lines_client cs (own (Client 1) lines) (subst (All IsBuiltLine) (sym r.run.alone) r.printed) r.run.once);
         sync = line;
         is_sync = n.event_is;
         is_runner = n.who_is;
@@ -191,18 +180,18 @@ synced_last m cs lines store new last line r n =
 pub course_push : (p end : Point) (c : Course) (lines : List Line) (line : Line) → IsBuilt line.event → Leads p lines end
     → course_behind p c (lines ++ line ∷ []) ≡ course_after end.state (end.number + 1) (course_behind p c lines) line.event line.reply
 course_push p end c [] line built e =
-    ap (λ (a : Option Act). course_after_or p.state (p.number + 1) c a line.reply) (act_agrees p.state.heads (p.names line.who) line.event built)
+    ap (λ (a : Option Act). course_after_or p.state (p.number + 1) c a line.reply) (act_agrees (heads_of p.state) (p.names line.who) line.event built)
     ∙ ap (λ (q : Point). course_after q.state (q.number + 1) c line.event line.reply) (sym e)
-course_push p end c (l ∷ lines) line built h = course_push (behind p l) end (course_after_or p.state (p.number + 1) c (act_of p.state.heads (p.names l.who) l.event) l.reply) lines line built h.1
+course_push p end c (l ∷ lines) line built h = course_push (behind p l) end (course_after_or p.state (p.number + 1) c (act_of (heads_of p.state) (p.names l.who) l.event) l.reply) lines line built h.1
 
 -- what is kept before a line is kept behind it
 pub keeps_more : (Keeps : Course → Type 0) (m store : State) (commands : List Command) (last : Mark) (c : Course) (lines : List Line) (line : Line) (number : ℕ) → IsBuilt line.event → number ≡ last.number + 1 → HasRun m commands lines store last
     → Keeps (course_after store number (course_behind (start m) c lines) line.event line.reply) → Keeps (course_behind (start m) c (lines ++ line ∷ []))
 keeps_more Keeps m store commands last c lines line number built is r k =
     subst Keeps (sym (course_push (start m) r.end c lines line built r.run.legal
-        ∙ ap (λ (s : State). course_after s (r.end.number + 1) (course_behind (start m) c lines) line.event line.reply) r.state_is
-        ∙ ap (λ (j : ℕ). course_after store (j + 1) (course_behind (start m) c lines) line.event line.reply) r.number_is
-        ∙ ap (λ (j : ℕ). course_after store j (course_behind (start m) c lines) line.event line.reply) (sym is))) k
+    ∙ ap (λ (s : State). course_after s (r.end.number + 1) (course_behind (start m) c lines) line.event line.reply) r.state_is
+    ∙ ap (λ (j : ℕ). course_after store (j + 1) (course_behind (start m) c lines) line.event line.reply) r.number_is
+    ∙ ap (λ (j : ℕ). course_after store j (course_behind (start m) c lines) line.event line.reply) (sym is))) k
 
 -- ---- faults
 

@@ -12,8 +12,8 @@ use Rattle.ts_key.specs.declared.version.Version.{Version}
 use Rattle.udt_disk.specs.Crash.{Image}
 use Rattle.udt_disk.specs.Causes.{Rose}
 use Rattle.udt_disk.specs.declared.file.DiskFile.{Ghosts}
-use Rattle.gate_log.specs.Outcomes.{IsSameFile}
-use Rattle.gate_log.specs.Tearing.{Leaves}
+use Rattle.udt_disk.specs.Runs.{IsSameFile}
+use Rattle.udt_disk.specs.Runs.{Leaves}
 use Rattle.gate_log.specs.declared.fault.LogFault.{LogFault}
 use Rattle.gate_log.specs.declared.fault.LogFault.TheVariants.{DiskFault, NoMemory}
 use Rattle.udt_model.specs.declared.event.Event.{Event}
@@ -23,13 +23,13 @@ use Rattle.udt_model.specs.declared.line.FamilyHead.{FamilyHead}
 use Rattle.udt_model.specs.declared.place.Place.{Place}
 use Rattle.udt_model.specs.declared.reply.Reply.{Reply}
 use Rattle.udt_model.specs.declared.reply.Reply.TheVariants as replies
-use Rattle.udt_model.specs.State.{State, place_from, family_or}
+use Rattle.udt_model.specs.State.{State, place_from, family_or, heads_of}
 use Rattle.client_runner.specs.Named.{accepted_unless, admitted, done_unless, family_of, made, place_of, unknown, version_of}
 use Rattle.udt_model.specs.Refusals.{unknown_place, ◌or_else◌}
 use Rattle.wal.specs.declared.numbered.Numbered.{Numbered}
 use Rattle.wal.specs.declared.wal.Wal.{Wal}
 use Rattle.wal.specs.Replays.{IsBeforeOrAfter}
-use Rattle.wal.specs.Wals.{Holds, MayGoOn, file_of, pending_of, sizes_of}
+use Rattle.wal.specs.Wals.{Holds, MayGoOn, wal_file, wal_pending, wal_sizes}
 use Rattle.client_lang.specs.Print.{IsBuilt}
 use Rattle.client_runner.specs.Adding.{IsAdmitted, op_of, refusal_of, with_versions}
 use Rattle.client_runner.specs.Logging.{HasRoom, HoldsLogged, IsLogged, batch_behind}
@@ -82,10 +82,10 @@ place_within n j (head ∷ heads) name known =
     (λ _. omega arith) (λ behind. let within = place_within (n + 1) j heads name behind in omega (arith, within)) known
 
 -- the families of a write's operations are among those of the store
-pub made_within : (m : State) (n k : ℕ) (os : List NamedOp) → k ≡ length m.heads → unknown m os ≡ None → All (λ (op : WriteOp). op.family.0 < k) (map op_of (made m n os))
+pub made_within : (m : State) (n k : ℕ) (os : List NamedOp) → k ≡ length (heads_of m) → unknown m os ≡ None → All (λ (op : WriteOp). op.family.0 < k) (map op_of (made m n os))
 made_within m n k [] size known = All-nil (λ (op : WriteOp). op.family.0 < k)
 made_within m n k (o ∷ os) size known =
-    let first : (family_of m o).0 < 0 + length m.heads = place_within 0 (length m.heads) m.heads o.family (none_first (unknown_place (place_of m o.family)) (unknown m os) known) in
+    let first : (family_of m o).0 < 0 + length (heads_of m) = place_within 0 (length (heads_of m)) (heads_of m) o.family (none_first (unknown_place (place_of m o.family)) (unknown m os) known) in
     All-cons (λ (op : WriteOp). op.family.0 < k) (op_of (version_of (family_of m o) o (n + 1))) (map op_of (made m (n + 1) os)) (omega (arith, first, size)) (made_within m (n + 1) k os size (none_second (unknown_place (place_of m o.family)) (unknown m os) known))
 
 drop_front : (vs more : List Version) (n : ℕ) → n ≡ length vs → drop n (vs ++ more) ≡ more
@@ -118,7 +118,7 @@ added_last m now count os added room =
     let last : now.last.0 ≡ m.last.0 = ap (λ (s : State). s.last.0) added.is in
     omega (arith, size, last, room)
 
-pub added_within : (m now : State) (count k : ℕ) (os : List NamedOp) → IsAdded m now count os → k ≡ length m.heads → refusal_of m os ≡ None → All (λ (op : WriteOp). op.family.0 < k) (map op_of (drop count now.versions))
+pub added_within : (m now : State) (count k : ℕ) (os : List NamedOp) → IsAdded m now count os → k ≡ length (heads_of m) → refusal_of m os ≡ None → All (λ (op : WriteOp). op.family.0 < k) (map op_of (drop count now.versions))
 added_within m now count k os added size taken =
     subst (λ (vs : List Version). All (λ (op : WriteOp). op.family.0 < k) (map op_of vs)) (sym (added_versions m now count os added)) (made_within m m.last.0 k os size (all_known m os taken))
 
@@ -215,7 +215,7 @@ module _ {F : Type 0} (g : Ghosts F) where
         after_is = sym (refusal_leaves m number os sync r refusal);
         built = refusal_built r refusal;
         in_step = in_step;
-        cause = subst (IsStepCause (g.faults (file_of wal)) (g.faults (file_of wal))) (sym (refusal_sound r refusal)) refl;
+        cause = subst (IsStepCause (g.faults (wal_file wal)) (g.faults (wal_file wal))) (sym (refusal_sound r refusal)) refl;
         later = omega arith;
         same = record { name = refl; told = refl; model = refl };
         sizes = refl;
@@ -280,8 +280,8 @@ module _ {F : Type 0} (g : Ghosts F) where
       (step_failed old new plain number os sync logs.works logs.told (logs_in_step old new m plain now count os sync (Err DiskFault) logs) (logs_batch old new m plain now count os sync (Err DiskFault) logs))
 
   -- all is synced
-  pub step_synced : (old new : Wal F g) (m : State) (number : ℕ) → m.halted ≡ None → IsInStep g old m → MayGoOn g new (m.last.0 + 1) → pending_of new < 1048576 → g.faults (file_of new) ≡ g.faults (file_of old) → IsSameFile g (file_of old) (file_of new) → sizes_of new ≡ sizes_of old
-      → ((bs ws : List Numbered) → Holds g old bs ws → Holds g new (bs ++ ws) []) → ((bs ws : List Numbered) → Holds g old bs ws → Leaves g (file_of old) (file_of new) (IsBeforeOrAfter (sizes_of old) bs ws))
+  pub step_synced : (old new : Wal F g) (m : State) (number : ℕ) → m.halted ≡ None → IsInStep g old m → MayGoOn g new (m.last.0 + 1) → wal_pending new < 1048576 → g.faults (wal_file new) ≡ g.faults (wal_file old) → IsSameFile g (wal_file old) (wal_file new) → wal_sizes new ≡ wal_sizes old
+      → ((bs ws : List Numbered) → Holds g old bs ws → Holds g new (bs ++ ws) []) → ((bs ws : List Numbered) → Holds g old bs ws → Leaves g (wal_file old) (wal_file new) (IsBeforeOrAfter (wal_sizes old) bs ws))
       → IsStep g old new m m number Sync replies.Done
   step_synced old new m number works in_step next room faults same sizes holds run = record {
     legal = inl (ap (λ (h : Option ℕ). done_unless (option_map replies.Halted h)) (sym works));
@@ -296,8 +296,8 @@ module _ {F : Type 0} (g : Ghosts F) where
   }
 
   -- the disk fails under a sync
-  pub step_sync_failed : (old new : Wal F g) (m : State) (number : ℕ) → m.halted ≡ None → IsInStep g old m → Rose (g.faults (file_of old)) (g.faults (file_of new)) → g.faults (file_of old) ≤ g.faults (file_of new) → IsSameFile g (file_of old) (file_of new) → sizes_of new ≡ sizes_of old
-      → ((bs ws : List Numbered) → Holds g old bs ws → Leaves g (file_of old) (file_of new) (IsBeforeOrAfter (sizes_of old) bs ws)) → IsStep g old new m (halted_at m number) number Sync replies.Fault
+  pub step_sync_failed : (old new : Wal F g) (m : State) (number : ℕ) → m.halted ≡ None → IsInStep g old m → Rose (g.faults (wal_file old)) (g.faults (wal_file new)) → g.faults (wal_file old) ≤ g.faults (wal_file new) → IsSameFile g (wal_file old) (wal_file new) → wal_sizes new ≡ wal_sizes old
+      → ((bs ws : List Numbered) → Holds g old bs ws → Leaves g (wal_file old) (wal_file new) (IsBeforeOrAfter (wal_sizes old) bs ws)) → IsStep g old new m (halted_at m number) number Sync replies.Fault
   step_sync_failed old new m number works in_step rose later same sizes run = record {
     legal = inr (inr (refl, works));
     after_is = refl;

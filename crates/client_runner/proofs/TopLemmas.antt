@@ -1,13 +1,18 @@
 -- What a command prints, and why it stops.
-use Rattle.std.proofs.Common.{◌≡◌, ℕ, List, [], ◌++◌, Option, Some, None, ◌⊎◌, refl, sym, ap, subst, ◌∙◌, inl, inr}
+use Rattle.std.proofs.Common.{◌≡◌, ℕ, false, List, [], ◌++◌, Option, Some, None, ◌⊎◌, refl, sym, ap, subst, ◌∙◌, inl, inr}
 use Rattle.std.specs.Io.KnownBytes.{Appends}
 use Rattle.std.specs.List.{list_any}
+use Rattle.std.specs.Prelude.{All, slice_index_or}
 use Rattle.std.proofs.lemmas.Bool.{cases_Bool}
 use Rattle.udt_disk.specs.Causes.{Rose}
 use Rattle.udt_disk.specs.Joint.{Folder}
-use Rattle.udt_disk.specs.Opens.{Standing, Stands, Told, IsMissing}
+use Rattle.udt_disk.specs.Opens.{Standing, IsStanding, Told, IsMissing}
 use Rattle.udt_disk.specs.OpensFolder.{Holding}
 use Rattle.udt_model.specs.State.{State}
+use Rattle.udt_model.specs.Lines.{says_files}
+use Rattle.udt_model.specs.Histories.{HasFiles}
+use Rattle.udt_model.specs.declared.reply.Reply.{Reply}
+use Rattle.udt_model.specs.declared.reply.Reply.TheVariants as replies
 use Rattle.udt_model.specs.declared.line.Line.{Line}
 use Rattle.udt_model.specs.declared.line.FamilyHead.{FamilyHead}
 use Rattle.client_lang.specs.declared.command.Command.{Command}
@@ -18,35 +23,44 @@ use Rattle.client_lang.specs.declared.grammar.lines.ReadFault.{ReadFault}
 use Rattle.client_lang.specs.declared.grammar.lines.ReadFault.TheVariants as faults
 use Rattle.client_lang.specs.Faults.{IsReadFault, Refuses}
 use Rattle.client_lang.specs.Grammar.{IsFile}
-use Rattle.client_lang.specs.Print.{print_lines}
+use Rattle.client_lang.specs.Print.{IsBuiltLine, IsBuiltReply, print_lines}
 use Rattle.manifest.specs.declared.fold.Folded.{Folded}
 use Rattle.manifest.specs.Folders.{Means}
 use Rattle.manifest.specs.Folders.Meaning.{no_store, bad_at, store}
 use Rattle.manifest.proofs.Meanings.{means_once}
-use Rattle.client_runner.specs.Left.{Leaves, status_of_lines, tells_fault}
-use Rattle.client_runner.specs.Openings.{RefusesOpening}
+use Rattle.client_runner.specs.Left.{LeavesByName, status_of_lines, tells_fault}
+use Rattle.recovery.specs.Fault.{RefusesOpening}
 use Rattle.client_runner.specs.Ready.{IsMessage, IsReadAs, IsTranscribed, IsReady, IsReadyStop, IsTried, stop_of_read}
 use Rattle.client_runner.specs.Runs.{stop_of_opening}
 use Rattle.client_runner.specs.Stops.{IsFileStop, IsInitStop, IsOpenStop, message, status_of}
-use Rattle.client_runner.specs.Stores.{FolderStands}
+use Rattle.recovery.specs.Stores.{FolderStands}
 use Rattle.client_runner.specs.declared.output.Ready.{Ready}
-use Rattle.client_runner.specs.declared.recovery.OpenFault.{OpenFault}
-use Rattle.client_runner.specs.declared.recovery.OpenFault.TheVariants as opening
+use Rattle.recovery.specs.declared.fault.OpenFault.{OpenFault}
+use Rattle.recovery.specs.declared.fault.OpenFault.TheVariants as opening
 use Rattle.client_runner.specs.declared.status.Status.{Status}
 use Rattle.client_runner.specs.declared.status.Status.TheVariants as statuses
 use Rattle.client_runner.specs.declared.status.Stop.{Stop}
 use Rattle.client_runner.specs.declared.status.Stop.TheVariants.{BadWords, NoFile, TooLong, TooMany, BadLine, SourceFault, StoreExists, NoStore, BadManifest, BadLog, DiskFault, NoMemory}
 use Rattle.client_runner.specs.declared.words.TheConstants.{HELP, VERSION}
 use Rattle.client_lang.proofs.BadLines.{none_refused, one_refusal}
-use Rattle.client_runner.proofs.OpeningLaws.{IsToldRefusal, one_opening_refusal, refused_stands_for_none}
+use Rattle.recovery.proofs.OneRefusal.{IsToldRefusal, one_opening_refusal, refused_stands_for_none}
 use Rattle.client_runner.proofs.WordLemmas.{help_no_init, help_no_run, help_no_try, help_no_version, init_no_run, init_once, init_word_no_help, init_word_no_run, init_word_no_try, init_word_no_version, run_once, try_no_init, try_no_run, try_once, version_no_init, version_no_run, version_no_try}
 
 -- ---- files
 
+has_files : (r : Reply) → IsBuiltReply r → says_files r ≡ false
+has_files (replies.Files next) built = absurd built
+has_files (replies.DroppedFiles next) built = absurd built
+has_files r built = refl
+
+-- no reply that is built says that there are no files left
+files_there : (lines : List Line) → All IsBuiltLine lines → All HasFiles lines
+files_there lines built = λ k d within. has_files (slice_index_or lines k d).reply (built k d within).reply
+
 -- commands that are transcribed give the transcript of a file that spells them
 pub ready_of : (bytes : List ℕ) (commands : List Command) (r : Ready) → IsFile bytes commands → ((other : List Command) → IsFile bytes other → other ≡ commands) → IsTranscribed commands r → IsReady bytes r
 ready_of bytes commands r spelled only p = record {
-  transcript = record { commands = commands; lines = r.lines.items; spelled = spelled; only = only; history = p.history; sound = p.sound; printed = ap (λ (t : List ℕ). t ++ print_lines r.lines.items) p.header };
+  transcript = record { commands = commands; lines = r.lines.items; spelled = spelled; only = only; history = p.history; sound = p.sound; files = files_there r.lines.items p.built; printed = ap (λ (t : List ℕ). t ++ print_lines r.lines.items) p.header };
   built = p.built;
   room = p.room;
 }
@@ -55,12 +69,12 @@ pub tried_of : (standing : Standing) (commands : List Command) (r : Ready) → I
 tried_of standing commands r read p = record { bytes = read.bytes; stands = read.stands; ready = ready_of read.bytes commands r read.spelled read.only p }
 
 -- what is said of the bytes that were read is said of those that stand there
-pub told_of : (P : List ℕ → Type 0) (standing : Standing) (bytes : List ℕ) → Stands standing (Some bytes) → P bytes → Told standing P
+pub told_of : (P : List ℕ → Type 0) (standing : Standing) (bytes : List ℕ) → IsStanding standing (Some bytes) → P bytes → Told standing P
 told_of P None bytes stands p = tt
 told_of P (Some None) bytes stands p = absurd stands
 told_of P (Some (Some told)) bytes stands p = let same : bytes ≡ told = cc in subst P same p
 
-pub stop_of : (standing : Standing) (before now : ℕ) (bytes : List ℕ) (stop : Stop) → Stands standing (Some bytes) → IsReadyStop bytes stop → IsFileStop standing before now stop
+pub stop_of : (standing : Standing) (before now : ℕ) (bytes : List ℕ) (stop : Stop) → IsStanding standing (Some bytes) → IsReadyStop bytes stop → IsFileStop standing before now stop
 stop_of standing before now bytes TooLong stands h = told_of (λ (b : List ℕ). Refuses b faults.TooLong) standing bytes stands h
 stop_of standing before now bytes (TooMany n) stands h = told_of (λ (b : List ℕ). Refuses b (faults.TooMany n)) standing bytes stands h
 stop_of standing before now bytes (BadLine n) stands h = told_of (λ (b : List ℕ). Refuses b (faults.BadLine n)) standing bytes stands h
@@ -85,7 +99,7 @@ said_stop standing before now path stop status text cause (inr want) = record { 
 -- ---- the other direction
 
 -- what the host tells of a file is what the command found
-same_bytes : (standing : Standing) (told bytes : List ℕ) → standing ≡ Some (Some told) → Stands standing (Some bytes) → bytes ≡ told
+same_bytes : (standing : Standing) (told bytes : List ℕ) → standing ≡ Some (Some told) → IsStanding standing (Some bytes) → bytes ≡ told
 same_bytes None told bytes e stands = absurd (cc e)
 same_bytes (Some None) told bytes e stands = absurd stands
 same_bytes (Some (Some b)) told bytes e stands = cc
@@ -100,7 +114,7 @@ not_missing None bytes e h = cc e
 not_missing (Some None) bytes e h = cc e
 not_missing (Some (Some b)) bytes e h = cc h
 
-not_standing : (standing : Standing) (bytes : List ℕ) → standing ≡ Some None → Stands standing (Some bytes) → ⊥
+not_standing : (standing : Standing) (bytes : List ℕ) → standing ≡ Some None → IsStanding standing (Some bytes) → ⊥
 not_standing None bytes e h = cc e
 not_standing (Some None) bytes e h = h
 not_standing (Some (Some b)) bytes e h = cc e
@@ -172,7 +186,7 @@ told_stop standing before now told stop t h =
     ]
 
 -- where the host tells the cause of a stop, no command file stands there
-pub not_read : (standing : Standing) (told : Stop) (bytes : List ℕ) (commands : List Command) → TellsStop standing told → Stands standing (Some bytes) → IsFile bytes commands → ⊥
+pub not_read : (standing : Standing) (told : Stop) (bytes : List ℕ) (commands : List Command) → TellsStop standing told → IsStanding standing (Some bytes) → IsFile bytes commands → ⊥
 not_read standing told bytes commands t stands spelled =
     elim (cause_told standing told t) [
       | inl missing ↦ not_standing standing bytes missing.1 stands
@@ -268,7 +282,7 @@ file_stopped standing before now path meant text told t (inr stops) = stop_meant
 
 -- ---- run
 
-run_file_stopped : (standing : Standing) (old new : Holding) (leaves : Leaves) (before now : ℕ) (file : List ℕ) (meant : Status) (text : List ℕ) (told : Stop) → TellsStop standing told → IsRunWork standing old new leaves before now file meant text
+run_file_stopped : (standing : Standing) (old new : Holding) (leaves : LeavesByName) (before now : ℕ) (file : List ℕ) (meant : Status) (text : List ℕ) (told : Stop) → TellsStop standing told → IsRunWork standing old new leaves before now file meant text
     → IsMeant file told meant text
 run_file_stopped standing old new leaves before now file meant text told t (inl done) = absurd (not_read standing told done.bytes done.transcript.commands t done.stands done.transcript.spelled)
 run_file_stopped standing old new leaves before now file meant text told t (inr s) =
@@ -296,7 +310,7 @@ other_want : (before now : ℕ) (stop : Stop) (meant : Status) → meant ≡ sta
 other_want before now stop meant e quiet (inl fault) = absurd (quiet fault.1)
 other_want before now stop meant e quiet (inr want) = inr (e ∙ ap status_of want)
 
-run_done : (standing : Standing) (old new : Holding) (leaves : Leaves) (before now : ℕ) (file : List ℕ) (meant : Status) (text bytes : List ℕ) (commands : List Command) (folder : Folder) (m : State)
+run_done : (standing : Standing) (old new : Holding) (leaves : LeavesByName) (before now : ℕ) (file : List ℕ) (meant : Status) (text bytes : List ℕ) (commands : List Command) (folder : Folder) (m : State)
     → standing ≡ Some (Some bytes) → IsFile bytes commands → old ≡ Some (Some folder) → FolderStands folder m → (Rose before now → ⊥) → IsRunWork standing old new leaves before now file meant text → IsDoneOrWant meant
 run_done standing old new leaves before now file meant text bytes commands folder m s spelled holds stands quiet (inl done) = run_is_done done.lines before now meant done.status_is done.cause quiet
 run_done standing old new leaves before now file meant text bytes commands folder m s spelled holds stands quiet (inr r) =
@@ -345,7 +359,7 @@ opening_told holding (BadManifest at) t = inr (t.0, opening.BadManifest at, t.1,
 opening_told holding (BadLog n at) t = inr (t.0, opening.BadLog n at, t.1, tt, refl, t.2)
 opening_told holding stop t = absurd t
 
-missing_refused : (standing : Standing) (old new : Holding) (leaves : Leaves) (before now : ℕ) (file : List ℕ) (meant : Status) (text bytes : List ℕ) (commands : List Command) → standing ≡ Some (Some bytes) → IsFile bytes commands → old ≡ Some None
+missing_refused : (standing : Standing) (old new : Holding) (leaves : LeavesByName) (before now : ℕ) (file : List ℕ) (meant : Status) (text bytes : List ℕ) (commands : List Command) → standing ≡ Some (Some bytes) → IsFile bytes commands → old ≡ Some None
     → IsRunWork standing old new leaves before now file meant text → IsOpenMeant file NoStore meant text
 missing_refused standing old new leaves before now file meant text bytes commands s spelled holds (inl done) = absurd (rw holds at done.left)
 missing_refused standing old new leaves before now file meant text bytes commands s spelled holds (inr r) =
@@ -357,7 +371,7 @@ missing_refused standing old new leaves before now file meant text bytes command
       ]
     ]
 
-folder_refused : (standing : Standing) (old new : Holding) (leaves : Leaves) (before now : ℕ) (file : List ℕ) (meant : Status) (text bytes : List ℕ) (commands : List Command) (folder : Folder) (fault : OpenFault) → standing ≡ Some (Some bytes) → IsFile bytes commands
+folder_refused : (standing : Standing) (old new : Holding) (leaves : LeavesByName) (before now : ℕ) (file : List ℕ) (meant : Status) (text bytes : List ℕ) (commands : List Command) (folder : Folder) (fault : OpenFault) → standing ≡ Some (Some bytes) → IsFile bytes commands
     → old ≡ Some (Some folder) → IsToldRefusal fault → RefusesOpening folder fault → IsRunWork standing old new leaves before now file meant text → IsOpenMeant file (stop_of_opening fault) meant text
 folder_refused standing old new leaves before now file meant text bytes commands folder fault s spelled holds told why (inl done) =
     absurd (refused_stands_for_none folder fault told why done.m (rw holds at done.left).opened)
@@ -373,7 +387,7 @@ folder_refused standing old new leaves before now file meant text bytes commands
       ]
     ]
 
-run_refused : (standing : Standing) (old new : Holding) (leaves : Leaves) (before now : ℕ) (file : List ℕ) (meant : Status) (text bytes : List ℕ) (commands : List Command) (told : Stop) → standing ≡ Some (Some bytes) → IsFile bytes commands → TellsOpenStop old told
+run_refused : (standing : Standing) (old new : Holding) (leaves : LeavesByName) (before now : ℕ) (file : List ℕ) (meant : Status) (text bytes : List ℕ) (commands : List Command) (told : Stop) → standing ≡ Some (Some bytes) → IsFile bytes commands → TellsOpenStop old told
     → IsRunWork standing old new leaves before now file meant text → IsOpenMeant file told meant text
 run_refused standing old new leaves before now file meant text bytes commands told s spelled t w =
     elim (opening_told old told t) [
@@ -399,7 +413,7 @@ none_met holding before now DiskFault e h = inl (refl, h)
 none_met holding before now NoMemory e h = inr refl
 none_met holding before now stop e h = absurd h
 
-init_done : (old new : Holding) (leaves : Leaves) (before now : ℕ) (families : List FamilyHead) (meant : Status) (text : List ℕ) → TellsNoStore old → (Rose before now → ⊥) → IsInitWork old new leaves before now families meant text → IsDoneOrWant meant
+init_done : (old new : Holding) (leaves : LeavesByName) (before now : ℕ) (families : List FamilyHead) (meant : Status) (text : List ℕ) → TellsNoStore old → (Rose before now → ⊥) → IsInitWork old new leaves before now families meant text → IsDoneOrWant meant
 init_done old new leaves before now families meant text t quiet (inl made) = inl made.status_is
 init_done old new leaves before now families meant text (inl missing) quiet (inr s) = other_want before now s.stop meant s.status_is quiet (none_met old before now s.stop missing s.cause)
 init_done old new leaves before now families meant text (inr found) quiet (inr s) =
@@ -409,7 +423,7 @@ init_done old new leaves before now families meant text (inr found) quiet (inr s
       | inr (inr other) ↦ other_want before now s.stop meant s.status_is quiet other
     ]
 
-init_refused : (old new : Holding) (leaves : Leaves) (before now : ℕ) (families : List FamilyHead) (meant : Status) (text : List ℕ) (told : Stop) → TellsInitStop old told → IsInitWork old new leaves before now families meant text → IsOpenMeant [] told meant text
+init_refused : (old new : Holding) (leaves : LeavesByName) (before now : ℕ) (families : List FamilyHead) (meant : Status) (text : List ℕ) (told : Stop) → TellsInitStop old told → IsInitWork old new leaves before now families meant text → IsOpenMeant [] told meant text
 init_refused old new leaves before now families meant text StoreExists t (inl made) = absurd (not_store t.0 t.2.0 (rw t.1 at made.left).0 t.2.1)
 init_refused old new leaves before now families meant text StoreExists t (inr s) =
     elim (making_met old t.0 before now s.stop t.1 s.cause) [
@@ -430,7 +444,7 @@ init_refused old new leaves before now families meant text stop t w = absurd t
 
 -- ---- a command line
 
-module _ (words : List (List ℕ)) (standing : List ℕ → Standing) (old new : List ℕ → Holding) (leaves : List ℕ → Leaves) (before now : ℕ) where
+module _ (words : List (List ℕ)) (standing : List ℕ → Standing) (old new : List ℕ → Holding) (leaves : List ℕ → LeavesByName) (before now : ℕ) where
   abbrev Work : Status → List ℕ → Type 0
   Work = IsWork words standing old new leaves before now
 

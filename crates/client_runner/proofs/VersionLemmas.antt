@@ -13,7 +13,8 @@ use Rattle.udt_disk.specs.declared.file.DiskFile.{Ghosts}
 use Rattle.udt_model.specs.declared.event.NamedOp.{NamedOp}
 use Rattle.udt_model.specs.State.{State, unflushed}
 use Rattle.client_runner.specs.Named.{family_of, made, version_of}
-use Rattle.udt_model.specs.Crashes.{cut_at}
+use Rattle.udt_model.specs.Crashes.{cut_at, settled}
+use Rattle.udt_model.proofs.Laws.{settled_unflushed}
 use Rattle.wal.specs.declared.numbered.Numbered.{Numbered}
 use Rattle.wal.specs.declared.wal.Wal.{Wal}
 use Rattle.wal.specs.Bodies.{AreBodiesOf}
@@ -22,7 +23,8 @@ use Rattle.wal.specs.Sequences.{sequence_after, GoesOn, IsInSequence}
 use Rattle.wal.specs.Wals.{IsWalOf}
 use Rattle.manifest.specs.declared.fold.Folded.{Folded}
 use Rattle.client_runner.specs.Adding.{op_of}
-use Rattle.client_runner.specs.Stores.{head_of, last_of, logged, state_of, versions_of}
+use Rattle.udt_model.specs.Versions.{logged}
+use Rattle.recovery.specs.Stores.{head_of, last_of, state_of, versions_of}
 
 -- each batch begins behind this sequence, and behind the batch before it, and has an operation
 abbrev pub Above : ℕ → List Numbered → Type 0
@@ -109,6 +111,10 @@ versions_cut end e (b ∷ bs) above within =
     ∙ ap (λ (vs : List Version). vs ++ filter (up_to end) (versions_of bs)) (logged_cut end b.first.0 b.batch (omega (arith, above.0, within)))
     ∙ versions_cut end next bs above.2 (omega (arith, above.0, above.1, within))
 
+-- batches stand for what an opening gives
+pub settled_state : (fold : Folded) (bs : List Numbered) → settled (state_of fold bs) ≡ state_of fold bs
+settled_state fold bs = settled_unflushed (map head_of fold.families) (versions_of bs) (record { 0 = last_of fold.last.0 bs }) None
+
 -- the batches that don't wait are the writes up to their last sequence
 pub cut_state : (fold : Folded) (bs ws : List Numbered) → Above fold.last.0 (bs ++ ws) → state_of fold bs ≡ cut_at (state_of fold (bs ++ ws)) (last_of fold.last.0 bs)
 cut_state fold bs ws above =
@@ -120,13 +126,15 @@ cut_state fold bs ws above =
     ∙ ap (λ (vs : List Version). versions_of bs ++ vs) (versions_cut end end ws (above_behind fold.last.0 bs ws above) (omega arith))
     ∙ append-nil (versions_of bs) in
     ap (λ (vs : List Version). let m : State = unflushed (map head_of fold.families) (vs) (record { 0 = end }) None in m) (sym kept)
+    ∙ sym (settled_unflushed (map head_of fold.families) (filter (up_to end) (versions_of (bs ++ ws))) (record { 0 = end }) None)
 
 -- and all of them are all writes
 pub whole_state : (fold : Folded) (bs : List Numbered) → Above 0 bs → state_of fold bs ≡ cut_at (state_of fold bs) (last_of fold.last.0 bs)
-whole_state fold [] above = refl
+whole_state fold [] above = sym (settled_state fold [])
 whole_state fold (b ∷ bs) above =
     let end : ℕ = last_of 0 (b ∷ bs) in
     ap (λ (vs : List Version). let m : State = unflushed (map head_of fold.families) (vs) (record { 0 = end }) None in m) (sym (versions_kept end 0 (b ∷ bs) above (omega arith)))
+    ∙ sym (settled_unflushed (map head_of fold.families) (filter (up_to end) (versions_of (b ∷ bs))) (record { 0 = end }) None)
 
 -- ---- a write, and its batch
 

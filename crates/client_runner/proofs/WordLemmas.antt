@@ -7,7 +7,7 @@ use Rattle.ts_key.specs.Names.{is_name}
 use Rattle.ts_key.specs.declared.version.Form.{Form}
 use Rattle.ts_key.specs.declared.numbers.Ts.{Ts}
 use Rattle.udt_model.specs.declared.line.FamilyHead.{FamilyHead}
-use Rattle.manifest.specs.Heads.{AreNew, IsNew, IsNamed}
+use Rattle.manifest.specs.Heads.{AreNew, IsNewFamily, IsNamed}
 use Rattle.client_runner.specs.Commands.{IsHelp, IsVersion, IsTry, IsInit, IsRun, IsInitWord, family_word, IsNamePart, IsFamilyWord, AreFamilyWords, AreHeadWords}
 
 -- ---- the words of families
@@ -23,25 +23,25 @@ abbrev family : List ℕ → Form → Ts → FamilyHead
 family name form floor = record { name = name; form = form; floor = floor }
 
 -- new families of one name are one family
-same_family : (f g : FamilyHead) → IsNew f → IsNew g → f.name ≡ g.name → f ≡ g
+same_family : (f g : FamilyHead) → IsNewFamily f → IsNewFamily g → f.name ≡ g.name → f ≡ g
 same_family f g p q same =
     ap (λ (name : List ℕ). family name f.form f.floor) same ∙ ap (λ (form : Form). family g.name form f.floor) (p.form ∙ sym q.form)
     ∙ ap (λ (n : ℕ). family g.name g.form (at_ts n)) (p.floor ∙ sym q.floor)
 
 -- new families that one word spells are one family
-pub family_once : (f g : FamilyHead) → IsNew f → IsNew g → family_word f ≡ family_word g → f ≡ g
+pub family_once : (f g : FamilyHead) → IsNewFamily f → IsNewFamily g → family_word f ≡ family_word g → f ≡ g
 family_once f g p q same = same_family f g p q (append_cancel_right f.name g.name (codes ":persist") same)
 
 -- new families that one list of words spells are one list
-pub families_once : (fs gs : List FamilyHead) → All IsNew fs → All IsNew gs → map family_word fs ≡ map family_word gs → fs ≡ gs
+pub families_once : (fs gs : List FamilyHead) → All IsNewFamily fs → All IsNewFamily gs → map family_word fs ≡ map family_word gs → fs ≡ gs
 families_once [] [] p q same = refl
 families_once [] (g ∷ gs) p q same = absurd (cc same)
 families_once (f ∷ fs) [] p q same = absurd (cc same)
 families_once (f ∷ fs) (g ∷ gs) p q same =
     let word : family_word f ≡ family_word g = cc in
     let words : map family_word fs ≡ map family_word gs = cc in
-    let first = family_once f g (All-head IsNew f fs p) (All-head IsNew g gs q) word in
-    let others = families_once fs gs (All-tail IsNew f fs p) (All-tail IsNew g gs q) words in
+    let first = family_once f g (All-head IsNewFamily f fs p) (All-head IsNewFamily g gs q) word in
+    let others = families_once fs gs (All-tail IsNewFamily f fs p) (All-tail IsNewFamily g gs q) words in
     ap (λ (h : FamilyHead). h ∷ fs) first ∙ ap (λ (l : List FamilyHead). g ∷ l) others
 
 -- no family is spelled where the name before :persist isn't one
@@ -61,12 +61,12 @@ none_spelled (w ∷ words) i d within none [] p = let e = p.is in cc e
 none_spelled (w ∷ words) zero d within none (f ∷ families) p =
     let e = p.is in
     let word : w ≡ family_word f = cc in
-    none f (record { is = word; new = All-head IsNew f families p.each; named = All-head IsNamed f families p.named })
+    none f (record { is = word; new = All-head IsNewFamily f families p.each; named = All-head IsNamed f families p.named })
 none_spelled (w ∷ words) (suc i) d within none (f ∷ families) p =
     let e = p.is in
     let behind : words ≡ map family_word families = cc in
     none_spelled words i d (omega arith) none families
-    (record { is = behind; each = All-tail IsNew f families p.each; named = All-tail IsNamed f families p.named })
+    (record { is = behind; each = All-tail IsNewFamily f families p.each; named = All-tail IsNamed f families p.named })
 
 -- the families that were read aren't a head's, so the words spell no head
 pub no_head : (words : List (List ℕ)) (found : List FamilyHead) → AreFamilyWords words found → (AreNew found → ⊥) → (families : List FamilyHead) → AreHeadWords words families → ⊥

@@ -2,7 +2,7 @@
 use Rattle.std.specs.Prelude.{◌≡◌, ℕ, List, [], ◌∷◌, ◌++◌, All, map, codes, Option, Some, None}
 use Rattle.std.specs.Str.{IsUtf8}
 use Rattle.udt_model.specs.declared.line.FamilyHead.{FamilyHead}
-use Rattle.manifest.specs.Heads.{AreNew, IsNew, IsNamed}
+use Rattle.manifest.specs.Heads.{AreNew, IsNewFamily, IsNamed}
 use Rattle.client_runner.specs.declared.words.Command.{Command}
 use Rattle.client_runner.specs.declared.words.Command.TheVariants.{Help, Version, Try, Init, Run}
 
@@ -61,13 +61,13 @@ IsNamePart word name = word ≡ name ++ codes ":persist"
 -- the word spells this family
 pub record IsFamilyWord (word : List ℕ) (f : FamilyHead) : Type 0 where
   pub is : word ≡ family_word f
-  pub new : IsNew f
+  pub new : IsNewFamily f
   pub named : IsNamed f
 
 -- the words spell these families
 pub record AreFamilyWords (words : List (List ℕ)) (families : List FamilyHead) : Type 0 where
   pub is : words ≡ map family_word families
-  pub each : All IsNew families
+  pub each : All IsNewFamily families
   pub named : All IsNamed families
 
 -- the words spell the families of a head

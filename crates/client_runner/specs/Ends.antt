@@ -4,7 +4,7 @@ use Rattle.std.specs.Fmt.{decimal}
 use Rattle.std.specs.Io.KnownBytes.{Appends}
 use Rattle.udt_disk.specs.Causes.{Rose}
 use Rattle.udt_disk.specs.Joint.{Folder}
-use Rattle.udt_disk.specs.Opens.{Standing, Stands}
+use Rattle.udt_disk.specs.Opens.{Standing, IsStanding}
 use Rattle.udt_disk.specs.OpensFolder.{Holding}
 use Rattle.client_lang.specs.declared.command.Command.{Command}
 use Rattle.client_runner.specs.Commands.{IsHelp, IsVersion, IsTry, IsInit, IsInitWord, IsRun, IsNoCommand}
@@ -22,11 +22,11 @@ use Rattle.udt_model.specs.Histories.{Point, Leads, start}
 use Rattle.manifest.specs.Folders.{Means}
 use Rattle.manifest.specs.Folders.Meaning.{no_store, bad_at, store}
 use Rattle.manifest.specs.declared.fold.Folded.{Folded}
-use Rattle.client_runner.specs.Openings.{IsBadLog}
-use Rattle.client_runner.specs.Stores.{FolderStands}
+use Rattle.recovery.specs.Fault.{IsBadLog}
+use Rattle.recovery.specs.Stores.{FolderStands}
 use Rattle.client_runner.specs.Expand.{IsRunHistory}
 use Rattle.client_runner.specs.Inits.{IsInitLeft}
-use Rattle.client_runner.specs.Left.{Leaves, ContinuesFrom, IsMadeAt, StaysAsItWas, status_of_lines}
+use Rattle.client_runner.specs.Left.{LeavesByName, ContinuesFrom, IsMadeAt, StaysAsItWas, status_of_lines}
 use Rattle.client_runner.specs.Stops.{IsFileStop, IsInitStop, IsOpenStop, message, status_of}
 use Rattle.client_runner.specs.Transcripts.{IsTranscript, IsRunTranscript}
 use Rattle.client_runner.specs.declared.words.TheConstants.{HELP, VERSION}
@@ -40,7 +40,7 @@ use Rattle.client_runner.specs.declared.status.Stop.TheVariants.{BadWords, NoFil
 -- the text is the transcript of the file that stands there
 pub record IsTranscriptAt (standing : Standing) (text : List ℕ) : Type 0 where
   pub bytes : List ℕ
-  pub stands : Stands standing (Some bytes)
+  pub stands : IsStanding standing (Some bytes)
   pub transcript : IsTranscript bytes text
 
 -- the text is the message of a stop at the file of this path, and the status is the stop's
@@ -61,29 +61,29 @@ abbrev pub made_text : List FamilyHead → List ℕ
 made_text families = line_of (codes "made" ∷ decimal (length families) ∷ [])
 
 -- the store was made
-pub record IsMadeWork (old new : Holding) (leaves : Leaves) (families : List FamilyHead) (status : Status) (text : List ℕ) : Type 0 where
+pub record IsMadeWork (old new : Holding) (leaves : LeavesByName) (families : List FamilyHead) (status : Status) (text : List ℕ) : Type 0 where
   pub status_is : status ≡ statuses.Done
   pub text_is : text ≡ made_text families
   pub left : IsMadeAt old new leaves families
 
 -- the text is the message of a stop, and the folder is as it was, or there is no store in it or all of the new one
-pub record IsInitStopped (old new : Holding) (leaves : Leaves) (before now : ℕ) (families : List FamilyHead) (status : Status) (text : List ℕ) : Type 0 where
+pub record IsInitStopped (old new : Holding) (leaves : LeavesByName) (before now : ℕ) (families : List FamilyHead) (status : Status) (text : List ℕ) : Type 0 where
   pub stop : Stop
   pub cause : IsInitStop old before now stop
   pub status_is : status ≡ status_of stop
   pub text_is : text ≡ message [] stop
   pub left : IsInitLeft old new leaves before now families stop
 
-abbrev pub IsInitWork : Holding → Holding → Leaves → ℕ → ℕ → List FamilyHead → Status → List ℕ → Type 0
+abbrev pub IsInitWork : Holding → Holding → LeavesByName → ℕ → ℕ → List FamilyHead → Status → List ℕ → Type 0
 IsInitWork old new leaves before now families status text = IsMadeWork old new leaves families status text ⊎ IsInitStopped old new leaves before now families status text
 
 -- ---- run
 
 -- The text is the transcript of the file from a state that the folder stood for, the status tells whether the disk failed, and the
 -- folder keeps the lines.
-pub record IsRunDone (standing : Standing) (old new : Holding) (leaves : Leaves) (before now : ℕ) (status : Status) (text : List ℕ) : Type 0 where
+pub record IsRunDone (standing : Standing) (old new : Holding) (leaves : LeavesByName) (before now : ℕ) (status : Status) (text : List ℕ) : Type 0 where
   pub bytes : List ℕ
-  pub stands : Stands standing (Some bytes)
+  pub stands : IsStanding standing (Some bytes)
   pub m : State
   pub works : m.halted ≡ None
   pub lines : List Line
@@ -97,7 +97,7 @@ pub record IsRunDone (standing : Standing) (old new : Holding) (leaves : Leaves)
 pub record IsRead (standing : Standing) : Type 0 where
   pub bytes : List ℕ
   pub commands : List Command
-  pub stands : Stands standing (Some bytes)
+  pub stands : IsStanding standing (Some bytes)
   pub spelled : IsFile bytes commands
 
 -- the file isn't read, or it is and the folder isn't opened
@@ -106,11 +106,11 @@ IsRunStop standing old before now stop = IsFileStop standing before now stop ⊎
 
 -- a file that stands there spells these commands
 abbrev pub Spells : Standing → List Command → Type 0
-Spells standing commands = (bytes : List ℕ) × Stands standing (Some bytes) × IsFile bytes commands
+Spells standing commands = (bytes : List ℕ) × IsStanding standing (Some bytes) × IsFile bytes commands
 
 -- Memory ran out behind the opening: the commands that were asked for, and the runner's sync, were made, or nothing was, and
 -- the folder keeps that.
-pub record IsCutShort (IsAsked : List Command → Type 0) (old new : Holding) (leaves : Leaves) : Type 0 where
+pub record IsCutShort (IsAsked : List Command → Type 0) (old new : Holding) (leaves : LeavesByName) : Type 0 where
   pub commands : List Command
   pub asked : IsAsked commands
   pub m : State
@@ -122,7 +122,7 @@ pub record IsCutShort (IsAsked : List Command → Type 0) (old new : Holding) (l
 
 -- What is left of the folder, for this stop. One that is refused is as it was. Else it wasn't opened, or is as it was; where memory
 -- ran out it may go on.
-abbrev pub IsRunLeft : (List Command → Type 0) → Holding → Holding → Leaves → Stop → Type 0
+abbrev pub IsRunLeft : (List Command → Type 0) → Holding → Holding → LeavesByName → Stop → Type 0
 IsRunLeft IsAsked old new leaves NoStore = StaysAsItWas old new leaves
 IsRunLeft IsAsked old new leaves (BadManifest at) = StaysAsItWas old new leaves
 IsRunLeft IsAsked old new leaves (BadLog n at) = StaysAsItWas old new leaves
@@ -130,14 +130,14 @@ IsRunLeft IsAsked old new leaves NoMemory = (new ≡ old) ⊎ (StaysAsItWas old 
 IsRunLeft IsAsked old new leaves stop = (new ≡ old) ⊎ StaysAsItWas old new leaves
 
 -- the text is the message of a stop
-pub record IsRunStopped (standing : Standing) (old new : Holding) (leaves : Leaves) (before now : ℕ) (file : List ℕ) (status : Status) (text : List ℕ) : Type 0 where
+pub record IsRunStopped (standing : Standing) (old new : Holding) (leaves : LeavesByName) (before now : ℕ) (file : List ℕ) (status : Status) (text : List ℕ) : Type 0 where
   pub stop : Stop
   pub cause : IsRunStop standing old before now stop
   pub status_is : status ≡ status_of stop
   pub text_is : text ≡ message file stop
   pub left : IsRunLeft (Spells standing) old new leaves stop
 
-abbrev pub IsRunWork : Standing → Holding → Holding → Leaves → ℕ → ℕ → List ℕ → Status → List ℕ → Type 0
+abbrev pub IsRunWork : Standing → Holding → Holding → LeavesByName → ℕ → ℕ → List ℕ → Status → List ℕ → Type 0
 IsRunWork standing old new leaves before now file status text =
     IsRunDone standing old new leaves before now status text ⊎ IsRunStopped standing old new leaves before now file status text
 
@@ -146,7 +146,7 @@ IsRunWork standing old new leaves before now file status text =
 -- What a command line is to print: help, the version, that the words are no command, or what a command prints. The host told
 -- what sources and folders stood under its paths and tells what folders stand there now, what a crash may leave of them, and how
 -- often it had failed before and has now.
-pub data IsWork (words : List (List ℕ)) (standing : List ℕ → Standing) (old new : List ℕ → Holding) (leaves : List ℕ → Leaves) (before now : ℕ) (status : Status) (text : List ℕ) : Type 0 where
+pub data IsWork (words : List (List ℕ)) (standing : List ℕ → Standing) (old new : List ℕ → Holding) (leaves : List ℕ → LeavesByName) (before now : ℕ) (status : Status) (text : List ℕ) : Type 0 where
   helps : IsHelp words → status ≡ statuses.Done → text ≡ HELP.now → IsWork words standing old new leaves before now status text
   tells_version : IsVersion words → status ≡ statuses.Done → text ≡ VERSION.now → IsWork words standing old new leaves before now status text
   refuses : IsNoCommand words → status ≡ statuses.Usage → text ≡ message [] BadWords → IsWork words standing old new leaves before now status text

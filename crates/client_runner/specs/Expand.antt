@@ -1,15 +1,16 @@
 -- Which lines a client's commands give, and the histories of clients.
-use Rattle.std.specs.Prelude.{◌≡◌, ℕ, ◌+◌, ◌≤◌, Bool, true, false, not, if◌then◌else◌, ⊤, List, [], ◌∷◌, ◌++◌, length, map, filter, All, EachIndex, Option, Some, None, slice_index_or}
+use Rattle.std.specs.Prelude.{◌≡◌, ℕ, ◌+◌, ◌≤◌, Bool, true, false, not, if◌then◌else◌, IsTrue, codes, List, [], ◌∷◌, ◌++◌, length, map, filter, All, EachIndex, Option, Some, None, slice_index_or}
 use Rattle.std.specs.Str.{bytes_eq}
 use Rattle.ts_key.specs.declared.numbers.Ts.{Ts}
 use Rattle.udt_model.specs.declared.event.Event.{Event}
-use Rattle.udt_model.specs.declared.event.Event.TheVariants.{Raise, Snap, Release, Sync, FlushStart, FlushEnd, CompactStart, CompactEnd}
+use Rattle.udt_model.specs.declared.event.Event.TheVariants.{Raise, Snap, Release, Pin, Sync, FlushStart, FlushEnd, CompactStart, CompactEnd}
 use Rattle.udt_model.specs.declared.reply.Reply.{Reply}
 use Rattle.udt_model.specs.declared.reply.Reply.TheVariants.{Done, OkAt, Nothing, Table, Inputs, Kept}
 use Rattle.udt_model.specs.declared.line.Line.{Line}
 use Rattle.udt_model.specs.declared.line.Who.{Who}
 use Rattle.udt_model.specs.declared.line.Who.TheVariants.{Client, Flusher, Compactor, Runner}
 use Rattle.udt_model.specs.State.{State}
+use Rattle.udt_model.specs.Lines.{is_step}
 use Rattle.udt_model.specs.Histories.{Point, start, start_of, Leads, own}
 use Rattle.client_lang.specs.declared.command.Command.{Command}
 use Rattle.client_lang.specs.declared.command.Command.TheVariants as commands
@@ -83,16 +84,19 @@ IsClient commands ls = (front : List Line) × (rest : List Line) × Expand comma
 
 -- ---- one client
 
--- The lines lead from the state to this end, and are those of client 1, and no others.
+-- A history under way: the lines lead from the state to this end, and are those of client 1 for the commands that it has made so
+-- far, and no others.
 pub record IsSoloRun (m : State) (commands : List Command) (lines : List Line) (end : Point) : Type 0 where
+  pub legal : Leads (start m) lines end
+  pub once : Expand commands (own (Client 1) lines)
+  pub alone : own (Client 1) lines ≡ lines
+
+-- A legal history from the state on, whose lines are those of client 1, its last releases included, and no others.
+pub record IsSoloHistory (m : State) (commands : List Command) (lines : List Line) : Type 0 where
+  pub end : Point
   pub legal : Leads (start m) lines end
   pub once : IsClient commands (own (Client 1) lines)
   pub alone : own (Client 1) lines ≡ lines
-
--- A legal history from the state on, whose lines are those of client 1, and no others.
-pub record IsSoloHistory (m : State) (commands : List Command) (lines : List Line) : Type 0 where
-  pub end : Point
-  pub run : IsSoloRun m commands lines end
 
 -- A legal history from the state on to this end, whose lines are those of client 1, and then one sync of the runner.
 pub record IsRunHistory (m : State) (commands : List Command) (lines : List Line) (end : Point) : Type 0 where
@@ -105,22 +109,37 @@ pub record IsRunHistory (m : State) (commands : List Command) (lines : List Line
 
 -- ---- several clients
 
--- one of so many clients, or the flusher or the compactor
-abbrev pub IsActor : ℕ → Who → Type 0
-IsActor clients (Client n) = (1 ≤ n) × (n ≤ clients)
-IsActor clients Flusher = ⊤
-IsActor clients Compactor = ⊤
-IsActor clients Runner = ⊥
+-- what the flusher asks: its own view, and flushes
+abbrev pub is_of_flusher : Event → Bool
+is_of_flusher (Pin name) = bytes_eq name (codes "f")
+is_of_flusher (FlushStart family) = true
+is_of_flusher (FlushEnd family start) = true
+is_of_flusher event = false
+
+-- what the compactor asks: its own view, and compactions of a pick
+abbrev pub is_of_compactor : Event → Bool
+is_of_compactor (Pin name) = bytes_eq name (codes "m")
+is_of_compactor (CompactStart family pick) = pick
+is_of_compactor (CompactEnd family start) = true
+is_of_compactor event = false
+
+-- one of so many clients may ask anything, the flusher and the compactor their own work alone, and the runner nothing yet
+abbrev pub IsAskedBy : ℕ → Who → Event → Type 0
+IsAskedBy clients (Client n) event = (1 ≤ n) × (n ≤ clients)
+IsAskedBy clients Flusher event = IsTrue (is_of_flusher event)
+IsAskedBy clients Compactor event = IsTrue (is_of_compactor event)
+IsAskedBy clients Runner event = ⊥
 
 -- A legal history from the state on to this end. The lines of each client are those of its commands; every other line is of the flusher
--- or the compactor; and the last one is a sync of the runner.
+-- or the compactor; and the last one is a sync of the runner, which has a number.
 pub record IsJointHistory (m : State) (files : List (List Command)) (lines : List Line) (end : Point) : Type 0 where
   pub legal : Leads (start_of end.height m) lines end
   pub whole : end.height ≡ end.number
   pub once : EachIndex files (λ i. IsClient (slice_index_or files i []) (own (Client (i + 1)) lines))
   pub front : List Line
-  pub actors : All (λ (l : Line). IsActor (length files) l.who) front
+  pub actors : All (λ (l : Line). IsAskedBy (length files) l.who l.event) front
   pub sync : Line
   pub is_sync : sync.event ≡ Sync
   pub is_runner : sync.who ≡ Runner
+  pub numbered : IsTrue (is_step sync.event sync.reply)
   pub rest : lines ≡ front ++ sync ∷ []

@@ -3,13 +3,13 @@ use Rattle.std.specs.Prelude.{◌≡◌, ℕ, List, None}
 use Rattle.udt_disk.specs.Opens.{Standing}
 use Rattle.udt_disk.specs.OpensFolder.{Holding}
 use Rattle.udt_model.specs.declared.line.Line.{Line}
-use Rattle.udt_model.specs.State.{State}
+use Rattle.udt_model.specs.State.{State, heads_of}
 use Rattle.udt_model.specs.Histories.{Point}
 use Rattle.client_lang.specs.declared.command.Command.{Command}
 use Rattle.client_lang.specs.Print.{print_header}
 use Rattle.client_runner.specs.Expand.{IsRunHistory}
 use Rattle.client_runner.specs.Ends.{IsRunLeft, IsRunStop, Spells}
-use Rattle.client_runner.specs.Left.{Leaves, ContinuesFrom}
+use Rattle.client_runner.specs.Left.{LeavesByName, ContinuesFrom}
 use Rattle.client_runner.specs.Ready.{IsReadAs}
 use Rattle.client_runner.specs.Runs.{Waits}
 use Rattle.client_runner.specs.Solo.{AreSoundUnless}
@@ -18,28 +18,28 @@ use Rattle.client_runner.specs.declared.output.Ready.{Ready}
 use Rattle.client_runner.specs.declared.status.Stop.{Stop}
 
 -- The transcript of the commands waits, from a state that the folder stood for, and the folder keeps its lines.
-pub record IsRunAt (old new : Holding) (leaves : Leaves) (before now : ℕ) (commands : List Command) (r : Ready) : Type 0 where
+pub record IsRunAt (old new : Holding) (leaves : LeavesByName) (before now : ℕ) (commands : List Command) (r : Ready) : Type 0 where
   pub m : State
   pub works : m.halted ≡ None
   pub lines : List Line
   pub end : Point
   pub history : IsRunHistory m commands lines end
-  pub waits : Waits (print_header m.last.0 m.heads) lines r
+  pub waits : Waits (print_header m.last.0 (heads_of m)) lines r
   pub sound : AreSoundUnless before now lines
   pub left : ContinuesFrom old new leaves m lines end
 
 -- the same for the commands of the file that stands there
-pub record IsRunFrom (standing : Standing) (old new : Holding) (leaves : Leaves) (before now : ℕ) (r : Ready) : Type 0 where
+pub record IsRunFrom (standing : Standing) (old new : Holding) (leaves : LeavesByName) (before now : ℕ) (r : Ready) : Type 0 where
   pub commands : List Command
   pub read : IsReadAs standing commands
   pub run : IsRunAt old new leaves before now commands r
 
 -- the folder isn't opened, or memory ran out
-pub record IsStoppedAt (old new : Holding) (leaves : Leaves) (before now : ℕ) (commands : List Command) (stop : Stop) : Type 0 where
+pub record IsStoppedAt (old new : Holding) (leaves : LeavesByName) (before now : ℕ) (commands : List Command) (stop : Stop) : Type 0 where
   pub cause : IsOpenStop old before now stop
   pub left : IsRunLeft (λ asked. asked ≡ commands) old new leaves stop
 
 -- or the file isn't read
-pub record IsStoppedFrom (standing : Standing) (old new : Holding) (leaves : Leaves) (before now : ℕ) (stop : Stop) : Type 0 where
+pub record IsStoppedFrom (standing : Standing) (old new : Holding) (leaves : LeavesByName) (before now : ℕ) (stop : Stop) : Type 0 where
   pub cause : IsRunStop standing old before now stop
   pub left : IsRunLeft (Spells standing) old new leaves stop

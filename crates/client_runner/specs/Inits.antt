@@ -3,12 +3,12 @@ use Rattle.std.specs.Prelude.{◌≡◌, ◌⊎◌, ℕ, List}
 use Rattle.udt_disk.specs.Causes.{Rose}
 use Rattle.manifest.specs.Folders.{Means}
 use Rattle.manifest.specs.Folders.Meaning.{no_store}
-use Rattle.client_runner.specs.MakingStores.{IsNoneOrNew}
+use Rattle.recovery.specs.Making.{IsNoneOrNew}
 use Rattle.udt_disk.specs.OpensFolder.{Holding}
 use Rattle.udt_model.specs.declared.line.FamilyHead.{FamilyHead}
-use Rattle.client_runner.specs.Left.{Leaves, IsUnmadeAt, StaysAsItWas}
-use Rattle.client_runner.specs.declared.making.InitFault.{InitFault}
-use Rattle.client_runner.specs.declared.making.InitFault.TheVariants as faults
+use Rattle.client_runner.specs.Left.{LeavesByName, IsUnmadeAt, StaysAsItWas}
+use Rattle.recovery.specs.declared.fault.InitFault.{InitFault}
+use Rattle.recovery.specs.declared.fault.InitFault.TheVariants as faults
 use Rattle.client_runner.specs.declared.status.Stop.{Stop}
 use Rattle.client_runner.specs.declared.status.Stop.TheVariants.{StoreExists, BadManifest, DiskFault, NoMemory}
 
@@ -21,7 +21,7 @@ stop_of_making faults.NoMemory = NoMemory
 
 -- What is left where no store was made, for this stop. A folder that is refused is as it was. Else it wasn't opened, or where there
 -- was no store there is none still; where the disk failed, all of the new store may be there.
-abbrev pub IsInitLeft : Holding → Holding → Leaves → ℕ → ℕ → List FamilyHead → Stop → Type 0
+abbrev pub IsInitLeft : Holding → Holding → LeavesByName → ℕ → ℕ → List FamilyHead → Stop → Type 0
 IsInitLeft old new leaves before now families StoreExists = StaysAsItWas old new leaves
 IsInitLeft old new leaves before now families (BadManifest at) = StaysAsItWas old new leaves
 IsInitLeft old new leaves before now families NoMemory =

@@ -6,10 +6,10 @@ use Rattle.udt_model.specs.State.{State}
 use Rattle.udt_model.specs.Crashes.{Course, IsOutcome}
 use Rattle.wal.specs.declared.numbered.Numbered.{Numbered}
 use Rattle.wal.specs.declared.wal.Wal.{Wal}
-use Rattle.wal.specs.Wals.{Holds, file_of}
+use Rattle.wal.specs.Wals.{Holds, wal_file}
 use Rattle.wal.specs.Replays.{ReadsAs}
 use Rattle.manifest.specs.declared.fold.Folded.{Folded}
-use Rattle.client_runner.specs.Stores.{last_of, sizes_of, state_of}
+use Rattle.recovery.specs.Stores.{last_of, sizes_of, state_of}
 
 -- a crash left a log of batches, and with them the folder stands for an outcome of the history
 pub record ReadsAsOutcome (fold : Folded) (m : State) (c : Course) (image : Image) : Type 0 where
@@ -31,4 +31,4 @@ module _ {F : Type 0} (g : Ghosts F) where
   -- While the store isn't halted its log goes with its state; and whatever a crash leaves of the log is an outcome.
   pub record Keeps (fold : Folded) (wal : Wal F g) (m : State) (c : Course) : Type 0 where
     pub live : m.halted ≡ None → IsLive fold wal m c
-    pub outcomes : (image : Image) → g.may_leave (file_of wal) image → ReadsAsOutcome fold m c image
+    pub outcomes : (image : Image) → g.may_leave (wal_file wal) image → ReadsAsOutcome fold m c image

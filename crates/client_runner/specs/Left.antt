@@ -8,23 +8,23 @@ use Rattle.udt_disk.specs.declared.name.FileName.{FileName}
 use Rattle.udt_model.specs.declared.line.Line.{Line}
 use Rattle.udt_model.specs.declared.line.FamilyHead.{FamilyHead}
 use Rattle.udt_model.specs.declared.reply.Reply.{Reply}
-use Rattle.udt_model.specs.declared.reply.Reply.TheVariants.{Fault, Halted}
+use Rattle.udt_model.specs.declared.reply.Reply.TheVariants.{DroppedFault, Fault, Halted}
 use Rattle.udt_model.specs.State.{State}
 use Rattle.udt_model.specs.Histories.{Point, start}
-use Rattle.udt_model.specs.Crashes.{IsOutcome, course_start, course_behind}
+use Rattle.udt_model.specs.Crashes.{IsOutcome, course_start, course_behind, settled}
 use Rattle.manifest.specs.Folders.{Means}
 use Rattle.manifest.specs.Folders.Meaning.{no_store}
-use Rattle.client_runner.specs.Stores.{FolderStands}
-use Rattle.client_runner.specs.MakingStores.{new_state}
+use Rattle.recovery.specs.Stores.{FolderStands}
+use Rattle.recovery.specs.Making.{new_state}
 use Rattle.client_runner.specs.declared.status.Status.{Status}
 use Rattle.client_runner.specs.declared.status.Status.TheVariants as statuses
 
 -- what a crash may leave under the names of a folder
-abbrev pub Leaves : Type 1
-Leaves = FileName → Image → Type 0
+abbrev pub LeavesByName : Type 1
+LeavesByName = FileName → Image → Type 0
 
 -- a crash may leave this folder
-abbrev pub MayBeLeft : Leaves → Folder → Type 0
+abbrev pub MayBeLeft : LeavesByName → Folder → Type 0
 MayBeLeft leaves folder = (n : FileName) → leaves n (folder n)
 
 -- where it is told what folder stands there, it has P
@@ -42,14 +42,14 @@ TellsNoneOr (Some (Some folder)) P = P folder
 -- ---- what stays
 
 -- the folder stands there as it was, and a crash leaves nothing else
-pub record IsAsItWas (folder : Folder) (new : Holding) (leaves : Leaves) : Type 0 where
+pub record IsAsItWas (folder : Folder) (new : Holding) (leaves : LeavesByName) : Type 0 where
   pub stands : Folder
   pub new_is : new ≡ Some (Some stands)
   pub same : (n : FileName) → stands n ≡ folder n
   pub crash : (n : FileName) (c : Image) → leaves n c → c ≡ folder n
 
 -- where it is told what stands there, it is as it was
-abbrev pub StaysAsItWas : Holding → Holding → Leaves → Type 0
+abbrev pub StaysAsItWas : Holding → Holding → LeavesByName → Type 0
 StaysAsItWas None new leaves = ⊤
 StaysAsItWas (Some None) new leaves = new ≡ Some None
 StaysAsItWas (Some (Some folder)) new leaves = IsAsItWas folder new leaves
@@ -59,6 +59,7 @@ StaysAsItWas (Some (Some folder)) new leaves = IsAsItWas folder new leaves
 -- the reply tells that the disk failed, now or before
 abbrev pub tells_fault : Reply → Bool
 tells_fault Fault = true
+tells_fault DroppedFault = true
 tells_fault (Halted n) = true
 tells_fault reply = false
 
@@ -67,14 +68,15 @@ abbrev pub status_of_lines : List Line → Status
 status_of_lines lines = if list_any (λ l. tells_fault l.reply) lines then statuses.DiskFault else statuses.Done
 
 -- The folder keeps the lines that lead from the state m to this end: each folder that a crash may leave stands for an
--- outcome of theirs, and where no line tells a fault the folder, and each that a crash may leave, stands for all of them.
-pub record IsLeft (m : State) (lines : List Line) (end : Point) (stands : Folder) (leaves : Leaves) : Type 0 where
+-- outcome of theirs, and where no line tells a fault the folder, and each that a crash may leave, stands for all of them, as an opening
+-- gives it: without snapshots or jobs.
+pub record IsLeft (m : State) (lines : List Line) (end : Point) (stands : Folder) (leaves : LeavesByName) : Type 0 where
   pub crash : (folder : Folder) → MayBeLeft leaves folder → (left : State) × FolderStands folder left × IsOutcome end.state (course_behind (start m) (course_start m) lines) left
-  pub whole : status_of_lines lines ≡ statuses.Done → FolderStands stands end.state
-  pub whole_crash : status_of_lines lines ≡ statuses.Done → (folder : Folder) → MayBeLeft leaves folder → FolderStands folder end.state
+  pub whole : status_of_lines lines ≡ statuses.Done → FolderStands stands (settled end.state)
+  pub whole_crash : status_of_lines lines ≡ statuses.Done → (folder : Folder) → MayBeLeft leaves folder → FolderStands folder (settled end.state)
 
 -- the same of the folder under a path, which stood for m and nothing else
-pub record IsContinued (m : State) (lines : List Line) (end : Point) (folder : Folder) (new : Holding) (leaves : Leaves) : Type 0 where
+pub record IsContinued (m : State) (lines : List Line) (end : Point) (folder : Folder) (new : Holding) (leaves : LeavesByName) : Type 0 where
   pub opened : FolderStands folder m
   pub only : (n : State) → FolderStands folder n → n ≡ m
   pub stands : Folder
@@ -82,7 +84,7 @@ pub record IsContinued (m : State) (lines : List Line) (end : Point) (folder : F
   pub left : IsLeft m lines end stands leaves
 
 -- where it is told what stands there
-abbrev pub ContinuesFrom : Holding → Holding → Leaves → State → List Line → Point → Type 0
+abbrev pub ContinuesFrom : Holding → Holding → LeavesByName → State → List Line → Point → Type 0
 ContinuesFrom None new leaves m lines end = ⊤
 ContinuesFrom (Some None) new leaves m lines end = ⊥
 ContinuesFrom (Some (Some folder)) new leaves m lines end = IsContinued m lines end folder new leaves
@@ -90,25 +92,25 @@ ContinuesFrom (Some (Some folder)) new leaves m lines end = IsContinued m lines 
 -- ---- what making a store leaves
 
 -- the folder has P, and so does each that a crash may leave
-pub record IsMadeSo (P : Folder → Type 0) (new : Holding) (leaves : Leaves) : Type 0 where
+pub record IsMadeSo (P : Folder → Type 0) (new : Holding) (leaves : LeavesByName) : Type 0 where
   pub stands : Folder
   pub new_is : new ≡ Some (Some stands)
   pub has : P stands
   pub crash : (folder : Folder) → MayBeLeft leaves folder → P folder
 
 -- there was no store, and the folder is one of these families in which nothing was written
-abbrev pub IsMadeAt : Holding → Holding → Leaves → List FamilyHead → Type 0
+abbrev pub IsMadeAt : Holding → Holding → LeavesByName → List FamilyHead → Type 0
 IsMadeAt None new leaves families = ⊤
 IsMadeAt (Some None) new leaves families = IsMadeSo (λ folder. FolderStands folder (new_state families)) new leaves
 IsMadeAt (Some (Some before)) new leaves families = Means before no_store × IsMadeSo (λ folder. FolderStands folder (new_state families)) new leaves
 
 -- it wasn't made: where there was no store the folder has P, as each that a crash may leave; else it is as it was
-pub record IsUnmadeIn (P : Folder → Type 0) (before : Folder) (new : Holding) (leaves : Leaves) : Type 0 where
+pub record IsUnmadeIn (P : Folder → Type 0) (before : Folder) (new : Holding) (leaves : LeavesByName) : Type 0 where
   pub none : Means before no_store → IsMadeSo P new leaves
   pub some : ¬ Means before no_store → IsAsItWas before new leaves
 
 -- where it is told what stands there
-abbrev pub IsUnmadeAt : (Folder → Type 0) → Holding → Holding → Leaves → Type 0
+abbrev pub IsUnmadeAt : (Folder → Type 0) → Holding → Holding → LeavesByName → Type 0
 IsUnmadeAt P None new leaves = ⊤
 IsUnmadeAt P (Some None) new leaves = IsMadeSo P new leaves
 IsUnmadeAt P (Some (Some before)) new leaves = IsUnmadeIn P before new leaves

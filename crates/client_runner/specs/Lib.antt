@@ -1,7 +1,3 @@
-pub mod Stores
-pub mod Openings
-pub mod Opened
-pub mod MakingStores
 pub mod Keeping
 pub mod Logging
 pub mod LoggedStores

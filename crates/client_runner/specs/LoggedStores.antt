@@ -4,21 +4,21 @@ use Rattle.udt_disk.specs.Causes.{Rose}
 use Rattle.udt_disk.specs.declared.file.DiskFile.{Ghosts}
 use Rattle.udt_model.specs.declared.event.Event.{Event}
 use Rattle.udt_model.specs.declared.reply.Reply.{Reply}
-use Rattle.udt_model.specs.State.{State}
+use Rattle.udt_model.specs.State.{State, heads_of}
 use Rattle.udt_model.specs.Crashes.{Course}
 use Rattle.client_runner.specs.Named.{course_after}
 use Rattle.client_runner.specs.Named.{IsReply, after}
 use Rattle.udt_model.specs.Lines.{says_fault}
-use Rattle.gate_log.specs.Outcomes.{IsSameFile}
-use Rattle.gate_log.specs.Tearing.{Leaves}
+use Rattle.udt_disk.specs.Runs.{IsSameFile}
+use Rattle.udt_disk.specs.Runs.{Leaves}
 use Rattle.wal.specs.declared.wal.Wal.{Wal}
-use Rattle.wal.specs.Wals.{file_of, sizes_of}
+use Rattle.wal.specs.Wals.{wal_file, wal_sizes}
 use Rattle.manifest.specs.declared.fold.Folded.{Folded}
 use Rattle.client_lang.specs.Print.{IsBuiltReply}
 use Rattle.client_runner.specs.declared.solo.logged.LoggedStore.{LoggedStore}
 use Rattle.client_runner.specs.Keeping.{Keeps, ReadsAsOutcome}
 use Rattle.client_runner.specs.Logging.{HasRoom}
-use Rattle.client_runner.specs.Stores as stores
+use Rattle.recovery.specs.Stores as stores
 
 -- a disk fault comes only where the count of the file rose; else it stays
 abbrev pub IsStepCause : ℕ → ℕ → Bool → Type 0
@@ -38,14 +38,14 @@ module _ {F : Type 0} (g : Ghosts F) where
   -- Until the disk failed the next write may be logged. The log has the sizes of the store's families.
   pub record IsInStep (wal : Wal F g) (m : State) : Type 0 where
     pub ready : m.halted ≡ None → HasRoom g wal (m.last.0 + 1)
-    pub sizes : length (sizes_of wal) ≡ length m.heads
+    pub sizes : length (wal_sizes wal) ≡ length (heads_of m)
 
   -- Where the old log kept the history, the new one keeps it with this event; and at each moment between them a crash left an
   -- outcome of the one or of the other. The families of the fold have the log's sizes.
   pub record KeepsOn (old new : Wal F g) (m n : State) (number : ℕ) (event : Event) (reply : Reply) : Type 0 where
-    pub keeps : (fold : Folded) (c : Course) → fold.last.0 ≡ 0 → stores.sizes_of fold ≡ sizes_of old → Keeps g fold old m c → Keeps g fold new n (course_after m number c event reply)
-    pub moments : (fold : Folded) (c : Course) → fold.last.0 ≡ 0 → stores.sizes_of fold ≡ sizes_of old → Keeps g fold old m c
-        → Leaves g (file_of old) (file_of new) (λ image. ReadsAsOutcome fold m c image ⊎ ReadsAsOutcome fold n (course_after m number c event reply) image)
+    pub keeps : (fold : Folded) (c : Course) → fold.last.0 ≡ 0 → stores.sizes_of fold ≡ wal_sizes old → Keeps g fold old m c → Keeps g fold new n (course_after m number c event reply)
+    pub moments : (fold : Folded) (c : Course) → fold.last.0 ≡ 0 → stores.sizes_of fold ≡ wal_sizes old → Keeps g fold old m c
+        → Leaves g (wal_file old) (wal_file new) (λ image. ReadsAsOutcome fold m c image ⊎ ReadsAsOutcome fold n (course_after m number c event reply) image)
 
   -- what the event of this number leaves of the log and the state with this reply, and that the reply is legal
   pub record IsStep (old new : Wal F g) (m n : State) (number : ℕ) (event : Event) (reply : Reply) : Type 0 where
@@ -53,8 +53,8 @@ module _ {F : Type 0} (g : Ghosts F) where
     pub after_is : n ≡ after m number event reply
     pub built : IsBuiltReply reply
     pub in_step : IsInStep new n
-    pub cause : IsStepCause (g.faults (file_of old)) (g.faults (file_of new)) (says_fault reply)
-    pub later : g.faults (file_of old) ≤ g.faults (file_of new)
-    pub same : IsSameFile g (file_of old) (file_of new)
-    pub sizes : sizes_of new ≡ sizes_of old
+    pub cause : IsStepCause (g.faults (wal_file old)) (g.faults (wal_file new)) (says_fault reply)
+    pub later : g.faults (wal_file old) ≤ g.faults (wal_file new)
+    pub same : IsSameFile g (wal_file old) (wal_file new)
+    pub sizes : wal_sizes new ≡ wal_sizes old
     pub keeps_on : KeepsOn old new m n number event reply

@@ -2,8 +2,8 @@
 use Rattle.std.specs.Prelude.{◌≡◌, ◌⊎◌, ℕ, ◌<◌, ◌≤◌, Bool, true, false, List, [], ◌∷◌, ◌++◌, ◌+◌, drop, map, ⊤, Result, Ok, Err}
 use Rattle.udt_disk.specs.Causes.{Rose}
 use Rattle.udt_disk.specs.declared.file.DiskFile.{Ghosts}
-use Rattle.gate_log.specs.Outcomes.{IsSameFile}
-use Rattle.gate_log.specs.Tearing.{Leaves}
+use Rattle.udt_disk.specs.Runs.{IsSameFile}
+use Rattle.udt_disk.specs.Runs.{Leaves}
 use Rattle.gate_log.specs.declared.fault.LogFault.{LogFault}
 use Rattle.gate_log.specs.declared.fault.LogFault.TheVariants.{DiskFault, NoMemory}
 use Rattle.udt_model.specs.State.{State}
@@ -11,7 +11,7 @@ use Rattle.wal.specs.declared.numbered.Numbered.{Numbered}
 use Rattle.wal.specs.declared.wal.Wal.{Wal}
 use Rattle.wal.specs.Replays.{IsBeforeOrAfter}
 use Rattle.wal.specs.Sequences.{sequence_after}
-use Rattle.wal.specs.Wals.{Holds, MayGoOn, file_of, pending_of, sizes_of}
+use Rattle.wal.specs.Wals.{Holds, MayGoOn, wal_file, wal_pending, wal_sizes}
 use Rattle.client_runner.specs.Adding.{op_of}
 
 -- the batch of the versions of a store behind the first ones, with the sequences behind the last one
@@ -22,7 +22,7 @@ module _ {F : Type 0} (g : Ghosts F) where
   -- a batch that begins with this sequence may be added
   pub record HasRoom (wal : Wal F g) (first : ℕ) : Type 0 where
     pub next : MayGoOn g wal first
-    pub room : pending_of wal < 1048576
+    pub room : wal_pending wal < 1048576
 
   -- what the log holds: the batch waits or is on the disk, where a sync was asked on the disk; without memory what it held
   abbrev pub HoldsLogged : Wal F g → List Numbered → List Numbered → Numbered → Bool → Result (Unit {0}) LogFault → Type 0
@@ -33,15 +33,15 @@ module _ {F : Type 0} (g : Ghosts F) where
 
   -- the next batch may go on behind this one; without memory in its place, and the file is as it was
   abbrev pub GoesOnLogged : Wal F g → Wal F g → Numbered → Result (Unit {0}) LogFault → Type 0
-  GoesOnLogged old new n (Ok done) = HasRoom new (sequence_after n) × (g.faults (file_of new) ≡ g.faults (file_of old))
-  GoesOnLogged old new n (Err DiskFault) = Rose (g.faults (file_of old)) (g.faults (file_of new))
-  GoesOnLogged old new n (Err NoMemory) = HasRoom new n.first.0 × (file_of new ≡ file_of old)
+  GoesOnLogged old new n (Ok done) = HasRoom new (sequence_after n) × (g.faults (wal_file new) ≡ g.faults (wal_file old))
+  GoesOnLogged old new n (Err DiskFault) = Rose (g.faults (wal_file old)) (g.faults (wal_file new))
+  GoesOnLogged old new n (Err NoMemory) = HasRoom new n.first.0 × (wal_file new ≡ wal_file old)
 
   -- the batch was added, and perhaps synced; at each moment a crash leaves the batches from before or all
   pub record IsLogged (old new : Wal F g) (n : Numbered) (sync : Bool) (result : Result (Unit {0}) LogFault) : Type 0 where
     pub goes_on : GoesOnLogged old new n result
     pub holds : (batches waiting : List Numbered) → Holds g old batches waiting → HoldsLogged new batches waiting n sync result
-    pub moments : (batches waiting : List Numbered) → Holds g old batches waiting → Leaves g (file_of old) (file_of new) (IsBeforeOrAfter (sizes_of old) batches (waiting ++ n ∷ []))
-    pub later : g.faults (file_of old) ≤ g.faults (file_of new)
-    pub same : IsSameFile g (file_of old) (file_of new)
-    pub sizes : sizes_of new ≡ sizes_of old
+    pub moments : (batches waiting : List Numbered) → Holds g old batches waiting → Leaves g (wal_file old) (wal_file new) (IsBeforeOrAfter (wal_sizes old) batches (waiting ++ n ∷ []))
+    pub later : g.faults (wal_file old) ≤ g.faults (wal_file new)
+    pub same : IsSameFile g (wal_file old) (wal_file new)
+    pub sizes : wal_sizes new ≡ wal_sizes old

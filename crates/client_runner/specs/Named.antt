@@ -9,7 +9,7 @@ use Rattle.udt_model.specs.declared.place.Place.{Place}
 use Rattle.udt_model.specs.declared.reply.Reply.{Reply}
 use Rattle.udt_model.specs.declared.reply.Reply.TheVariants.{Done, OkAt, Below, Full, Unknown, Fault}
 use Rattle.udt_model.specs.Versions.{newest_of, of_key}
-use Rattle.udt_model.specs.State.{State, place_from, family_of as family_named}
+use Rattle.udt_model.specs.State.{State, place_from, family_of as family_named, heads_of}
 use Rattle.udt_model.specs.Refusals.{fell, halt, unknown_place, ◌or_else◌}
 use Rattle.udt_model.specs.Steps.{got}
 use Rattle.udt_model.specs.Lines.{IsWant}
@@ -17,10 +17,10 @@ use Rattle.udt_model.specs.Names.{act_of, no_names}
 use Rattle.udt_model.specs.Crashes.{Course, course_after_or}
 
 abbrev pub place_of : State → List ℕ → Option Place
-place_of m name = place_from 0 m.heads name
+place_of m name = place_from 0 (heads_of m) name
 
 abbrev pub family_of : State → NamedOp → Family
-family_of m o = family_named m.heads o.family
+family_of m o = family_named (heads_of m) o.family
 
 -- the version that an operation makes
 abbrev pub version_of : Family → NamedOp → ℕ → Version
@@ -94,4 +94,4 @@ after m number event reply = m
 
 -- what an event that uses no names makes of a course
 abbrev pub course_after : State → ℕ → Course → Event → Reply → Course
-course_after m number c event reply = course_after_or m number c (act_of m.heads no_names event) reply
+course_after m number c event reply = course_after_or m number c (act_of (heads_of m) no_names event) reply

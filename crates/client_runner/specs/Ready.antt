@@ -1,6 +1,6 @@
 -- Transcripts that wait to be written, and why there is none.
 use Rattle.std.specs.Prelude.{◌≡◌, ◌⊎◌, ℕ, ◌≤◌, List, ◌++◌, length, All, Some}
-use Rattle.udt_disk.specs.Opens.{Standing, Stands}
+use Rattle.udt_disk.specs.Opens.{Standing, IsStanding}
 use Rattle.client_lang.specs.declared.command.Command.{Command}
 use Rattle.udt_model.specs.Histories.{IsSound}
 use Rattle.client_runner.specs.Expand.{IsSoloHistory}
@@ -17,11 +17,12 @@ use Rattle.client_runner.specs.declared.output.Ready.{Ready}
 use Rattle.client_runner.specs.declared.status.Status.{Status}
 use Rattle.client_runner.specs.declared.status.Stop.{Stop}
 use Rattle.client_runner.specs.declared.status.Stop.TheVariants.{TooLong, TooMany, BadLine, NoMemory}
+use Rattle.udt_model.specs.State.{heads_of}
 
 -- the commands of the file that stands there
 pub record IsReadAs (standing : Standing) (commands : List Command) : Type 0 where
   pub bytes : List ℕ
-  pub stands : Stands standing (Some bytes)
+  pub stands : IsStanding standing (Some bytes)
   pub spelled : IsFile bytes commands
   pub only : (other : List Command) → IsFile bytes other → other ≡ commands
   pub built : All IsBuiltCommand commands
@@ -36,7 +37,7 @@ text_of r = r.buffer.items ++ print_lines r.lines.items
 pub record IsTranscribed (commands : List Command) (r : Ready) : Type 0 where
   pub history : IsSoloHistory fresh commands r.lines.items
   pub sound : All IsSound r.lines.items
-  pub header : r.buffer.items ≡ print_header 0 fresh.heads
+  pub header : r.buffer.items ≡ print_header 0 (heads_of fresh)
   pub built : All IsBuiltLine r.lines.items
   pub room : HasRoom r.buffer r.lines.items
 
@@ -49,7 +50,7 @@ pub record IsReady (bytes : List ℕ) (r : Ready) : Type 0 where
 -- the same for the file that stands there
 pub record IsTried (standing : Standing) (r : Ready) : Type 0 where
   pub bytes : List ℕ
-  pub stands : Stands standing (Some bytes)
+  pub stands : IsStanding standing (Some bytes)
   pub ready : IsReady bytes r
 
 -- the stop of a fault of reading

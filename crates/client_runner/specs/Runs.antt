@@ -8,27 +8,27 @@ use Rattle.udt_disk.specs.declared.name.FileName.{FileName}
 use Rattle.udt_disk.specs.declared.file.DiskFile as file
 use Rattle.udt_disk.specs.declared.disk.Disk as disk
 use Rattle.udt_model.specs.declared.line.Line.{Line}
-use Rattle.udt_model.specs.State.{State, unflushed}
+use Rattle.udt_model.specs.State.{State, unflushed, heads_of}
 use Rattle.udt_model.specs.Histories.{Point, Leads, start}
 use Rattle.client_lang.specs.declared.command.Command.{Command}
 use Rattle.client_lang.specs.Print.{IsBuiltCommand, IsBuiltLine, print_header}
 use Rattle.client_runner.specs.Expand.{IsRunHistory}
 use Rattle.client_runner.specs.Left.{IsLeft}
-use Rattle.client_runner.specs.MakingStores.{IsClean}
-use Rattle.client_runner.specs.Opened.{IsOpened}
-use Rattle.client_runner.specs.Openings.{RefusesOpening}
+use Rattle.udt_disk.specs.Moments.{IsClean}
+use Rattle.recovery.specs.Opening.{IsOpened}
+use Rattle.recovery.specs.Fault.{RefusesOpening}
 use Rattle.client_runner.specs.Output.{HasRoom}
-use Rattle.manifest.specs.Manifest.{file_of as manifest_file}
-use Rattle.manifest.specs.Moments.{OnlyReads}
-use Rattle.wal.specs.Wals.{file_of as wal_file}
-use Rattle.client_runner.specs.declared.recovery.Parts.{Parts}
+use Rattle.manifest.specs.Manifest.{manifest_file}
+use Rattle.udt_disk.specs.Moments.{OnlyReads, alone, holding}
+use Rattle.wal.specs.Wals.{wal_file}
+use Rattle.recovery.specs.declared.opening.Parts.{Parts}
 use Rattle.client_runner.specs.Sessions.{HasSession}
 use Rattle.client_runner.specs.Solo.{AreSoundUnless}
 use Rattle.client_runner.specs.declared.solo.logged.LoggedStore.{LoggedStore}
-use Rattle.client_runner.specs.Stores.{FolderStands}
+use Rattle.recovery.specs.Stores.{FolderStands}
 use Rattle.client_runner.specs.declared.output.Ready.{Ready}
-use Rattle.client_runner.specs.declared.recovery.OpenFault.{OpenFault}
-use Rattle.client_runner.specs.declared.recovery.OpenFault.TheVariants as faults
+use Rattle.recovery.specs.declared.fault.OpenFault.{OpenFault}
+use Rattle.recovery.specs.declared.fault.OpenFault.TheVariants as faults
 use Rattle.client_runner.specs.declared.status.Stop.{Stop}
 use Rattle.client_runner.specs.declared.status.Stop.TheVariants.{NoStore, BadManifest, BadLog, DiskFault, NoMemory}
 
@@ -70,7 +70,7 @@ state_of_parts parts = unflushed parts.heads.items parts.versions.items parts.la
 
 -- the files that the parts hold
 abbrev pub files_of : {D F : Type 0} {f : file.Ghosts F} → Parts D F f → List F
-files_of parts = manifest_file parts.manifest ∷ wal_file parts.wal ∷ []
+files_of parts = wal_file parts.wal ∷ manifest_file parts.manifest ∷ []
 
 module _ {D F : Type 0} (d : disk.Ghosts D F) where
   -- A folder that was just opened, and told what stood there, stood for the state m and keeps these lines.
@@ -85,7 +85,7 @@ module _ {D F : Type 0} (d : disk.Ghosts D F) where
     pub lines : List Line
     pub end : Point
     pub history : IsRunHistory m commands lines end
-    pub waits : Waits (print_header m.last.0 m.heads) lines r
+    pub waits : Waits (print_header m.last.0 (heads_of m)) lines r
     pub sound : AreSoundUnless (d.faults old) (d.faults new) lines
     pub kept : IsTrue (d.is_told old) → IsClean d old → KeepsLines old new m lines end
 
@@ -121,6 +121,6 @@ pub record HasRunParts {D F E : Type 0} (d : disk.Ghosts D F) (f : file.Ghosts F
   pub ready : IfOk result (λ r. IsRunHistory (state_of_parts parts) commands lines end × Waits (print_header parts.last.0 parts.heads.items) lines r)
   pub sound : AreSoundUnless (d.faults parts.disk) (d.faults new) lines
   pub later : d.faults parts.disk ≤ d.faults new
-  pub kept : (opened : D) → IsTrue (d.is_told opened) → IsClean d opened → IsOpened d f opened parts → OnlyReads d f opened parts.disk (files_of parts)
+  pub kept : (opened : D) → IsTrue (d.is_told opened) → IsClean d opened → IsOpened d f opened parts → OnlyReads d f (alone opened) (holding parts.disk (files_of parts))
       → d.is_told parts.disk ≡ d.is_told opened → f.is_told (wal_file parts.wal) ≡ d.is_told opened → f.is_told (manifest_file parts.manifest) ≡ d.is_told opened
       → KeepsLines d opened new (state_of_parts parts) lines end

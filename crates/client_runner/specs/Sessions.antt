@@ -5,20 +5,20 @@ use Rattle.udt_model.specs.declared.line.Line.{Line}
 use Rattle.udt_model.specs.declared.line.Mark.{Mark}
 use Rattle.udt_model.specs.Crashes.{Course, course_start, course_behind}
 use Rattle.udt_model.specs.Histories.{start}
-use Rattle.gate_log.specs.Outcomes.{IsSameFile}
-use Rattle.wal.specs.Wals.{file_of, sizes_of as wal_sizes}
+use Rattle.udt_disk.specs.Runs.{IsSameFile}
+use Rattle.wal.specs.Wals.{wal_file, wal_sizes}
 use Rattle.manifest.specs.declared.fold.Folded.{Folded}
 use Rattle.client_lang.specs.declared.command.Command.{Command}
 use Rattle.client_runner.specs.Keeping.{Keeps}
 use Rattle.client_runner.specs.LoggedStores.{IsInStep, state_of, wal_of}
 use Rattle.client_runner.specs.Solo.{HasRun, HasSynced, AreSoundUnless}
-use Rattle.client_runner.specs.Stores.{sizes_of}
+use Rattle.recovery.specs.Stores.{sizes_of}
 use Rattle.client_runner.specs.declared.solo.logged.LoggedStore.{LoggedStore}
 
 module _ {F : Type 0} (g : Ghosts F) where
   -- how often the file of the log has failed
   abbrev pub faults_of : LoggedStore F g → ℕ
-  faults_of s = g.faults (file_of (wal_of s))
+  faults_of s = g.faults (wal_file (wal_of s))
 
   -- What a crash may leave of the log are outcomes of the history so far, in a folder whose manifest has this fold.
   abbrev pub KeepsCourse : LoggedStore F g → Folded → Course → Type 0
@@ -30,7 +30,7 @@ module _ {F : Type 0} (g : Ghosts F) where
     pub kept : (fold : Folded) → KeepsCourse old fold (course_start (state_of old)) → KeepsCourse new fold (course_behind (start (state_of old)) (course_start (state_of old)) lines)
     pub later : faults_of old ≤ faults_of new
     pub sound : AreSoundUnless (faults_of old) (faults_of new) lines
-    pub same : IsSameFile g (file_of (wal_of old)) (file_of (wal_of new))
+    pub same : IsSameFile g (wal_file (wal_of old)) (wal_file (wal_of new))
 
   -- client 1 has made these commands
   pub record HasRunOn (old new : LoggedStore F g) (commands : List Command) (lines : List Line) (last : Mark) : Type 0 where

@@ -30,7 +30,7 @@ pub record HasRun (m : State) (commands : List Command) (lines : List Line) (sto
   pub number_is : end.number ≡ last.number
   pub last_is : end.last (Client 1) ≡ last
   pub runner_is : end.last Runner ≡ no_mark
-  pub count : last.number + last.sub ≤ length commands
+  pub count : last.number + last.sub ≤ length lines
   pub printed : All IsBuiltLine lines
 
 -- so it has, and the runner has made its sync

@@ -10,7 +10,7 @@ use Rattle.client_lang.specs.Print.{line_of}
 use Rattle.manifest.specs.declared.fold.Folded.{Folded}
 use Rattle.manifest.specs.Folders.{Means}
 use Rattle.manifest.specs.Folders.Meaning.{no_store, bad_at, store}
-use Rattle.client_runner.specs.Openings.{IsBadLog}
+use Rattle.recovery.specs.Fault.{IsBadLog}
 use Rattle.client_runner.specs.Left.{TellsFolder, TellsNoneOr}
 use Rattle.client_runner.specs.declared.status.Status.{Status}
 use Rattle.client_runner.specs.declared.status.Status.TheVariants as statuses

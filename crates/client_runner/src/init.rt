@@ -8,9 +8,9 @@ ghost use Rattle.client_runner.specs.Inits.{stop_of_making, IsInitLeft};
 ghost use Rattle.client_runner.specs.Left.{IsMadeAt};
 ghost use Rattle.client_runner.specs.Stops.{IsInitStop};
 
-use crate::making::{InitFault, make_store};
 use crate::status::Stop;
 use manifest::Head;
+use recovery::{InitFault, make_store};
 use std::alloc::Global;
 use udt_disk::{Host, Text};
 

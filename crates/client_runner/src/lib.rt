@@ -6,10 +6,8 @@
 
 mod flow;
 mod init;
-mod making;
 mod output;
 mod reading;
-mod recovery;
 mod run;
 mod solo;
 mod status;
@@ -18,6 +16,3 @@ mod words;
 
 pub use status::Status;
 pub use top::{refuse_words, store_plain};
-
-#[cfg(test)]
-mod tests;

@@ -1,6 +1,6 @@
 //! The commands of a file under a path.
 ghost use Rattle.std.specs.Prelude.{◌≡◌, ◌≤◌, Some, IfOk, IfErr};
-ghost use Rattle.udt_disk.specs.Opens.{Stands, StaysBut};
+ghost use Rattle.udt_disk.specs.Opens.{IsStanding, StaysBut};
 ghost use Rattle.udt_disk.specs.OpensFolder.{KeepsFolders, LeavesNoMoreBut};
 ghost use Rattle.client_runner.specs.Hosts.{UsesFile, StaysOrGoes};
 ghost use Rattle.client_runner.specs.Ready.{IsReadAs, stop_of_read};
@@ -14,7 +14,7 @@ use udt_disk::{Host, Text};
 
 /// The bytes of the file under a path.
 fn read_file<H: Host>(alloc: Global, path: &Text, host: &mut H) -> Result<Vec<u8>, Stop>
-    ensures ok { IfOk result (λ bytes. Stands (H.standing host.old path.now) (Some bytes.items)) }
+    ensures ok { IfOk result (λ bytes. IsStanding (H.standing host.old path.now) (Some bytes.items)) }
     ensures stopped { IfErr result (IsFileStop (H.standing host.old path.now) (H.faults host.old) (H.faults host.new)) }
     ensures uses { UsesFile H.Host path.now host.old host.new }
 {

@@ -6,7 +6,7 @@ ghost use Rattle.udt_disk.specs.Crash.{Image, NoMore};
 ghost use Rattle.udt_disk.specs.Opens.{StaysBut};
 ghost use Rattle.udt_disk.specs.OpensFolder.{KeepsFoldersBut, LeavesNoMoreBut};
 ghost use Rattle.udt_disk.specs.declared.name.FileName.{FileName as NameOf};
-ghost use Rattle.wal.specs.Wals.{file_of as wal_file, sizes_of, pending_of, MayGoOn};
+ghost use Rattle.wal.specs.Wals.{wal_file, wal_sizes, wal_pending, MayGoOn};
 ghost use Rattle.client_lang.specs.Print.{IsBuiltCommand};
 ghost use Rattle.client_lang.specs.Stamps.{IsStampedCommand};
 ghost use Rattle.client_runner.specs.Hosts.{UsesFolder, StaysElsewhere, FileStaysOrGoes, LeavesNoMoreElsewhere};
@@ -17,10 +17,10 @@ ghost use Rattle.client_runner.specs.Runs.{CanRun, HasRunOver, HasRunParts, IsRu
 
 use crate::output::{Ready, header_of, ready_of};
 use crate::reading::read_commands;
-use crate::recovery::{OpenFault, Parts, open_store};
 use crate::solo::{LoggedStore, PlainStore, run_and_sync};
 use crate::status::{Status, Stop};
 use client_lang::Command;
+use recovery::{OpenFault, Parts, open_store};
 use std::alloc::{AllocError, Global};
 use ts_key::NoMemory;
 use udt_disk::{Disk, DiskFile, Host, Text};
@@ -30,7 +30,10 @@ use udt_model::{Line, Reply};
 fn tells_fault(reply: &Reply) -> bool
     ensures { result ≡ reply_tells reply.now }
 {
-    matches!(reply, Reply::Fault | Reply::Halted { .. })
+    matches!(
+        reply,
+        Reply::Fault | Reply::DroppedFault | Reply::Halted { .. }
+    )
 }
 
 /// One of the lines tells that the disk failed, now or before.
@@ -95,8 +98,8 @@ fn run_parts<D: Disk>(
 ) -> (D, Result<Ready, NoMemory>)
     requires can_run { CanRun commands.items lines }
     requires heads { length parts.heads.items ≤ 16 }
-    requires sizes { length (sizes_of parts.wal) ≡ length parts.heads.items }
-    requires pending { pending_of parts.wal ≡ 0 }
+    requires sizes { length (wal_sizes parts.wal) ≡ length parts.heads.items }
+    requires pending { wal_pending parts.wal ≡ 0 }
     requires within { parts.last.0 < 2 ^ 56 }
     requires goes_on { MayGoOn D.File.DiskFile parts.wal (parts.last.0 + 1) }
     requires fresh { D.File.faults (wal_file parts.wal) ≡ 0 }

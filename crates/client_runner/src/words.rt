@@ -28,15 +28,20 @@ usage:
   udtstore --help                        prints this
   udtstore --version                     prints the version
 
-commands, one a line; empty lines and lines that begin with # are skipped:
+commands, one a line, with their replies; empty lines and lines that begin with # are skipped:
   put F K T V   writes the value V of the key K at the timestamp T in the family F; try has the one family d
   del F K T     deletes the key K at the timestamp T
-  get F K T     reads the value of the key K at the timestamp T
-  sync          puts every write on the disk
+                both: ok SEQUENCE; fell OP NEWEST where operation OP is older than its key's newest; full LAST
+  get F K T     reads the value of the key K at the timestamp T: found V TIMESTAMP; absent
+  sync          puts every write on the disk: ok
 1 to 64 puts and dels with ; as a word between them are one write, which is taken whole or not at all.
 The word sync behind a write puts it on the disk before its reply.
+Any may reply unknown (no such family) or no memory; writes and syncs fault (the disk failed), then halted LINE.
 K and V are 1 or more of A-Z a-z 0-9 _ - . / : @ + that don't begin with 0x,
 or 0x and an even number of 0-9 a-f. T is a decimal number.
+
+it ends with 0 done, 2 bad words or a bad file, 3 no store, a store already, or a damaged one, 4 the disk failed,
+5 the output failed, 6 the file can't be read, 7 no memory; standard error says why.
 ";
 
 /// What `--version` prints.

@@ -6,7 +6,7 @@ use Rattle.std.proofs.lemmas.List.{take_at, drop_at, drop_more, append-nil, take
 use Rattle.std.proofs.lemmas.Bool.{cases_eq}
 use Rattle.udt_disk.specs.Bytes.{overwritten, Torn}
 use Rattle.udt_disk.specs.Crash.{Image, Tears}
-use Rattle.gate_log.specs.Frames.{frame, framed, staged, IsBody, AreBodies, IsLog, ReadsAs, IsBeforeOrAfter}
+use Rattle.gate_log.specs.Frames.{frame, framed, staged, IsBody, AreBodies, IsLog, IsLogImage, IsWithOrWithout}
 
 -- a byte before what was written behind it: both are one write
 pub overwritten-before : (at byte : ℕ) (bytes old : List ℕ) → at + 1 ≤ length old → overwritten (overwritten old (at + 1) bytes) at (byte ∷ []) ≡ overwritten old at (byte ∷ bytes)
@@ -88,7 +88,7 @@ module _ (bodies : List (List ℕ)) (end : ℕ) (ends : end ≡ length (framed b
     fit = log.fit;
   }
 
-  pub torn_behind : (n : ℕ) (old : List ℕ) → IsLog bodies old → (c : Image) → Tears (end + 1) n (Some old) c → ReadsAs bodies c
+  pub torn_behind : (n : ℕ) (old : List ℕ) → IsLog bodies old → (c : Image) → Tears (end + 1) n (Some old) c → IsLogImage bodies c
   torn_behind n old log None torn = torn
   torn_behind n old log (Some new) torn = behind n old new log torn
 
@@ -118,7 +118,7 @@ module _ (bodies : List (List ℕ)) (end : ℕ) (ends : end ≡ length (framed b
         | inr shut ↦ inl (record { gate = gate; rest = rest; shut = shut; is = whole; fit = log.fit })
       ]
 
-  pub torn_gate : (body old : List ℕ) → IsBody body → IsStaged bodies body old → (c : Image) → Tears end 1 (Some old) c → IsBeforeOrAfter bodies body c
+  pub torn_gate : (body old : List ℕ) → IsBody body → IsStaged bodies body old → (c : Image) → Tears end 1 (Some old) c → IsWithOrWithout bodies body c
   torn_gate body old fit log None torn = absurd torn
   torn_gate body old fit log (Some new) torn = either body old new fit log torn
 

@@ -1,4 +1,4 @@
 pub mod Bytes
 pub mod Steps
 pub mod Reading
-pub mod OnlyReads
+pub mod Fronts

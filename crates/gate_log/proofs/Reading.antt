@@ -176,6 +176,13 @@ none_is_bad frames at bytes front (inl first) past =
     record { front = front; torn = subst (λ (k : ℕ). IsTorn frames (drop k bytes)) (sym first) (torn_at_front frames bytes (sym first ∙ front.end) (omega (arith, first, past))) }
 none_is_bad frames at bytes front (inr within) past = absurd (omega (arith, within, past))
 
+-- where no frame goes on, and no gate is shut, the bytes are bad
+pub bad_there : (frames : List Placed) (at : ℕ) (bytes : List ℕ) → IsFront frames at bytes → (at ≡ 0) ⊎ (at < length bytes)
+    → (length bytes ≤ at) ⊎ ((at < length bytes) × (get_or bytes at 0 ≡ 165) × ((n : ℕ) → IsWhole n (drop (at + 1) bytes) → ⊥)) → IsBad frames at bytes
+bad_there frames at bytes front within (inl past) = none_is_bad frames at bytes front within past
+bad_there frames at bytes front within (inr torn) =
+    record { front = front; torn = subst (λ (l : List ℕ). IsTorn frames l) (sym (drop_more bytes at 0 torn.0)) (torn.1, torn.2) }
+
 -- what is refused as bad is no log
 pub refused_by : (fault : FramesFault) (bytes : List ℕ) → IsFrontFault fault bytes → IsFramesFault fault bytes
 refused_by (BadFrame at before) bytes bad = (bad, bad_is_none before.items at bytes bad)

@@ -39,10 +39,10 @@ pub record IsLog (bodies : List (List ℕ)) (bytes : List ℕ) : Type 0 where
   pub fit : AreBodies bodies
 
 -- a crash left a log of these bodies
-abbrev pub ReadsAs : List (List ℕ) → Image → Type 0
-ReadsAs bodies None = ⊥
-ReadsAs bodies (Some bytes) = IsLog bodies bytes
+abbrev pub IsLogImage : List (List ℕ) → Image → Type 0
+IsLogImage bodies None = ⊥
+IsLogImage bodies (Some bytes) = IsLog bodies bytes
 
 -- a log of these bodies, or of these and one more
-abbrev pub IsBeforeOrAfter : List (List ℕ) → List ℕ → Image → Type 0
-IsBeforeOrAfter bodies body image = ReadsAs bodies image ⊎ ReadsAs (bodies ++ body ∷ []) image
+abbrev pub IsWithOrWithout : List (List ℕ) → List ℕ → Image → Type 0
+IsWithOrWithout bodies body image = IsLogImage bodies image ⊎ IsLogImage (bodies ++ body ∷ []) image

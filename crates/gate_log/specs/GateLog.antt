@@ -7,16 +7,16 @@ use Rattle.gate_log.specs.declared.log.GateLog.{GateLog}
 
 module _ {F : Type 0} {g : Ghosts F} where
   -- the file that the log holds
-  abbrev pub file_of : GateLog F g → F
-  file_of log = log.file
+  abbrev pub log_file : GateLog F g → F
+  log_file log = log.file
 
   -- the offset of the gate behind the last frame
-  abbrev pub end_of : GateLog F g → ℕ
-  end_of log = log.end
+  abbrev pub log_end : GateLog F g → ℕ
+  log_end log = log.end
 
   -- how many bytes the next frame may have without memory
-  abbrev pub room_of : GateLog F g → ℕ
-  room_of log = vec_capacity log.room - 5
+  abbrev pub log_room : GateLog F g → ℕ
+  log_room log = vec_capacity log.room - 5
 
 -- what reads of the file give is a log of these bodies, and the log ends where they end
 pub record IsLogOf {F : Type 0} (g : Ghosts F) (log : GateLog F g) (bodies : List (List ℕ)) : Type 0 where
@@ -30,5 +30,5 @@ pub record IsAtRest {F : Type 0} (g : Ghosts F) (log : GateLog F g) (bodies : Li
   pub durable : Only (g.seen log.file) (g.may_leave log.file)
 
 -- where the file tells what it holds, it is a log of some bodies
-abbrev pub IsReady : {F : Type 0} (g : Ghosts F) → GateLog F g → Type 0
-IsReady g log = IsTrue (g.is_told log.file) → (bodies : List (List ℕ)) × IsLogOf g log bodies
+abbrev pub IsLogReady : {F : Type 0} (g : Ghosts F) → GateLog F g → Type 0
+IsLogReady g log = IsTrue (g.is_told log.file) → (bodies : List (List ℕ)) × IsLogOf g log bodies

@@ -1,4 +1,7 @@
+//! Why a log is not made, or not read.
+
 use crate::Frame;
+use std::alloc::AllocError;
 
 /// Why a log wasn't made: a gate log, or a log that stands on one.
 #[derive(Clone, Copy, Debug, PartialEq, Eq)]
@@ -19,4 +22,29 @@ pub enum FramesFault {
     DiskFault,
     /// Memory ran out.
     NoMemory,
+}
+
+impl From<LogFault> for FramesFault {
+    ghost use Rattle.std.specs.Prelude.{◌≡◌};
+    ghost use Rattle.gate_log.specs.Faults.{frames_fault};
+
+    ghost from_gives = { λ fault e. e ≡ frames_fault fault };
+
+    fn from(fault: LogFault) -> FramesFault {
+        match fault {
+            LogFault::DiskFault => FramesFault::DiskFault,
+            LogFault::NoMemory => FramesFault::NoMemory,
+        }
+    }
+}
+
+impl From<AllocError> for FramesFault {
+    ghost use Rattle.std.specs.Prelude.{◌≡◌};
+    ghost use Rattle.gate_log.specs.declared.fault.FramesFault.{FramesFault};
+
+    ghost from_gives = { λ _ e. e ≡ FramesFault.NoMemory };
+
+    fn from(_: AllocError) -> FramesFault {
+        FramesFault::NoMemory
+    }
 }

@@ -7,8 +7,6 @@ mod fault;
 mod frame;
 mod image;
 mod log;
-#[cfg(test)]
-mod tests;
 
 pub use fault::{FramesFault, LogFault};
 pub use frame::{FRAME_LIMIT, Frame};

@@ -1,14 +1,16 @@
+//! The calls of a log of frames.
+
 ghost use Rattle.std.specs.Prelude.{◌≡◌, ℕ, ◌+◌, ◌-◌, ◌^◌, ◌<◌, ◌≤◌, [], ◌∷◌, ◌++◌, List, length, map, IfOk, IfErr, OnOk, OnErr, IsTrue};
-ghost use Rattle.udt_disk.specs.Causes.{HasCause, Rose};
+ghost use Rattle.udt_disk.specs.Causes.{HasCause, IsCause, Rose};
 ghost use Rattle.udt_disk.specs.Crash.{Only};
-ghost use Rattle.gate_log.specs.Faults.{IsLogCause, IsFramesCause, IsUntouched};
-ghost use Rattle.gate_log.specs.Frames.{IsBody, IsBeforeOrAfter, with_frame};
+ghost use Rattle.udt_disk.specs.Runs.{Leaves, MayTear, IsOnlyRead, IsSameFile, WritesSynced, file_after};
+ghost use Rattle.gate_log.specs.Faults.{is_log_disk_fault, is_frames_disk_fault, IsUntouched};
+ghost use Rattle.gate_log.specs.Frames.{IsBody, IsWithOrWithout, with_frame};
 ghost use Rattle.gate_log.specs.Reads.{body_of};
-ghost use Rattle.gate_log.specs.Tearing.{MayTear, Leaves};
-ghost use Rattle.gate_log.specs.Outcomes.{IsReading, IsFramesFault, IsOnlyPlace, IsOnlyRead, IsSameFile, WritesSynced, file_after};
+ghost use Rattle.gate_log.specs.Outcomes.{IsReading, IsFramesFault, IsOnlyPlace};
 
 use crate::frame::{CLOSED, OPEN, lay_out};
-use crate::image::{frames_of, read_whole};
+use crate::image::read_frames;
 use crate::{Frame, FramesFault, LogFault, NoMemory};
 use std::alloc::{AllocError, Global};
 use std::mem;
@@ -56,7 +58,7 @@ fn close_first_gate<F: DiskFile>(file: &mut F) -> Result<(), Failed>
 }
 
 impl<F: DiskFile> GateLog<F> {
-    ghost use Rattle.gate_log.specs.GateLog.{file_of, end_of, room_of, IsLogOf, IsAtRest, IsReady};
+    ghost use Rattle.gate_log.specs.GateLog.{log_file, log_end, log_room, IsLogOf, IsAtRest, IsLogReady};
 
     /// A log without frames in a file that was just made, on the disk: one closed gate. The file is handed back where that
     /// fails, as it was given where memory ran out. A crash at any moment leaves the file as it might have left it before, but
@@ -64,12 +66,12 @@ impl<F: DiskFile> GateLog<F> {
     pub fn create(alloc: Global, file: F) -> Result<GateLog<F>, (F, LogFault)>
         requires empty { IsTrue (F.is_told file) → F.seen file ≡ [] }
         ensures at_rest { IfOk result (λ log. IsTrue (F.is_told file) → IsAtRest F.DiskFile log []) }
-        ensures durable { IfOk result (λ log. Only (F.seen (file_of log)) (F.may_leave (file_of log))) }
-        ensures moments { Leaves F.DiskFile file (file_after file_of result) (MayTear 0 1 (F.may_leave file)) }
-        ensures same { IsSameFile F.DiskFile file (file_after file_of result) }
-        ensures kept { IfOk result (λ log. F.faults (file_of log) ≡ F.faults file) }
-        ensures cause { IfErr result (λ e. IsLogCause (F.faults file) (F.faults e.0) e.1) }
-        ensures written { IfOk result (λ log. IsTrue (F.is_told file) → F.seen (file_of log) ≡ 90 ∷ []) }
+        ensures durable { IfOk result (λ log. Only (F.seen (log_file log)) (F.may_leave (log_file log))) }
+        ensures moments { Leaves F.DiskFile file (file_after log_file result) (MayTear 0 1 (F.may_leave file)) }
+        ensures same { IsSameFile F.DiskFile file (file_after log_file result) }
+        ensures kept { IfOk result (λ log. F.faults (log_file log) ≡ F.faults file) }
+        ensures cause { IfErr result (λ e. IsCause (is_log_disk_fault e.1) (F.faults file) (F.faults e.0)) }
+        ensures written { IfOk result (λ log. IsTrue (F.is_told file) → F.seen (log_file log) ≡ 90 ∷ []) }
         ensures untouched { IfErr result (λ e. IsUntouched e.1 file e.0) }
     {
         let mut file = file;
@@ -85,24 +87,19 @@ impl<F: DiskFile> GateLog<F> {
 
     /// The log in a file, and its frames. `BadFrame` comes exactly where the file is no log: where an open gate stands before a
     /// frame that isn't whole, or at 0 where the file is empty. What stands behind a gate that isn't open is never looked
-    /// at. The file is only read, and handed back where that fails. It reads the whole file at once.
+    /// at, and little of it is read. The file is only read, and handed back where that fails.
     pub fn of(alloc: Global, file: F) -> Result<(GateLog<F>, Vec<Frame>), (F, FramesFault)>
         ensures read { IfOk result (λ r. IsTrue (F.is_told file) → IsReading r.1.items (F.seen file)) }
         ensures logged { IfOk result (λ r. IsTrue (F.is_told file) → IsLogOf F.DiskFile r.0 (map body_of r.1.items)) }
         ensures at_rest { IfOk result (λ r. IsTrue (F.is_told file) → Only (F.seen file) (F.may_leave file) → IsAtRest F.DiskFile r.0 (map body_of r.1.items)) }
         ensures refused { IfErr result (λ e. IsTrue (F.is_told file) → IsFramesFault e.1 (F.seen file)) }
-        ensures same { IsOnlyRead F.DiskFile file (file_after (λ r. file_of r.0) result) }
-        ensures kept { IfOk result (λ r. F.faults (file_of r.0) ≡ F.faults file) }
-        ensures cause { IfErr result (λ e. IsFramesCause (F.faults file) (F.faults e.0) e.1) }
+        ensures same { IsOnlyRead F.DiskFile file (file_after (λ r. log_file r.0) result) }
+        ensures kept { IfOk result (λ r. F.faults (log_file r.0) ≡ F.faults file) }
+        ensures cause { IfErr result (λ e. IsCause (is_frames_disk_fault e.1) (F.faults file) (F.faults e.0)) }
         ensures place { IfErr result (λ e. IsTrue (F.is_told file) → IsOnlyPlace e.1 (F.seen file)) }
     {
         let mut file = file;
-        let bytes = match read_whole(alloc, &mut file) {
-            Ok(bytes) => bytes,
-            Err(LogFault::DiskFault) => return Err((file, FramesFault::DiskFault)),
-            Err(LogFault::NoMemory) => return Err((file, FramesFault::NoMemory)),
-        };
-        match frames_of(alloc, &bytes) {
+        match read_frames(alloc, &mut file) {
             Ok((frames, end)) => {
                 let log = GateLog {
                     file,
@@ -117,11 +114,11 @@ impl<F: DiskFile> GateLog<F> {
 
     /// Makes room for a frame of so many bytes, by which the next `append` takes no memory. It makes no call on the file.
     pub fn reserve(&mut self, len: usize) -> Result<(), NoMemory>
-        ensures room { OnOk result (len ≤ room_of self.new) }
-        ensures kept { room_of self.old ≤ room_of self.new }
-        ensures failed { OnErr result (room_of self.new ≡ room_of self.old) }
-        ensures file { file_of self.new ≡ file_of self.old }
-        ensures end { end_of self.new ≡ end_of self.old }
+        ensures room { OnOk result (len ≤ log_room self.new) }
+        ensures kept { log_room self.old ≤ log_room self.new }
+        ensures failed { OnErr result (log_room self.new ≡ log_room self.old) }
+        ensures file { log_file self.new ≡ log_file self.old }
+        ensures end { log_end self.new ≡ log_end self.old }
         ensures logged { (bodies : List (List ℕ)) → IsLogOf F.DiskFile self.old bodies → IsLogOf F.DiskFile self.new bodies }
         ensures at_rest { (bodies : List (List ℕ)) → IsAtRest F.DiskFile self.old bodies → IsAtRest F.DiskFile self.new bodies }
     {
@@ -136,15 +133,15 @@ impl<F: DiskFile> GateLog<F> {
     /// the call leaves the frames from before it, with the new one or without. It takes no memory.
     pub fn append(&mut self, frame: &[u8]) -> Result<(), Failed>
         requires size { IsBody frame.now }
-        requires room { length frame.now ≤ room_of self.old }
-        requires ready { IsReady F.DiskFile self.old }
+        requires room { length frame.now ≤ log_room self.old }
+        requires ready { IsLogReady F.DiskFile self.old }
 
         ensures appended { (bodies : List (List ℕ)) → IsLogOf F.DiskFile self.old bodies → OnOk result (IsAtRest F.DiskFile self.new (bodies ++ frame.now ∷ [])) }
-        ensures moments { (bodies : List (List ℕ)) → IsAtRest F.DiskFile self.old bodies → Leaves F.DiskFile (file_of self.old) (file_of self.new) (IsBeforeOrAfter bodies frame.now) }
-        ensures cause { HasCause (F.faults (file_of self.old)) (F.faults (file_of self.new)) result }
-        ensures same { IsSameFile F.DiskFile (file_of self.old) (file_of self.new) }
-        ensures written { OnOk result (IsTrue (F.is_told (file_of self.old)) → F.seen (file_of self.new) ≡ with_frame (F.seen (file_of self.old)) (end_of self.old) frame.now) }
-        ensures kept { room_of self.old ≤ room_of self.new }
+        ensures moments { (bodies : List (List ℕ)) → IsAtRest F.DiskFile self.old bodies → Leaves F.DiskFile (log_file self.old) (log_file self.new) (IsWithOrWithout bodies frame.now) }
+        ensures cause { HasCause (F.faults (log_file self.old)) (F.faults (log_file self.new)) result }
+        ensures same { IsSameFile F.DiskFile (log_file self.old) (log_file self.new) }
+        ensures written { OnOk result (IsTrue (F.is_told (log_file self.old)) → F.seen (log_file self.new) ≡ with_frame (F.seen (log_file self.old)) (log_end self.old) frame.now) }
+        ensures kept { log_room self.old ≤ log_room self.new }
     {
         lay_out(&mut self.room, frame);
         stage(&mut self.file, self.end, &self.room)?;
@@ -158,14 +155,14 @@ impl<F: DiskFile> GateLog<F> {
     /// its first byte. It takes no memory.
     pub fn restart(&mut self, file: F) -> Result<F, (F, Failed)>
         requires empty { IsTrue (F.is_told file) → F.seen file ≡ [] }
-        ensures old { IfOk result (λ old. old ≡ file_of self.old) }
+        ensures old { IfOk result (λ old. old ≡ log_file self.old) }
         ensures at_rest { OnOk result (IsTrue (F.is_told file) → IsAtRest F.DiskFile self.new []) }
-        ensures durable { OnOk result (Only (F.seen (file_of self.new)) (F.may_leave (file_of self.new))) }
-        ensures moments { OnOk result (Leaves F.DiskFile file (file_of self.new) (MayTear 0 1 (F.may_leave file))) }
-        ensures same { OnOk result (IsSameFile F.DiskFile file (file_of self.new)) }
-        ensures kept { OnOk result (F.faults (file_of self.new) ≡ F.faults file) }
-        ensures room { room_of self.new ≡ room_of self.old }
-        ensures written { OnOk result (IsTrue (F.is_told file) → F.seen (file_of self.new) ≡ 90 ∷ []) }
+        ensures durable { OnOk result (Only (F.seen (log_file self.new)) (F.may_leave (log_file self.new))) }
+        ensures moments { OnOk result (Leaves F.DiskFile file (log_file self.new) (MayTear 0 1 (F.may_leave file))) }
+        ensures same { OnOk result (IsSameFile F.DiskFile file (log_file self.new)) }
+        ensures kept { OnOk result (F.faults (log_file self.new) ≡ F.faults file) }
+        ensures room { log_room self.new ≡ log_room self.old }
+        ensures written { OnOk result (IsTrue (F.is_told file) → F.seen (log_file self.new) ≡ 90 ∷ []) }
 
         ensures err { OnErr result (self.new ≡ self.old) }
         ensures err_moments { IfErr result (λ e. Leaves F.DiskFile file e.0 (MayTear 0 1 (F.may_leave file))) }
@@ -184,7 +181,7 @@ impl<F: DiskFile> GateLog<F> {
 
     /// The file that it holds.
     pub fn into_file(self) -> F
-        ensures { result ≡ file_of self }
+        ensures { result ≡ log_file self }
     {
         let GateLog {
             file,

@@ -26,3 +26,7 @@ emptied_some (Some bytes) is = refl
 pub emptied_none : (image : Image) → is_some image ≡ false → emptied image ≡ image
 emptied_none None is = refl
 emptied_none (Some bytes) is = cc
+
+pub missing : (image : Image) → is_some image ≡ false → image ≡ None
+missing None is = refl
+missing (Some bytes) is = cc

@@ -1,5 +1,6 @@
 -- Which frame is the first outside the grammar.
-use Rattle.std.proofs.Common.{◌≡◌, inl, inr, ℕ, List, [], ◌∷◌, map, Option, Some, None, Ok, Err, Vec, Global, refl, ap, ◌∙◌, subst}
+use Rattle.std.proofs.Common.{◌≡◌, inl, inr, ℕ, List, [], ◌∷◌, map, length, false, Option, Some, None, Ok, Err, Vec, Global, refl, sym, ap, ◌∙◌, arith, subst}
+use Rattle.std.proofs.lemmas.List.{length-map}
 use Rattle.std.specs.List.{slice_get}
 use Rattle.gate_log.specs.Placed.{Placed}
 use Rattle.gate_log.specs.Frames.{IsLog}
@@ -9,10 +10,10 @@ use Rattle.gate_log.specs.declared.fault.FramesFault.{FramesFault}
 use Rattle.gate_log.specs.declared.fault.FramesFault.TheVariants.{BadFrame}
 use Rattle.udt_model.specs.declared.line.FamilyHead.{FamilyHead}
 use Rattle.manifest.specs.Heads.{IsHead}
-use Rattle.manifest.specs.Folds.{IsSound, IsOutside, fold_of}
-use Rattle.manifest.specs.Files.{IsBadAt}
-use Rattle.manifest.specs.Files.IsBadAt.{in_log, before_torn, torn, no_frame}
-use Rattle.manifest.specs.Answers.{Folds, IsRefusal, IsFoldFault}
+use Rattle.manifest.specs.Folds.{IsManifest, AreSoundFrames, IsOutside, IsUsable, family_fold, fold_of}
+use Rattle.manifest.specs.Files.{IsBadManifestAt}
+use Rattle.manifest.specs.Files.IsBadManifestAt.{in_log, before_torn, torn, no_frame}
+use Rattle.manifest.specs.Answers.{Folds, IsRefusal, IsFoldFault, is_manifest_disk_fault}
 use Rattle.manifest.specs.declared.fold.Folded.{Folded}
 use Rattle.manifest.specs.declared.fault.ManifestFault.{ManifestFault}
 use Rattle.manifest.specs.declared.fault.ManifestFault.TheVariants as faults
@@ -35,12 +36,12 @@ behind_head frames first (other ∷ rest) body families next is same head found 
     }
 
 -- frames that have a fold, or none, are sound
-pub sound_frames : (frames : List Placed) (found : Option Folded) → Folds frames (Ok found) → IsSound (map body_of frames)
+pub sound_frames : (frames : List Placed) (found : Option Folded) → Folds frames (Ok found) → AreSoundFrames (map body_of frames)
 sound_frames frames None none = inl (ap (map body_of) none)
 sound_frames frames (Some fold) means = inr (fold, means)
 
 -- where the frames are sound up to the place where the bytes are no log, that place is bad
-pub torn_there : (fault : FramesFault) (at : ℕ) (before : Vec Placed Global) (found : Option Folded) (bytes : List ℕ) → fault ≡ BadFrame at before → Folds before.items (Ok found) → IsFramesFault fault bytes → IsBadAt bytes at
+pub torn_there : (fault : FramesFault) (at : ℕ) (before : Vec Placed Global) (found : Option Folded) (bytes : List ℕ) → fault ≡ BadFrame at before → Folds before.items (Ok found) → IsFramesFault fault bytes → IsBadManifestAt bytes at
 torn_there fault at before found bytes is folds bad = let here = rw is at bad in torn before.items here.0 (sound_frames before.items found folds)
 
 -- where they aren't, the first that is outside the grammar is
@@ -57,3 +58,24 @@ bad_in_log frames (faults.BadManifest at) bytes reading (inr none) =
     no_frame log none.1
 bad_in_log frames faults.DiskFault bytes reading bad = tt
 bad_in_log frames faults.NoMemory bytes reading bad = tt
+
+-- frames that were read, and where they are refused the disk isn't to blame
+pub not_by_disk : (frames : List Placed) (fault : ManifestFault) → Folds frames (Err fault) → is_manifest_disk_fault fault ≡ false
+not_by_disk frames (faults.BadManifest at) refused = refl
+not_by_disk frames faults.DiskFault refused = absurd refused
+not_by_disk frames faults.NoMemory refused = refl
+
+pub not_by_disk_too : (frames : List Placed) (fault : ManifestFault) → IsFoldFault frames fault → is_manifest_disk_fault fault ≡ false
+not_by_disk_too frames (faults.BadManifest at) refused = refl
+not_by_disk_too frames faults.DiskFault refused = absurd refused
+not_by_disk_too frames faults.NoMemory refused = refl
+
+-- each fold of a manifest is usable
+pub manifest_usable : (bodies : List (List ℕ)) (fold : Folded) → IsManifest bodies fold → (number : ℕ) × IsUsable fold number
+manifest_usable [] fold means = absurd means
+manifest_usable (body ∷ []) fold means =
+    let families = means.0 in
+    let new = means.1.new in
+    let long : length (fold_of families).families ≡ length families = simp length-map in
+    subst (λ (f : Folded). (number : ℕ) × IsUsable f number) (sym means.2) (1, record { live = refl; some = omega (arith, long, new.some); few = omega (arith, long, new.few); last = omega arith })
+manifest_usable (body ∷ next ∷ bodies) fold means = absurd means

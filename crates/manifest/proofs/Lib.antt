@@ -1,8 +1,6 @@
 pub mod Writing
 pub mod Spellings
 pub mod FoldLemmas
-pub mod Pointwise
-pub mod Calls
 pub mod Sizes
 pub mod Makes
 pub mod Files

@@ -9,9 +9,9 @@ use Rattle.gate_log.specs.Placed.{Placed}
 use Rattle.gate_log.specs.Frames.{IsLog}
 use Rattle.gate_log.specs.Reads.{IsBad, placed, body_of}
 use Rattle.gate_log.proofs.Reading.{only_log, only_bad, bad_is_none}
-use Rattle.manifest.specs.Folds.{IsManifest, IsSound, IsOutside, fold_of}
-use Rattle.manifest.specs.Files.{AreFrames, IsBadAt, HasFold, IsBadFile}
-use Rattle.manifest.specs.Files.IsBadAt.{in_log, before_torn, torn, no_frame}
+use Rattle.manifest.specs.Folds.{IsManifest, AreSoundFrames, IsOutside, fold_of}
+use Rattle.manifest.specs.Files.{AreFrames, IsBadManifestAt, HasFold, IsBadFile}
+use Rattle.manifest.specs.Files.IsBadManifestAt.{in_log, before_torn, torn, no_frame}
 use Rattle.manifest.specs.Folders.{Meaning, Means, chosen, told_by_fault}
 use Rattle.manifest.specs.Folders.Meaning.{no_store, store, bad_at}
 use Rattle.manifest.specs.Answers.{IsRefusal}
@@ -28,7 +28,7 @@ manifest_once (body ∷ []) a b p q = p.2 ∙ ap fold_of (head_once body p.0 q.0
 manifest_once (body ∷ next ∷ bodies) a b p q = absurd p
 
 -- frames that are sound are so as far as each of them
-sound_front : (before : List (List ℕ)) (body : List ℕ) (after : List (List ℕ)) → IsSound (before ++ body ∷ after) → (fold : Folded) × IsManifest (before ++ body ∷ []) fold
+sound_front : (before : List (List ℕ)) (body : List ℕ) (after : List (List ℕ)) → AreSoundFrames (before ++ body ∷ after) → (fold : Folded) × IsManifest (before ++ body ∷ []) fold
 sound_front [] body [] (inl none) = cc
 sound_front [] body [] (inr means) = means
 sound_front [] body (next ∷ after) (inl none) = cc
@@ -40,13 +40,13 @@ sound_front (first ∷ second ∷ before) body after (inr means) = absurd means.
 
 -- ---- the first frame outside the grammar
 
-no_sound : (before : List Placed) (x : Placed) (after : List Placed) (frames : List Placed) → frames ≡ before ++ x ∷ after → ((fold : Folded) → IsManifest (map body_of before ++ x.bytes ∷ []) fold → ⊥) → IsSound (map body_of frames) → ⊥
+no_sound : (before : List Placed) (x : Placed) (after : List Placed) (frames : List Placed) → frames ≡ before ++ x ∷ after → ((fold : Folded) → IsManifest (map body_of before ++ x.bytes ∷ []) fold → ⊥) → AreSoundFrames (map body_of frames) → ⊥
 no_sound before x after frames is bad sound =
     let split : map body_of frames ≡ map body_of before ++ x.bytes ∷ map body_of after = ap (map body_of) is ∙ map-append body_of before (x ∷ after) in
-    let front = sound_front (map body_of before) x.bytes (map body_of after) (subst IsSound split sound) in
+    let front = sound_front (map body_of before) x.bytes (map body_of after) (subst AreSoundFrames split sound) in
     bad front.0 front.1
 
-pub outside_isn't_sound : (frames : List Placed) (at : ℕ) → IsOutside frames at → IsSound (map body_of frames) → ⊥
+pub outside_isn't_sound : (frames : List Placed) (at : ℕ) → IsOutside frames at → AreSoundFrames (map body_of frames) → ⊥
 outside_isn't_sound frames at out sound = no_sound out.before (record { at = at; bytes = out.body }) out.after frames out.is out.bad sound
 
 -- of two places in one list one stands before the other, or they are one
@@ -88,12 +88,12 @@ abbrev InLog : List Placed → ℕ → Type 0
 InLog frames at = IsOutside frames at ⊎ ((frames ≡ []) × (at ≡ 0))
 
 abbrev InTorn : List Placed → ℕ → ℕ → Type 0
-InTorn frames place at = IsOutside frames at ⊎ (IsSound (map body_of frames) × (at ≡ place))
+InTorn frames place at = IsOutside frames at ⊎ (AreSoundFrames (map body_of frames) × (at ≡ place))
 
 abbrev Wrong : List ℕ → ℕ → Type 0
 Wrong bytes at = ((frames : List Placed) × AreFrames frames bytes × InLog frames at) ⊎ ((frames : List Placed) × (place : ℕ) × IsBad frames place bytes × InTorn frames place at)
 
-wrong : (bytes : List ℕ) (at : ℕ) → IsBadAt bytes at → Wrong bytes at
+wrong : (bytes : List ℕ) (at : ℕ) → IsBadManifestAt bytes at → Wrong bytes at
 wrong bytes at (in_log frames is out) = inl (frames, is, inl out)
 wrong bytes at (before_torn frames place bad out) = inr (frames, place, bad, inl out)
 wrong bytes at (torn frames bad sound) = inr (frames, at, bad, inr (sound, refl))

@@ -9,7 +9,7 @@ use Rattle.ts_key.specs.declared.version.Form.{Form}
 use Rattle.ts_key.specs.declared.version.Form.TheVariants.{Persist}
 use Rattle.ts_key.specs.declared.numbers.Ts.{Ts}
 use Rattle.udt_model.specs.declared.line.FamilyHead.{FamilyHead}
-use Rattle.manifest.specs.Heads.{form_code, family_text, IsNew, IsNamed, IsHead, differ}
+use Rattle.manifest.specs.Heads.{form_code, family_text, IsNewFamily, IsNamed, IsHead, differ}
 use Rattle.manifest.specs.Reading.{StartsWithName, StartsWith, AreSpelled}
 
 -- fronts of one length, and what stands behind them
@@ -40,7 +40,7 @@ at_ts n = record { 0 = n }
 abbrev family : List ℕ → Form → Ts → FamilyHead
 family name form floor = record { name = name; form = form; floor = floor }
 
-same_family : (f g : FamilyHead) → IsNew f → IsNew g → f.name ≡ g.name → f ≡ g
+same_family : (f g : FamilyHead) → IsNewFamily f → IsNewFamily g → f.name ≡ g.name → f ≡ g
 same_family f g p q same =
     ap (λ (name : List ℕ). family name f.form f.floor) same ∙ ap (λ (form : Form). family g.name form f.floor) (p.form ∙ sym q.form)
     ∙ ap (λ (n : ℕ). family g.name g.form (at_ts n)) (p.floor ∙ sym q.floor)
@@ -59,20 +59,20 @@ no_family bytes name rest p bad f x q =
 -- ---- lists of families
 
 abbrev AreFine : List FamilyHead → Type 0
-AreFine families = All IsNew families × All IsNamed families
+AreFine families = All IsNewFamily families × All IsNamed families
 
 starts : (f : FamilyHead) (families : List FamilyHead) (rest : List ℕ) → AreFine (f ∷ families) → StartsWith (family_text f ++ rest) f rest
-starts f families rest fine = record { new = All-head IsNew f families fine.0; named = All-head IsNamed f families fine.1; is = refl }
+starts f families rest fine = record { new = All-head IsNewFamily f families fine.0; named = All-head IsNamed f families fine.1; is = refl }
 
 fine_tail : (f : FamilyHead) (families : List FamilyHead) → AreFine (f ∷ families) → AreFine families
-fine_tail f families fine = (All-tail IsNew f families fine.0, All-tail IsNamed f families fine.1)
+fine_tail f families fine = (All-tail IsNewFamily f families fine.0, All-tail IsNamed f families fine.1)
 
 -- the first families agree, and so does what stands behind them
 step : (f g : FamilyHead) (fs gs : List FamilyHead) (x y : List ℕ) → AreFine (f ∷ fs) → AreFine (g ∷ gs) → flat_map family_text (f ∷ fs) ++ x ≡ flat_map family_text (g ∷ gs) ++ y
     → (f ≡ g) × (flat_map family_text fs ++ x ≡ flat_map family_text gs ++ y)
 step f g fs gs x y p q same =
     let front : StartsWith (family_text g ++ (flat_map family_text gs ++ y)) f (flat_map family_text fs ++ x) = record {
-      new = All-head IsNew f fs p.0;
+      new = All-head IsNewFamily f fs p.0;
       named = All-head IsNamed f fs p.1;
       is = sym (append_assoc (family_text g) (flat_map family_text gs) y) ∙ sym same ∙ append_assoc (family_text f) (flat_map family_text fs) x;
     } in
@@ -92,7 +92,7 @@ as_many (f ∷ fs) (g ∷ gs) x y p q long same =
 pub no_more : (fs gs : List FamilyHead) (x y : List ℕ) → AreFine fs → AreFine gs → length fs < length gs → ((f : FamilyHead) (rest : List ℕ) → StartsWith x f rest → ⊥) → flat_map family_text fs ++ x ≡ flat_map family_text gs ++ y → ⊥
 no_more fs [] x y p q long none same = omega arith
 no_more [] (g ∷ gs) x y p q long none same =
-    none g (flat_map family_text gs ++ y) (record { new = All-head IsNew g gs q.0; named = All-head IsNamed g gs q.1; is = same ∙ append_assoc (family_text g) (flat_map family_text gs) y })
+    none g (flat_map family_text gs ++ y) (record { new = All-head IsNewFamily g gs q.0; named = All-head IsNamed g gs q.1; is = same ∙ append_assoc (family_text g) (flat_map family_text gs) y })
 no_more (f ∷ fs) (g ∷ gs) x y p q long none same =
     no_more fs gs x y (fine_tail f fs p) (fine_tail g gs q) (omega arith) none (step f g fs gs x y p q same).1
 

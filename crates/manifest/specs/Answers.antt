@@ -1,6 +1,5 @@
 -- What the parts of a reader answer, and what a fault has for its cause.
-use Rattle.std.specs.Prelude.{◌≡◌, ◌⊎◌, ℕ, ⊤, List, [], map, Option, Some, None, Result, Ok, Err}
-use Rattle.udt_disk.specs.Causes.{Rose}
+use Rattle.std.specs.Prelude.{◌≡◌, ◌⊎◌, ℕ, Bool, true, false, ⊤, List, [], map, Option, Some, None, Result, Ok, Err}
 use Rattle.udt_disk.specs.Crash.{Image}
 use Rattle.gate_log.specs.Placed.{Placed}
 use Rattle.gate_log.specs.Reads.{body_of}
@@ -24,11 +23,11 @@ IsRefusal image (BadManifest at) = IsBadFile image at
 IsRefusal image DiskFault = ⊤
 IsRefusal image NoMemory = ⊤
 
--- a disk fault comes only where the count rose; else it stays
-abbrev pub IsManifestCause : ℕ → ℕ → ManifestFault → Type 0
-IsManifestCause before now (BadManifest at) = now ≡ before
-IsManifestCause before now DiskFault = Rose before now
-IsManifestCause before now NoMemory = now ≡ before
+-- the fault is the disk's
+abbrev pub is_manifest_disk_fault : ManifestFault → Bool
+is_manifest_disk_fault (BadManifest at) = false
+is_manifest_disk_fault DiskFault = true
+is_manifest_disk_fault NoMemory = false
 
 -- what is wrong with the frames of a whole log
 abbrev pub IsFoldFault : List Placed → ManifestFault → Type 0

@@ -5,7 +5,7 @@ use Rattle.gate_log.specs.Placed.{Placed}
 use Rattle.gate_log.specs.Frames.{IsLog}
 use Rattle.gate_log.specs.Reads.{placed, body_of, IsBad}
 use Rattle.manifest.specs.declared.fold.Folded.{Folded}
-use Rattle.manifest.specs.Folds.{IsManifest, IsSound, IsOutside}
+use Rattle.manifest.specs.Folds.{IsManifest, AreSoundFrames, IsOutside}
 
 -- the bytes are a log of these frames, each at its place
 pub record AreFrames (frames : List Placed) (bytes : List ℕ) : Type 0 where
@@ -13,15 +13,15 @@ pub record AreFrames (frames : List Placed) (bytes : List ℕ) : Type 0 where
   pub places : frames ≡ placed 0 (map body_of frames)
 
 -- the bytes are no manifest, and what is wrong with them stands first at this offset
-pub data IsBadAt (bytes : List ℕ) (at : ℕ) : Type 0 where
+pub data IsBadManifestAt (bytes : List ℕ) (at : ℕ) : Type 0 where
   -- a frame of a log
-  in_log : (frames : List Placed) → AreFrames frames bytes → IsOutside frames at → IsBadAt bytes at
+  in_log : (frames : List Placed) → AreFrames frames bytes → IsOutside frames at → IsBadManifestAt bytes at
   -- a frame that stands before the place where the bytes are no log
-  before_torn : (frames : List Placed) (place : ℕ) → IsBad frames place bytes → IsOutside frames at → IsBadAt bytes at
+  before_torn : (frames : List Placed) (place : ℕ) → IsBad frames place bytes → IsOutside frames at → IsBadManifestAt bytes at
   -- that place itself
-  torn : (frames : List Placed) → IsBad frames at bytes → IsSound (map body_of frames) → IsBadAt bytes at
+  torn : (frames : List Placed) → IsBad frames at bytes → AreSoundFrames (map body_of frames) → IsBadManifestAt bytes at
   -- there is no frame
-  no_frame : IsLog [] bytes → at ≡ 0 → IsBadAt bytes at
+  no_frame : IsLog [] bytes → at ≡ 0 → IsBadManifestAt bytes at
 
 -- the file has this fold
 abbrev pub HasFold : Image → Folded → Type 0
@@ -31,4 +31,4 @@ HasFold (Some bytes) fold = (bodies : List (List ℕ)) × IsLog bodies bytes × 
 -- the file is missing, or bad at this offset
 abbrev pub IsBadFile : Image → ℕ → Type 0
 IsBadFile None at = at ≡ 0
-IsBadFile (Some bytes) at = IsBadAt bytes at
+IsBadFile (Some bytes) at = IsBadManifestAt bytes at

@@ -1,5 +1,5 @@
 -- What the frames of a manifest mean.
-use Rattle.std.specs.Prelude.{◌≡◌, ◌⊎◌, ℕ, List, [], ◌∷◌, ◌++◌, map}
+use Rattle.std.specs.Prelude.{◌≡◌, ◌⊎◌, ℕ, ◌^◌, ◌<◌, ◌≤◌, List, [], ◌∷◌, ◌++◌, length, map}
 use Rattle.gate_log.specs.Placed.{Placed}
 use Rattle.gate_log.specs.Reads.{body_of}
 use Rattle.udt_model.specs.declared.line.FamilyHead.{FamilyHead}
@@ -21,9 +21,17 @@ IsManifest [] fold = ⊥
 IsManifest (body ∷ []) fold = (families : List FamilyHead) × IsHead body families × (fold ≡ fold_of families)
 IsManifest (body ∷ next ∷ bodies) fold = ⊥
 
+-- A store can be opened of this fold: it has one live log, of this number, 1 to 16 families, and a last sequence that a version
+-- may have.
+pub record IsUsable (fold : Folded) (number : ℕ) : Type 0 where
+  pub live : fold.logs ≡ number ∷ []
+  pub some : 1 ≤ length fold.families
+  pub few : length fold.families ≤ 16
+  pub last : fold.last.0 < 2 ^ 56
+
 -- no frame, or frames that mean something
-abbrev pub IsSound : List (List ℕ) → Type 0
-IsSound bodies = (bodies ≡ []) ⊎ ((fold : Folded) × IsManifest bodies fold)
+abbrev pub AreSoundFrames : List (List ℕ) → Type 0
+AreSoundFrames bodies = (bodies ≡ []) ⊎ ((fold : Folded) × IsManifest bodies fold)
 
 -- the first of these frames that is outside the grammar of a manifest stands at this offset
 pub record IsOutside (frames : List Placed) (at : ℕ) : Type 0 where
@@ -31,5 +39,5 @@ pub record IsOutside (frames : List Placed) (at : ℕ) : Type 0 where
   pub body : List ℕ
   pub after : List Placed
   pub is : frames ≡ before ++ record { at = at; bytes = body } ∷ after
-  pub sound : IsSound (map body_of before)
+  pub sound : AreSoundFrames (map body_of before)
   pub bad : (fold : Folded) → IsManifest (map body_of before ++ body ∷ []) fold → ⊥

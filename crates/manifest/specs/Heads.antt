@@ -25,7 +25,7 @@ head_text families = 1 ∷ 1 ∷ (little_bytes 4 (length families) ++ flat_map f
 -- ---- the families of a head
 
 -- Until there are stripping families each keeps its timestamps. A head has no floors, and stands for floors 0.
-pub record IsNew (f : FamilyHead) : Type 0 where
+pub record IsNewFamily (f : FamilyHead) : Type 0 where
   pub form : f.form ≡ Persist
   pub floor : f.floor.0 ≡ 0
 
@@ -38,7 +38,7 @@ differ (f ∷ families) = not (list_any (λ g. bytes_eq g.name f.name) families)
 pub record AreNew (families : List FamilyHead) : Type 0 where
   pub some : 1 ≤ length families
   pub few : length families ≤ 16
-  pub each : All IsNew families
+  pub each : All IsNewFamily families
   pub apart : IsTrue (differ families)
 
 abbrev pub IsNamed : FamilyHead → Type 0

@@ -4,7 +4,5 @@ pub mod Reading
 pub mod Files
 pub mod Folders
 pub mod Answers
-pub mod Moments
-pub mod Logs
 pub mod Manifest
 pub mod Making

@@ -13,7 +13,7 @@ use Rattle.manifest.specs.Heads.{head_text}
 use Rattle.manifest.specs.Folds.{fold_of}
 use Rattle.manifest.specs.Folders.{Means, chosen_by}
 use Rattle.manifest.specs.Folders.Meaning.{no_store, store}
-use Rattle.manifest.specs.Manifest.{file_of, Rests}
+use Rattle.manifest.specs.Manifest.{manifest_file, Rests}
 
 -- the manifest of a new store: its head as the one frame, and a closed gate
 abbrev pub new_manifest : List FamilyHead → List ℕ
@@ -52,9 +52,9 @@ module _ {D F : Type 0} (d : disk.Ghosts D F) where
 -- all of the store is there, and its manifest is held: it rests, `CURRENT` is empty where it was there before and chooses no
 -- other, and `MADE` is on the disk
 pub record IsMade {D F : Type 0} (d : disk.Ghosts D F) (f : file.Ghosts F) (old disk : D) (manifest : Manifest F f) (families : List FamilyHead) : Type 0 where
-  pub name : f.name (file_of manifest) ≡ Manifest0
+  pub name : f.name (manifest_file manifest) ≡ Manifest0
   pub rests : Rests f manifest (fold_of families)
-  pub bytes : f.seen (file_of manifest) ≡ new_manifest families
+  pub bytes : f.seen (manifest_file manifest) ≡ new_manifest families
   pub current : d.stands disk Current ≡ emptied (d.stands old Current)
   pub chosen : chosen_by (d.stands disk Current) ≡ Manifest0
   pub made : d.stands disk Made ≡ Some []

@@ -9,17 +9,17 @@ use Rattle.manifest.specs.Folds.{IsManifest}
 
 module _ {F : Type 0} {g : Ghosts F} where
   -- the file that the manifest holds
-  abbrev pub file_of : Manifest F g → F
-  file_of manifest = gate.file_of manifest.log
+  abbrev pub manifest_file : Manifest F g → F
+  manifest_file manifest = gate.log_file manifest.log
 
   -- the files that an answer holds
   abbrev pub files_made : {E : Type 0} → Result (Manifest F g) E → List F
-  files_made (Ok manifest) = file_of manifest ∷ []
+  files_made (Ok manifest) = manifest_file manifest ∷ []
   files_made (Err e) = []
 
   abbrev pub files_read : {E : Type 0} → Result (Option (Manifest F g × Folded)) E → List F
   files_read (Ok None) = []
-  files_read (Ok (Some read)) = file_of read.0 ∷ []
+  files_read (Ok (Some read)) = manifest_file read.0 ∷ []
   files_read (Err e) = []
 
 -- what reads of its file give are frames that mean this fold

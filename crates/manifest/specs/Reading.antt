@@ -2,7 +2,7 @@
 use Rattle.std.specs.Prelude.{◌≡◌, ℕ, List, ◌∷◌, ◌++◌, length}
 use Rattle.std.specs.List.{flat_map, All}
 use Rattle.udt_model.specs.declared.line.FamilyHead.{FamilyHead}
-use Rattle.manifest.specs.Heads.{family_text, IsNew, IsNamed}
+use Rattle.manifest.specs.Heads.{family_text, IsNewFamily, IsNamed}
 
 -- the bytes begin with a family of form persist that has this name
 abbrev pub StartsWithName : List ℕ → List ℕ → List ℕ → Type 0
@@ -10,13 +10,13 @@ StartsWithName bytes name rest = bytes ≡ length name ∷ (name ++ 0 ∷ 8 ∷ 
 
 -- the bytes begin with this family
 pub record StartsWith (bytes : List ℕ) (f : FamilyHead) (rest : List ℕ) : Type 0 where
-  pub new : IsNew f
+  pub new : IsNewFamily f
   pub named : IsNamed f
   pub is : bytes ≡ family_text f ++ rest
 
 -- the bytes are so many families
 pub record AreSpelled (bytes : List ℕ) (count : ℕ) (families : List FamilyHead) : Type 0 where
   pub long : length families ≡ count
-  pub new : All IsNew families
+  pub new : All IsNewFamily families
   pub named : All IsNamed families
   pub is : bytes ≡ flat_map family_text families

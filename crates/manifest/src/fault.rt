@@ -1,3 +1,5 @@
+//! Why a manifest is not read.
+
 use std::alloc::AllocError;
 use thiserror::Error;
 use udt_disk::Failed;

@@ -9,11 +9,8 @@ use crate::reading::read_head;
 use crate::{ManifestFault, NoMemory};
 use gate_log::Frame;
 use std::alloc::Global;
-use ts_key::{Form, Name, Seq, Ts};
+use ts_key::{FIRST_LOG, Form, Name, Seq, Ts};
 use udt_model::{FamilyHead, Items};
-
-/// The number of the log of a new store.
-const FIRST_LOG: u64 = 1;
 
 /// A family as the manifest has it: its floor, the sequence through which its versions are in tables, and its live tables.
 #[derive(Debug, Drop)]

@@ -2,12 +2,11 @@
 ghost use Rattle.std.specs.Prelude.{◌≡◌, ◌≢◌, ◌⊎◌, ◌∷◌, [], ℕ, List, Some, is_some, IfOk, OnOk, OnErr, IsTrue};
 ghost use Rattle.udt_disk.specs.Causes.{HasCause};
 ghost use Rattle.udt_disk.specs.Crash.{Only};
-ghost use Rattle.udt_disk.specs.Joint.{IsHeld, Ran};
+ghost use Rattle.udt_disk.specs.Moments.{OnlyReads, alone};
 ghost use Rattle.udt_disk.specs.Touches.{Touches};
 ghost use Rattle.udt_disk.specs.declared.name.FileName.{FileName as NameOf};
 ghost use Rattle.udt_disk.specs.declared.name.FileName.TheVariants.{Manifest0, Manifest1, Current};
 ghost use Rattle.manifest.specs.Folders.{chosen_by};
-ghost use Rattle.manifest.specs.Moments.{OnlyLooks, AsAtBut, holding};
 
 use udt_disk::{Disk, DiskFile, Failed, FileName};
 
@@ -17,7 +16,7 @@ const CHOOSES_OTHER: u8 = 0xA5;
 /// Is there a file of this name?
 pub(crate) fn is_there<D: Disk>(disk: &mut D, name: FileName) -> Result<bool, Failed>
     ensures there { IfOk result (λ b. IsTrue (D.is_told disk.old) → b ≡ is_some (D.stands disk.old name)) }
-    ensures looks { OnlyLooks D.Disk D.File.DiskFile disk.old disk.new }
+    ensures looks { OnlyReads D.Disk D.File.DiskFile (alone disk.old) (alone disk.new) }
     ensures touches { Touches D.Disk (λ (n : NameOf). n ≡ name) disk.old disk.new }
     ensures cause { HasCause (D.faults disk.old) (D.faults disk.new) result }
 {
@@ -34,7 +33,7 @@ pub(crate) fn is_there<D: Disk>(disk: &mut D, name: FileName) -> Result<bool, Fa
 pub(crate) fn chosen<D: Disk>(disk: &mut D) -> Result<FileName, Failed>
     ensures chosen { IfOk result (λ name. IsTrue (D.is_told disk.old) → name ≡ chosen_by (D.stands disk.old Current)) }
     ensures either { IfOk result (λ name. (name ≡ Manifest0) ⊎ (name ≡ Manifest1)) }
-    ensures looks { OnlyLooks D.Disk D.File.DiskFile disk.old disk.new }
+    ensures looks { OnlyReads D.Disk D.File.DiskFile (alone disk.old) (alone disk.new) }
     ensures touches { Touches D.Disk (λ (n : NameOf). n ≡ Current) disk.old disk.new }
     ensures cause { HasCause (D.faults disk.old) (D.faults disk.new) result }
 {
@@ -72,8 +71,6 @@ pub(crate) fn make_empty<D: Disk>(disk: &mut D, name: FileName) -> Result<(), Fa
     ensures durable { OnOk result (IsTrue (D.is_told disk.old) → Only [] (D.may_leave disk.new name)) }
     ensures failed { OnErr result (IsTrue (D.is_told disk.old) → (D.stands disk.new name ≡ D.stands disk.old name) ⊎ (D.stands disk.new name ≡ Some [])) }
     ensures touches { Touches D.Disk (λ (n : NameOf). n ≡ name) disk.old disk.new }
-    ensures run { (files : List D.File) → ((x : D.File) → IsHeld files x → D.File.name x ≢ name)
-        → Ran D.Disk D.File.DiskFile (AsAtBut D.Disk D.File.DiskFile name (holding disk.old files)) (holding disk.old files) (holding disk.new files) }
     ensures cause { HasCause (D.faults disk.old) (D.faults disk.new) result }
 {
     let mut file = disk.create(name)?;

@@ -11,12 +11,12 @@
 ghost use Rattle.std.specs.Prelude.{◌≡◌, ◌≤◌, ◌↔◌, ◌++◌, length, IsTrue, IfOk, OnOk};
 ghost use Rattle.std.specs.List.{All, flat_map, list_any};
 ghost use Rattle.std.specs.Str.{bytes_eq};
-ghost use Rattle.manifest.specs.Heads.{form_code, family_text, head_text, differ, AreNew, IsNew, IsNamed};
+ghost use Rattle.manifest.specs.Heads.{form_code, family_text, head_text, differ, AreNew, IsNewFamily, IsNamed};
 
 use crate::NoMemory;
 use byteorder::{ByteOrder, LittleEndian};
 use std::alloc::Global;
-use ts_key::Form;
+use ts_key::{FAMILY_LIMIT, Form, STAMP_SIZE};
 use udt_model::{FamilyHead, Items};
 
 /// The first byte of a head.
@@ -25,17 +25,11 @@ pub(crate) const HEAD: u8 = 1;
 /// The version of the format.
 pub(crate) const VERSION: u8 = 1;
 
-/// The most families that a store has.
-pub(crate) const FAMILY_LIMIT: usize = 16;
-
 /// The form of a family whose tables keep timestamps.
 pub(crate) const PERSIST: u8 = 0;
 
 /// The form of a family that strips timestamps.
 const STRIP: u8 = 1;
-
-/// The size of a timestamp.
-pub(crate) const STAMP_SIZE: u8 = 8;
 
 /// The families of a new store, in order.
 #[derive(Debug, Drop)]
@@ -57,13 +51,13 @@ impl Head {
 }
 
 fn are_new(families: &[FamilyHead]) -> bool
-    ensures { IsTrue result ↔ All IsNew families.now }
+    ensures { IsTrue result ↔ All IsNewFamily families.now }
 {
     families.iter().all(is_new)
 }
 
 fn is_new(family: &FamilyHead) -> bool
-    ensures { IsTrue result ↔ IsNew family.now }
+    ensures { IsTrue result ↔ IsNewFamily family.now }
 {
     family.form == Form::Persist && family.floor.0 == 0
 }

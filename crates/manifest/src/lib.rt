@@ -11,8 +11,6 @@ mod folder;
 mod head;
 mod manifest;
 mod reading;
-#[cfg(test)]
-mod tests;
 
 pub use edit::{Edit, FamilyEdit, TableAt};
 pub use fault::ManifestFault;

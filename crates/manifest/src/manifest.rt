@@ -1,22 +1,24 @@
+//! The manifest of a folder: how it is made and read.
+
 ghost use Rattle.std.specs.Prelude.{◌≡◌, ◌⊎◌, ◌∷◌, ◌++◌, ◌≤◌, [], ℕ, List, map, None, Some, IfOk, IfErr, IfSome, OnOk, OnErr, IsTrue};
-ghost use Rattle.udt_disk.specs.Causes.{HasCause};
+ghost use Rattle.udt_disk.specs.Causes.{HasCause, IsCause};
 ghost use Rattle.udt_disk.specs.Crash.{Image, Only};
-ghost use Rattle.udt_disk.specs.Joint.{Folder, Ran, Stands};
+ghost use Rattle.udt_disk.specs.Joint.{Folder, LeavesNow, Ran};
+ghost use Rattle.udt_disk.specs.Moments.{OnlyReads, alone, holding};
+ghost use Rattle.udt_disk.specs.Runs.{IsOnlyRead, IsSameFile, file_after};
 ghost use Rattle.udt_disk.specs.Touches.{Touches};
 ghost use Rattle.udt_disk.specs.declared.name.FileName.{FileName as NameOf};
-ghost use Rattle.udt_disk.specs.declared.name.FileName.TheVariants.{Manifest0, Current, Made};
-ghost use Rattle.gate_log.specs.Faults.{IsLogCause, IsFramesCause};
+ghost use Rattle.udt_disk.specs.declared.name.FileName.TheVariants.{Manifest0, Manifest1, Current, Made};
+ghost use Rattle.gate_log.specs.Faults.{is_log_disk_fault, is_frames_disk_fault};
 ghost use Rattle.gate_log.specs.Frames.{IsBody, framed};
-ghost use Rattle.gate_log.specs.GateLog.{IsAtRest, IsLogOf, file_of as log_file};
+ghost use Rattle.gate_log.specs.GateLog.{IsAtRest, IsLogOf, log_file};
 ghost use Rattle.gate_log.specs.Reads.{body_of};
-ghost use Rattle.gate_log.specs.Outcomes.{IsFramesFault, IsOnlyRead, IsSameFile, file_after};
-ghost use Rattle.manifest.specs.Answers.{IsRefusal, IsFoldFault, IsManifestCause};
+ghost use Rattle.gate_log.specs.Outcomes.{IsFramesFault};
+ghost use Rattle.manifest.specs.Answers.{IsRefusal, IsFoldFault, is_manifest_disk_fault};
 ghost use Rattle.manifest.specs.Files.{HasFold};
 ghost use Rattle.manifest.specs.Folders.{chosen_by};
-ghost use Rattle.manifest.specs.Folds.{IsManifest};
-ghost use Rattle.manifest.specs.Logs.{files_logged};
+ghost use Rattle.manifest.specs.Folds.{IsManifest, IsUsable};
 ghost use Rattle.manifest.specs.Making.{emptied};
-ghost use Rattle.manifest.specs.Moments.{AsAtBut, alone, holding};
 
 use crate::fold::fold_frames;
 use crate::folder::{chosen, is_there, make_empty};
@@ -38,8 +40,7 @@ impl<F: DiskFile> Manifest<F> {
     ghost use Rattle.manifest.specs.Folders.Meaning.{no_store, store};
     ghost use Rattle.manifest.specs.Heads.{AreNew};
     ghost use Rattle.manifest.specs.Making.{IsEarlyName, IsStoreName, IsReadName, IsUnmade, IsNoneOrAll, IsMade};
-    ghost use Rattle.manifest.specs.Manifest.{file_of, files_made, files_read, Shows, Rests};
-    ghost use Rattle.manifest.specs.Moments.{AsAt, OnlyReads};
+    ghost use Rattle.manifest.specs.Manifest.{manifest_file, files_made, files_read, Shows, Rests};
 
     /// Makes a store of these families in a folder that has none, and holds its manifest. `MADE` comes last, once the head is on
     /// the disk, so a folder in which this was stopped has no store, or all of it. Where memory runs out `MADE` isn't made.
@@ -50,20 +51,20 @@ impl<F: DiskFile> Manifest<F> {
     ) -> Result<Manifest<F>, LogFault>
         requires { AreNew head.now.families }
         ensures made { IfOk result (λ m. IsTrue (D.is_told disk.old) → IsMade D.Disk F.DiskFile disk.old disk.new m head.now.families) }
-        ensures fresh { IfOk result (λ m. F.faults (file_of m) ≡ 0) }
-        ensures file_told { IfOk result (λ m. F.is_told (file_of m) ≡ D.is_told disk.old) }
-        ensures file_model { IfOk result (λ m. F.keeps_model (file_of m) ≡ D.keeps_model disk.old) }
+        ensures fresh { IfOk result (λ m. F.faults (manifest_file m) ≡ 0) }
+        ensures file_told { IfOk result (λ m. F.is_told (manifest_file m) ≡ D.is_told disk.old) }
+        ensures file_model { IfOk result (λ m. F.keeps_model (manifest_file m) ≡ D.keeps_model disk.old) }
 
         // A crash at any moment leaves no store or all of it, and after `Ok` all of it.
         ensures moments { IsUnmade D.Disk disk.old → Ran D.Disk F.DiskFile (IsNoneOrAll D.Disk disk.old head.now.families) (alone disk.old) (holding disk.new (files_made result)) }
-        ensures durable { IsUnmade D.Disk disk.old → OnOk result (Stands D.Disk F.DiskFile (λ (folder : Folder). Means folder (store (fold_of head.now.families))) (holding disk.new (files_made result))) }
+        ensures durable { IsUnmade D.Disk disk.old → OnOk result (LeavesNow D.Disk F.DiskFile (λ (folder : Folder). Means folder (store (fold_of head.now.families))) (holding disk.new (files_made result))) }
 
         ensures stopped { OnErr result (IsTrue (D.is_told disk.old) → D.stands disk.old Made ≡ None
             → Means (D.stands disk.new) no_store ⊎ Means (D.stands disk.new) (store (fold_of head.now.families))) }
         ensures no_memory { IsErrOf result LogFault.NoMemory → Touches D.Disk IsEarlyName disk.old disk.new }
         ensures touches { Touches D.Disk IsStoreName disk.old disk.new }
         ensures kept { OnOk result (D.faults disk.new ≡ D.faults disk.old) }
-        ensures cause { IfErr result (IsLogCause (D.faults disk.old) (D.faults disk.new)) }
+        ensures cause { IfErr result (λ fault. IsCause (is_log_disk_fault fault) (D.faults disk.old) (D.faults disk.new)) }
     {
         let Ok(body) = write_head(alloc, head.families.as_slice()) else {
             return Err(LogFault::NoMemory);
@@ -96,15 +97,17 @@ impl<F: DiskFile> Manifest<F> {
         ensures shows { IfOk result (λ o. IfSome o (λ r. IsTrue (D.is_told disk.old) → Shows F.DiskFile r.0 r.1)) }
         ensures rests { IfOk result (λ o. IfSome o (λ r. IsTrue (D.is_told disk.old)
             → ((c : Image) → D.may_leave disk.old (chosen_in (D.stands disk.old)) c → c ≡ D.stands disk.old (chosen_in (D.stands disk.old))) → Rests F.DiskFile r.0 r.1)) }
-        ensures name { IfOk result (λ o. IfSome o (λ r. IsTrue (D.is_told disk.old) → F.name (file_of r.0) ≡ chosen_in (D.stands disk.old))) }
-        ensures fresh { IfOk result (λ o. IfSome o (λ r. F.faults (file_of r.0) ≡ 0)) }
-        ensures file_told { IfOk result (λ o. IfSome o (λ r. F.is_told (file_of r.0) ≡ D.is_told disk.old)) }
-        ensures file_model { IfOk result (λ o. IfSome o (λ r. F.keeps_model (file_of r.0) ≡ D.keeps_model disk.old)) }
+        ensures usable { IfOk result (λ o. IfSome o (λ r. (number : ℕ) × IsUsable r.1 number)) }
+        ensures name { IfOk result (λ o. IfSome o (λ r. IsTrue (D.is_told disk.old) → F.name (manifest_file r.0) ≡ chosen_in (D.stands disk.old))) }
+        ensures either { IfOk result (λ o. IfSome o (λ r. (F.name (manifest_file r.0) ≡ Manifest0) ⊎ (F.name (manifest_file r.0) ≡ Manifest1))) }
+        ensures fresh { IfOk result (λ o. IfSome o (λ r. F.faults (manifest_file r.0) ≡ 0)) }
+        ensures file_told { IfOk result (λ o. IfSome o (λ r. F.is_told (manifest_file r.0) ≡ D.is_told disk.old)) }
+        ensures file_model { IfOk result (λ o. IfSome o (λ r. F.keeps_model (manifest_file r.0) ≡ D.keeps_model disk.old)) }
 
-        ensures reads { OnlyReads D.Disk F.DiskFile disk.old disk.new (files_read result) }
+        ensures reads { OnlyReads D.Disk F.DiskFile (alone disk.old) (holding disk.new (files_read result)) }
         ensures touches { Touches D.Disk IsReadName disk.old disk.new }
         ensures kept { OnOk result (D.faults disk.new ≡ D.faults disk.old) }
-        ensures cause { IfErr result (IsManifestCause (D.faults disk.old) (D.faults disk.new)) }
+        ensures cause { IfErr result (λ fault. IsCause (is_manifest_disk_fault fault) (D.faults disk.old) (D.faults disk.new)) }
         ensures later { D.faults disk.old ≤ D.faults disk.new }
     {
         if !is_there(disk, FileName::Made)? {
@@ -125,7 +128,7 @@ impl<F: DiskFile> Manifest<F> {
 
     /// The file that it holds.
     pub fn into_file(self) -> F
-        ensures { result ≡ file_of self }
+        ensures { result ≡ manifest_file self }
     {
         let Manifest { log } = self;
         log.into_file()
@@ -140,7 +143,6 @@ fn empty_current<D: Disk>(disk: &mut D) -> Result<(), Failed>
     ensures durable { OnOk result (IsTrue (D.is_told disk.old) → (D.stands disk.old Current ≡ None → (c : Image) → D.may_leave disk.old Current c → c ≡ None)
         → (c : Image) → D.may_leave disk.new Current c → chosen_by c ≡ Manifest0) }
     ensures touches { Touches D.Disk (λ (n : NameOf). n ≡ Current) disk.old disk.new }
-    ensures run { Ran D.Disk D.File.DiskFile (AsAtBut D.Disk D.File.DiskFile Current (alone disk.old)) (alone disk.old) (alone disk.new) }
     ensures cause { HasCause (D.faults disk.old) (D.faults disk.new) result }
 {
     if is_there(disk, FileName::Current)? {
@@ -162,7 +164,7 @@ fn first_frame<F: DiskFile>(
     ensures written { IfOk result (λ log. IsTrue (F.is_told file) → F.seen (log_file log) ≡ framed (body.now ∷ []) ++ 90 ∷ []) }
     ensures same { IsSameFile F.DiskFile file (file_after log_file result) }
     ensures kept { IfOk result (λ log. F.faults (log_file log) ≡ F.faults file) }
-    ensures cause { IfErr result (λ e. IsLogCause (F.faults file) (F.faults e.0) e.1) }
+    ensures cause { IfErr result (λ e. IsCause (is_log_disk_fault e.1) (F.faults file) (F.faults e.0)) }
 {
     let mut log = GateLog::create(alloc, file)?;
     match log.reserve(body.len()) {
@@ -185,9 +187,8 @@ fn make_log<D: Disk>(alloc: Global, disk: &mut D, body: &[u8]) -> Result<GateLog
     ensures file_told { IfOk result (λ log. D.File.is_told (log_file log) ≡ D.is_told disk.old) }
     ensures file_model { IfOk result (λ log. D.File.keeps_model (log_file log) ≡ D.keeps_model disk.old) }
     ensures touches { Touches D.Disk (λ (n : NameOf). n ≡ Manifest0) disk.old disk.new }
-    ensures run { Ran D.Disk D.File.DiskFile (AsAtBut D.Disk D.File.DiskFile Manifest0 (alone disk.old)) (alone disk.old) (holding disk.new (files_logged result)) }
     ensures kept { OnOk result (D.faults disk.new ≡ D.faults disk.old) }
-    ensures cause { IfErr result (IsLogCause (D.faults disk.old) (D.faults disk.new)) }
+    ensures cause { IfErr result (λ fault. IsCause (is_log_disk_fault fault) (D.faults disk.old) (D.faults disk.new)) }
 {
     let Ok(file) = disk.create(FileName::Manifest0) else {
         return Err(LogFault::DiskFault);
@@ -204,11 +205,12 @@ fn make_log<D: Disk>(alloc: Global, disk: &mut D, body: &[u8]) -> Result<GateLog
 /// The log of a file, and the fold of its frames. The file is only read, and handed back where that fails.
 fn read_log<F: DiskFile>(alloc: Global, file: F) -> Result<(GateLog<F>, Folded), (F, ManifestFault)>
     ensures shows { IfOk result (λ r. IsTrue (F.is_told file) → (bodies : List (List ℕ)) × IsLogOf F.DiskFile r.0 bodies × IsManifest bodies r.1) }
+    ensures usable { IfOk result (λ r. (number : ℕ) × IsUsable r.1 number) }
     ensures at_rest { IfOk result (λ r. IsTrue (F.is_told file) → Only (F.seen file) (F.may_leave file) → (bodies : List (List ℕ)) × IsAtRest F.DiskFile r.0 bodies × IsManifest bodies r.1) }
     ensures refused { IfErr result (λ e. IsTrue (F.is_told file) → IsRefusal (Some (F.seen file)) e.1) }
     ensures same { IsOnlyRead F.DiskFile file (file_after (λ r. log_file r.0) result) }
     ensures kept { IfOk result (λ r. F.faults (log_file r.0) ≡ F.faults file) }
-    ensures cause { IfErr result (λ e. IsManifestCause (F.faults file) (F.faults e.0) e.1) }
+    ensures cause { IfErr result (λ e. IsCause (is_manifest_disk_fault e.1) (F.faults file) (F.faults e.0)) }
 {
     match GateLog::of(alloc, file) {
         Ok((log, frames)) => match fold_log(alloc, &frames) {
@@ -234,7 +236,7 @@ fn fold_log(alloc: Global, frames: &[Frame]) -> Result<Folded, ManifestFault>
 /// where the log is torn.
 fn refusal(alloc: Global, fault: FramesFault) -> ManifestFault
     ensures refusal { (bytes : List ℕ) → IsFramesFault fault bytes → IsRefusal (Some bytes) result }
-    ensures cause { (before now : ℕ) → IsFramesCause before now fault → IsManifestCause before now result }
+    ensures cause { is_manifest_disk_fault result ≡ is_frames_disk_fault fault }
 {
     match fault {
         FramesFault::BadFrame { at, before } => match fold_frames(alloc, &before) {

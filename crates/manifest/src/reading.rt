@@ -5,10 +5,10 @@ ghost use Rattle.manifest.specs.Heads.{IsHead};
 ghost use Rattle.manifest.specs.Reading.{StartsWithName, StartsWith, AreSpelled};
 
 use crate::NoMemory;
-use crate::head::{FAMILY_LIMIT, HEAD, PERSIST, STAMP_SIZE, VERSION, names_differ};
+use crate::head::{HEAD, PERSIST, VERSION, names_differ};
 use byteorder::{ByteOrder, LittleEndian};
 use std::alloc::{AllocError, Global};
-use ts_key::{Form, Name, NameFault, Ts};
+use ts_key::{FAMILY_LIMIT, Form, Name, NameFault, STAMP_SIZE, Ts};
 use udt_model::FamilyHead;
 
 /// The families of a body, or None where it is no head.

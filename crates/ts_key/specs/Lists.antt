@@ -31,7 +31,7 @@ below to vs = count_of (λ v. is_before v.sort_key to) vs
 
 -- ---- places of a cursor: 0 is before the first version, i + 1 is at the one with index i
 
-abbrev pub standing : List Item → ℕ → Option Item
+abbrev pub standing : {X : Type 0} → List X → ℕ → Option X
 standing vs zero = None
 standing vs (suc i) = slice_get vs i
 

@@ -64,7 +64,7 @@ all_with_item P v (x ∷ xs) p h =
       | inr y ↦ rw y (p, h)
     ]
 
-rest_after : (v x : Item) (xs : List Item) → is_before x.sort_key v.sort_key ≡ false → AllByRecursion (λ w. is_before w.sort_key x.sort_key ≡ false) xs → AllByRecursion (λ w. is_before w.sort_key v.sort_key ≡ false) xs
+pub rest_after : (v x : Item) (xs : List Item) → is_before x.sort_key v.sort_key ≡ false → AllByRecursion (λ w. is_before w.sort_key x.sort_key ≡ false) xs → AllByRecursion (λ w. is_before w.sort_key v.sort_key ≡ false) xs
 rest_after v x [] l h = tt
 rest_after v x (w ∷ ws) l h = (upto_upto v.sort_key x.sort_key w.sort_key l h.0, rest_after v x ws l h.1)
 

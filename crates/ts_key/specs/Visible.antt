@@ -43,6 +43,6 @@ abbrev pub newest_ts : List Item → List ℕ → Option ℕ
 newest_ts vs key = option_map (λ v. v.sort_key.ts) (newest vs key)
 
 -- the first that passes a test
-abbrev pub first_of : (Item → Bool) → List Item → Option Item
+abbrev pub first_of : {X : Type 0} → (X → Bool) → List X → Option X
 first_of p [] = None
 first_of p (v ∷ vs) = if p v then Some v else first_of p vs

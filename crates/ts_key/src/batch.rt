@@ -1,3 +1,4 @@
+//! Operations of a write, and batches of them.
 ghost use Rattle.std.specs.Prelude.{◌≡◌, ℕ, ◌<◌, [], length, All, IsOk, IsNone, IfNone, IfOk, IfErr, OnOk};
 ghost use Rattle.ts_key.specs.Batches.{IsBatch, IsBatchFault, IsBadStamp, IsStamped, first_bad_stamp as first_bad};
 

@@ -1,3 +1,4 @@
+//! Keys and values: bytes that copies share.
 ghost use Rattle.std.specs.Prelude.{◌≡◌, ◌<◌, ◌≤◌, length, IfOk, IfErr, OnOk};
 ghost use Rattle.ts_key.specs.Bytes.{IsBytesFault};
 

@@ -14,8 +14,6 @@ pub mod name;
 pub mod numbers;
 pub mod order;
 pub mod stored_key;
-#[cfg(test)]
-mod tests;
 pub mod version;
 
 pub use batch::{Batch, BatchFault, WriteOp};

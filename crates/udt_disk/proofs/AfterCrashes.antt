@@ -6,7 +6,7 @@ use Rattle.std.proofs.lemmas.Bool.Decides.{nat_tests}
 use Rattle.std.proofs.lemmas.List.{length-replicate, append-nil}
 use Rattle.udt_disk.specs.Bytes.{Torn}
 use Rattle.udt_disk.specs.Crash.{Image}
-use Rattle.udt_disk.specs.History.{undone, is_synced, First, Leaves}
+use Rattle.udt_disk.specs.History.{undone, is_synced, First, CallsLeave}
 use Rattle.udt_disk.specs.Outcomes.{settled, spoiled, spoiled_at}
 use Rattle.udt_disk.specs.Tree.{entry_of, place_of}
 use Rattle.udt_disk.specs.Files.{FileLeaves, PlaceLeaves, file_stays}
@@ -30,14 +30,14 @@ use Rattle.udt_disk.proofs.Births.{may_miss_still}
 torn_nothing : (at n : ℕ) (bytes : List ℕ) → Torn at n bytes bytes
 torn_nothing at n bytes = record { before = refl; after = refl; no_shorter = omega arith; no_longer = omega arith }
 
-settled_left : (miss differ : Bool) (now : List ℕ) (calls : List FileCall) → Leaves miss differ now calls (Some (settled now calls))
+settled_left : (miss differ : Bool) (now : List ℕ) (calls : List FileCall) → CallsLeave miss differ now calls (Some (settled now calls))
 settled_left miss differ now [] = inl refl
 settled_left miss differ now (Wrote at count over ∷ earlier) =
     let before = undone now at count over.items in
     inr (Some (settled before earlier), settled_left miss differ before earlier, torn_nothing at count (settled before earlier))
 settled_left miss differ now (Synced ∷ earlier) = refl
 
-differing_left : (miss differ : Bool) (now any : List ℕ) (calls : List FileCall) → is_synced calls ≡ false → IsTrue differ → Leaves miss differ now calls (Some any)
+differing_left : (miss differ : Bool) (now any : List ℕ) (calls : List FileCall) → is_synced calls ≡ false → IsTrue differ → CallsLeave miss differ now calls (Some any)
 differing_left miss differ now any [] h d = inr d
 differing_left miss differ now any (Wrote at count over ∷ earlier) h d =
     inr (Some any, differing_left miss differ (undone now at count over.items) any earlier h d, torn_nothing at count any)
@@ -63,7 +63,7 @@ emptied_left : (miss differ : Bool) (emptied : ℕ) (now : List ℕ) → First m
 emptied_left miss true emptied now = inr refl
 emptied_left miss false emptied now = inl (append-nil now)
 
-spoiled_left : (miss differ : Bool) (emptied : ℕ) (now : List ℕ) (calls : List FileCall) → Leaves miss differ now calls (Some (spoiled (cond differ emptied 0) now calls))
+spoiled_left : (miss differ : Bool) (emptied : ℕ) (now : List ℕ) (calls : List FileCall) → CallsLeave miss differ now calls (Some (spoiled (cond differ emptied 0) now calls))
 spoiled_left miss differ emptied now [] = emptied_left miss differ emptied now
 spoiled_left miss differ emptied now (Wrote at count over ∷ earlier) =
     let before = undone now at count over.items in

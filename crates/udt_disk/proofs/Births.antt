@@ -2,7 +2,7 @@
 use Rattle.std.proofs.Common.{◌≡◌, inl, inr, Bool, true, false, not, refl, sym, subst}
 use Rattle.std.specs.Prelude.{Some, None, IsTrue, List, [], ◌∷◌, ℕ, reverse}
 use Rattle.std.proofs.lemmas.Bool.{false≢true}
-use Rattle.udt_disk.specs.History.{Leaves, undone, is_synced}
+use Rattle.udt_disk.specs.History.{CallsLeave, undone, is_synced}
 use Rattle.udt_disk.specs.Files.{LeavesBirth, PlaceLeaves, file_stays}
 use Rattle.udt_disk.specs.declared.history.FileCall.{FileCall}
 use Rattle.udt_disk.specs.declared.history.FileCall.TheVariants.{Wrote, Synced}
@@ -11,7 +11,7 @@ use Rattle.udt_disk.specs.declared.tree.Place.{Place}
 use Rattle.udt_disk.specs.declared.tree.Place.TheVariants.{Home, Gone}
 
 -- a file that was created and not synced may be missing
-pub may_miss_still : (miss differ : Bool) (now : List ℕ) (calls : List FileCall) → is_synced calls ≡ false → IsTrue miss → Leaves miss differ now calls None
+pub may_miss_still : (miss differ : Bool) (now : List ℕ) (calls : List FileCall) → is_synced calls ≡ false → IsTrue miss → CallsLeave miss differ now calls None
 may_miss_still miss differ now [] h m = m
 may_miss_still miss differ now (Wrote at count over ∷ earlier) h m = inr (None, may_miss_still miss differ (undone now at count over.items) earlier h m, tt)
 may_miss_still miss differ now (Synced ∷ earlier) h m = absurd (false≢true (sym h))

@@ -6,7 +6,7 @@ use Rattle.std.proofs.lemmas.List.{take_at, drop_at, length-take, length-drop, r
 use Rattle.std.proofs.lemmas.Grind.{common_steps}
 use Rattle.udt_disk.specs.Bytes.{overwritten, Torn}
 use Rattle.udt_disk.specs.Crash.{Image, Tears, Follows, NoMore, Elapses}
-use Rattle.udt_disk.specs.History.{undone, Leaves, LeftSince, stays_now}
+use Rattle.udt_disk.specs.History.{undone, CallsLeave, LeftSince, stays_now}
 use Rattle.udt_disk.specs.declared.history.FileCall.{FileCall}
 use Rattle.udt_disk.specs.declared.history.FileCall.TheVariants.{Wrote, Synced}
 
@@ -46,10 +46,10 @@ more calls call = reverse-append calls (call ∷ [])
 
 module _ (miss differ : Bool) (now : List ℕ) (calls : List FileCall) where
   -- after a sync there is what a read gives, which was possible before
-  pub sync_only : (calls' : List FileCall) → calls' ≡ calls ++ Synced ∷ [] → NoMore (Leaves miss differ now (reverse calls)) (Leaves miss differ now (reverse calls'))
+  pub sync_only : (calls' : List FileCall) → calls' ≡ calls ++ Synced ∷ [] → NoMore (CallsLeave miss differ now (reverse calls)) (CallsLeave miss differ now (reverse calls'))
   sync_only calls' noted c left =
-      let only : c ≡ Some now = subst (λ (cs : List FileCall). Leaves miss differ now cs c) (ap reverse noted ∙ more calls Synced) left in
-      subst (Leaves miss differ now (reverse calls)) (sym only) (stays_now miss differ now (reverse calls))
+      let only : c ≡ Some now = subst (λ (cs : List FileCall). CallsLeave miss differ now cs c) (ap reverse noted ∙ more calls Synced) left in
+      subst (CallsLeave miss differ now (reverse calls)) (sym only) (stays_now miss differ now (reverse calls))
 
   module _ (at : ℕ) (piece new : List ℕ) (over : Vec ℕ Global) (calls' : List FileCall) (within : at ≤ length now) (saved : over.items ≡ take (length piece) (drop at now)) (written : new ≡ overwritten now at piece) (noted : calls' ≡ calls ++ Wrote at (length piece) over ∷ []) where
     calls_are : reverse calls' ≡ Wrote at (length piece) over ∷ reverse calls
@@ -61,19 +61,19 @@ module _ (miss differ : Bool) (now : List ℕ) (calls : List FileCall) where
         ∙ ap (λ (bytes : List ℕ). undone (overwritten now at piece) at (length piece) bytes) saved
         ∙ undone-overwritten at now piece within
 
-    write_cases : (c : Image) → Leaves miss differ new (Wrote at (length piece) over ∷ reverse calls) c → (d : Image) × Leaves miss differ now (reverse calls) d × Tears at (length piece) d c
+    write_cases : (c : Image) → CallsLeave miss differ new (Wrote at (length piece) over ∷ reverse calls) c → (d : Image) × CallsLeave miss differ now (reverse calls) d × Tears at (length piece) d c
     write_cases c (inl whole) = (Some now, stays_now miss differ now (reverse calls), subst (Tears at (length piece) (Some now)) (sym (whole ∙ ap Some written)) (torn_whole at now piece within))
-    write_cases c (inr torn) = (torn.0, subst (λ (bytes : List ℕ). Leaves miss differ bytes (reverse calls) torn.0) undone_is torn.1, torn.2)
+    write_cases c (inr torn) = (torn.0, subst (λ (bytes : List ℕ). CallsLeave miss differ bytes (reverse calls) torn.0) undone_is torn.1, torn.2)
 
     -- a write may leave what it wrote, or may be torn
-    pub write_follows : Follows (Tears at (length piece)) (Leaves miss differ now (reverse calls)) (Leaves miss differ new (reverse calls'))
-    write_follows c left = write_cases c (subst (λ (cs : List FileCall). Leaves miss differ new cs c) calls_are left)
+    pub write_follows : Follows (Tears at (length piece)) (CallsLeave miss differ now (reverse calls)) (CallsLeave miss differ new (reverse calls'))
+    write_follows c left = write_cases c (subst (λ (cs : List FileCall). CallsLeave miss differ new cs c) calls_are left)
 
-    since_cases : (t : ℕ) (c : Image) → LeftSince miss differ new (Wrote at (length piece) over ∷ reverse calls) t c → LeftSince miss differ now (reverse calls) t c ⊎ Leaves miss differ new (reverse calls') c
-    since_cases t c (inl left) = inr (subst (λ (cs : List FileCall). Leaves miss differ new cs c) (sym calls_are) left)
+    since_cases : (t : ℕ) (c : Image) → LeftSince miss differ new (Wrote at (length piece) over ∷ reverse calls) t c → LeftSince miss differ now (reverse calls) t c ⊎ CallsLeave miss differ new (reverse calls') c
+    since_cases t c (inl left) = inr (subst (λ (cs : List FileCall). CallsLeave miss differ new cs c) (sym calls_are) left)
     since_cases t c (inr past) = inl (subst (λ (bytes : List ℕ). LeftSince miss differ bytes (reverse calls) t c) undone_is past.1)
 
-    pub write_elapses : Elapses (length (reverse calls)) (length (reverse calls')) (LeftSince miss differ now (reverse calls)) (LeftSince miss differ new (reverse calls')) (Leaves miss differ new (reverse calls'))
+    pub write_elapses : Elapses (length (reverse calls)) (length (reverse calls')) (LeftSince miss differ now (reverse calls)) (LeftSince miss differ new (reverse calls')) (CallsLeave miss differ new (reverse calls'))
     write_elapses =
         let longer : length (reverse calls') ≡ suc (length (reverse calls)) = ap length calls_are in
         record {

@@ -1,14 +1,14 @@
 -- Joint runs.
 use Rattle.std.proofs.Common.{refl}
 use Rattle.udt_disk.specs.Crash.{Image}
-use Rattle.udt_disk.specs.Joint.{Folder, Joint, IsHeld, IsBetween, Stands, Ran}
+use Rattle.udt_disk.specs.Joint.{Folder, Joint, IsHeld, IsBetween, LeavesNow, Ran}
 use Rattle.udt_disk.specs.Joint.Ran.{rests, then_to}
 use Rattle.udt_disk.specs.declared.file.DiskFile as file
 use Rattle.udt_disk.specs.declared.disk.Disk as disk
 
 module _ {D F : Type 0} (d : disk.Ghosts D F) (f : file.Ghosts F) (P : Folder → Type 0) where
   -- a run ends where the next may begin
-  pub ran_stands : (old new : Joint D F) → Ran d f P old new → Stands d f P new
+  pub ran_stands : (old new : Joint D F) → Ran d f P old new → LeavesNow d f P new
   ran_stands old new (rests here) = here
   ran_stands old new (then_to mid k so_far between here) = here
 

@@ -2,7 +2,7 @@
 use Rattle.std.proofs.Common.{ℕ, ◌≤◌, List, length, refl, ◌∙◌, ap, subst, arith, inl, Some, None, Result, Ok, Err}
 use Rattle.std.specs.Prelude.{reverse, OnOk, OnErr}
 use Rattle.udt_disk.specs.Crash.{Image, Tears, Follows, NoMore, Only, Elapses}
-use Rattle.udt_disk.specs.History.{Leaves, LeftSince}
+use Rattle.udt_disk.specs.History.{CallsLeave, LeftSince}
 use Rattle.udt_disk.specs.Files.{FileLeaves}
 use Rattle.udt_disk.specs.Tried.{SameFile, IsWritten, IsSynced}
 use Rattle.udt_disk.specs.declared.mem_file.FileData.{FileData}
@@ -32,7 +32,7 @@ module _ (old new : FileData) where
 
   only_now : IsSynced old new → Only old.bytes.items (FileLeaves new)
   only_now done c left =
-      subst (λ (cs : List _). Leaves new.may_miss new.may_differ new.bytes.items cs c) (ap reverse done.noted ∙ more old.calls.items _) left ∙ ap Some done.bytes
+      subst (λ (cs : List _). CallsLeave new.may_miss new.may_differ new.bytes.items cs c) (ap reverse done.noted ∙ more old.calls.items _) left ∙ ap Some done.bytes
 
   module _ {T E : Type 0} where
     pub synced_follows : (r : Result T E) → OnErr r (SameFile old new) → OnOk r (IsSynced old new) → NoMore (FileLeaves old) (FileLeaves new)

@@ -18,6 +18,6 @@ pub record IsAfterCrash (outcome : Outcome) (old new : Directory) : Type 0 where
   pub only : (n : FileName) (c : Image) → NameLeaves new n c → c ≡ place_stands (place_at new n)
 
 -- all stands as it did, and a crash leaves nothing else
-pub record IsOpened (old new : Directory) : Type 0 where
+pub record IsReopened (old new : Directory) : Type 0 where
   pub stands : (n : FileName) → place_stands (place_at new n) ≡ place_stands (place_at old n)
   pub only : (n : FileName) (c : Image) → NameLeaves new n c → c ≡ place_stands (place_at new n)

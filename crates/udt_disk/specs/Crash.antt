@@ -37,11 +37,3 @@ pub record Elapses (before now : ℕ) (past since : ℕ → Image → Type 0) (m
   pub later : before ≤ now
   pub nothing_else : (t : ℕ) (c : Image) → t ≤ before → since t c → past t c ⊎ may_leave c
   pub keeps : (t : ℕ) (c : Image) → t ≤ before → past t c → since t c
-
--- A crash at any moment since old leaves an image that has P, and so does one now.
-pub record LeavesOnly {F : Type 0} (moment : F → ℕ) (may_leave : F → Image → Type 0) (left_since : F → ℕ → Image → Type 0) (old new : F) (P : Image → Type 0) : Type 0 where
-  pub later : moment old ≤ moment new
-  pub each : (c : Image) → left_since new (moment old) c → P c
-  pub now : (c : Image) → may_leave new c → P c
-  -- for a run that began earlier
-  pub before : (t : ℕ) (c : Image) → t ≤ moment old → left_since new t c → left_since old t c ⊎ P c

@@ -58,16 +58,16 @@ entry_crash outcome None = None
 entry_crash outcome (Some e) = place_crash outcome e.place (settled_before e.before)
 
 -- this image stands there, and a crash leaves no other
-pub record IsClean (place : Option Place) (image : Image) : Type 0 where
+pub record IsCleanPlace (place : Option Place) (image : Image) : Type 0 where
   pub stands : place_stands place ≡ image
   pub only : (c : Image) → PlaceLeaves place c → c ≡ image
 
 -- the new entry is clean and has what the outcome leaves of the old one
 pub record IsCrashed (outcome : Outcome) (old new : Option Entry) : Type 0 where
-  pub clean : IsClean (place_of new) (entry_crash outcome old)
+  pub clean : IsCleanPlace (place_of new) (entry_crash outcome old)
   pub first : early new ≡ 0
 
 -- the new entry is clean and has what stands at the old one
 pub record IsCleaned (old new : Option Entry) : Type 0 where
-  pub clean : IsClean (place_of new) (place_stands (place_of old))
+  pub clean : IsCleanPlace (place_of new) (place_stands (place_of old))
   pub same : early new ≡ early old

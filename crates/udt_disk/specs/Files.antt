@@ -3,7 +3,7 @@ use Rattle.std.specs.Prelude.{◌≡◌, ◌⊎◌, ℕ, Bool, ⊤, List, [], re
 use Rattle.std.specs.Borrow.{Bor}
 use Rattle.std.proofs.Common.{refl, inl}
 use Rattle.udt_disk.specs.Crash.{Image}
-use Rattle.udt_disk.specs.History.{Leaves, stays_now}
+use Rattle.udt_disk.specs.History.{CallsLeave, stays_now}
 use Rattle.udt_disk.specs.declared.name.FileName.{FileName}
 use Rattle.udt_disk.specs.declared.mem_file.FileData.{FileData}
 use Rattle.udt_disk.specs.declared.tree.Place.{Place}
@@ -23,7 +23,7 @@ place_stands (Some (Gone f)) = None
 place_stands (Some Missing) = None
 
 abbrev pub FileLeaves : FileData → Image → Type 0
-FileLeaves f = Leaves f.may_miss f.may_differ f.bytes.items (reverse f.calls.items)
+FileLeaves f = CallsLeave f.may_miss f.may_differ f.bytes.items (reverse f.calls.items)
 
 -- a name whose file is held may leave anything, and a removed file may come back
 abbrev pub PlaceLeaves : Option Place → Image → Type 0

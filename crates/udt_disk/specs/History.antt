@@ -27,27 +27,27 @@ First may_miss may_differ now None = IsTrue may_miss
 First may_miss may_differ now (Some bytes) = (bytes ≡ now) ⊎ IsTrue may_differ
 
 -- what a crash may leave: what a read gives, or what the writes since the last sync may have left
-abbrev pub Leaves : Bool → Bool → List ℕ → List FileCall → Image → Type 0
-Leaves may_miss may_differ now [] c = First may_miss may_differ now c
-Leaves may_miss may_differ now (Wrote at count over ∷ earlier) c = (c ≡ Some now) ⊎ ((d : Image) × Leaves may_miss may_differ (undone now at count over.items) earlier d × Tears at count d c)
-Leaves may_miss may_differ now (Synced ∷ earlier) c = c ≡ Some now
+abbrev pub CallsLeave : Bool → Bool → List ℕ → List FileCall → Image → Type 0
+CallsLeave may_miss may_differ now [] c = First may_miss may_differ now c
+CallsLeave may_miss may_differ now (Wrote at count over ∷ earlier) c = (c ≡ Some now) ⊎ ((d : Image) × CallsLeave may_miss may_differ (undone now at count over.items) earlier d × Tears at count d c)
+CallsLeave may_miss may_differ now (Synced ∷ earlier) c = c ≡ Some now
 
 -- what a crash after at least t calls might have left
 abbrev pub LeftSince : Bool → Bool → List ℕ → List FileCall → ℕ → Image → Type 0
 LeftSince may_miss may_differ now [] t c = First may_miss may_differ now c
-LeftSince may_miss may_differ now (call ∷ earlier) t c = Leaves may_miss may_differ now (call ∷ earlier) c ⊎ ((t ≤ length earlier) × LeftSince may_miss may_differ (before_call now call) earlier t c)
+LeftSince may_miss may_differ now (call ∷ earlier) t c = CallsLeave may_miss may_differ now (call ∷ earlier) c ⊎ ((t ≤ length earlier) × LeftSince may_miss may_differ (before_call now call) earlier t c)
 
 -- what a read gives is one of the images
-pub stays_now : (miss differ : Bool) (now : List ℕ) (calls : List FileCall) → Leaves miss differ now calls (Some now)
+pub stays_now : (miss differ : Bool) (now : List ℕ) (calls : List FileCall) → CallsLeave miss differ now calls (Some now)
 stays_now miss differ now [] = inl refl
 stays_now miss differ now (Wrote at count over ∷ earlier) = inl refl
 stays_now miss differ now (Synced ∷ earlier) = refl
 
-pub counts_since : (miss differ : Bool) (now : List ℕ) (calls : List FileCall) (t : ℕ) (c : Image) → Leaves miss differ now calls c → LeftSince miss differ now calls t c
+pub counts_since : (miss differ : Bool) (now : List ℕ) (calls : List FileCall) (t : ℕ) (c : Image) → CallsLeave miss differ now calls c → LeftSince miss differ now calls t c
 counts_since miss differ now [] t c left = left
 counts_since miss differ now (call ∷ earlier) t c left = inl left
 
-pub only_since : (miss differ : Bool) (now : List ℕ) (calls : List FileCall) (c : Image) → LeftSince miss differ now calls (length calls) c → Leaves miss differ now calls c
+pub only_since : (miss differ : Bool) (now : List ℕ) (calls : List FileCall) (c : Image) → LeftSince miss differ now calls (length calls) c → CallsLeave miss differ now calls c
 only_since miss differ now [] c left = left
 only_since miss differ now (call ∷ earlier) c (inl left) = left
 only_since miss differ now (call ∷ earlier) c (inr past) = absurd (omega (arith, past.0))

@@ -27,7 +27,7 @@ pub record IsOpening (opened stood : MemDisk) : Type 0 where
   pub faults : faults_of opened ≡ faults_of stood
 
 -- a new folder is empty and clean, and its count is 0
-pub record IsNew (disk : MemDisk) : Type 0 where
+pub record IsNewFolder (disk : MemDisk) : Type 0 where
   pub stands : (n : FileName) → contents_of disk n ≡ None
   pub clean : (n : FileName) (c : Image) → NameLeaves disk.directory n c → c ≡ contents_of disk n
   pub faults : faults_of disk ≡ 0

@@ -37,10 +37,11 @@ module _ {D F : Type 0} (d : disk.Ghosts D F) (f : file.Ghosts F) where
     pub given : (x : F) → IsHeld j.files x → IsFree k (f.name x) → f.may_leave x (folder (f.name x)) ⊎ d.may_leave k.disk (f.name x) (folder (f.name x))
     pub taken : (y : F) → IsHeld k.files y → IsFree j (f.name y) → d.may_leave j.disk (f.name y) (folder (f.name y)) ⊎ f.may_leave y (folder (f.name y))
 
-  abbrev pub Stands : (Folder → Type 0) → Joint D F → Type 0
-  Stands P j = (folder : Folder) → IsImage j folder → P folder
+  -- a crash now leaves only folders that have P
+  abbrev pub LeavesNow : (Folder → Type 0) → Joint D F → Type 0
+  LeavesNow P j = (folder : Folder) → IsImage j folder → P folder
 
 -- A run of calls, at each moment of which every image that a crash may leave has P.
 pub data Ran {D F : Type 0} (d : disk.Ghosts D F) (f : file.Ghosts F) (P : Folder → Type 0) (old : Joint D F) : Joint D F → Type 0 where
-  rests : Stands d f P old → Ran d f P old old
-  then_to : (mid new : Joint D F) → Ran d f P old mid → ((folder : Folder) → IsBetween d f mid new folder → P folder) → Stands d f P new → Ran d f P old new
+  rests : LeavesNow d f P old → Ran d f P old old
+  then_to : (mid new : Joint D F) → Ran d f P old mid → ((folder : Folder) → IsBetween d f mid new folder → P folder) → LeavesNow d f P new → Ran d f P old new

@@ -13,6 +13,8 @@ pub mod Tree
 pub mod Troubles
 pub mod History
 pub mod Joint
+pub mod Runs
+pub mod Moments
 pub mod Outcomes
 pub mod Files
 pub mod Crashed

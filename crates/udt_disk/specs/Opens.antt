@@ -11,10 +11,10 @@ IsMissing None = ⊤
 IsMissing (Some standing) = standing ≡ None
 
 -- this source stands there, by what it tells of the bytes that it has left
-abbrev pub Stands : Standing → Option (List ℕ) → Type 0
-Stands None left = ⊤
-Stands (Some None) left = ⊥
-Stands (Some (Some bytes)) left = left ≡ Some bytes
+abbrev pub IsStanding : Standing → Option (List ℕ) → Type 0
+IsStanding None left = ⊤
+IsStanding (Some None) left = ⊥
+IsStanding (Some (Some bytes)) left = left ≡ Some bytes
 
 -- where it is told what stands there, it is a source whose bytes have P
 abbrev pub Told : Standing → (List ℕ → Type 0) → Type 0
@@ -38,5 +38,5 @@ StaysBut path old new = (other : List ℕ) → other ≢ path → new other ≡ 
 -- None comes exactly where no source stands there; else the source is the one that stood there, and stands there no more
 abbrev pub Opens : {I E : Type 0} → (I → Option (List ℕ)) → (List ℕ → Standing) → (List ℕ → Standing) → List ℕ → Result (Option I) E → Type 0
 Opens left old new path (Ok None) = IsMissing (old path) × StaysAll old new
-Opens left old new path (Ok (Some input)) = Stands (old path) (left input) × (new path ≡ without_source (old path)) × StaysBut path old new
+Opens left old new path (Ok (Some input)) = IsStanding (old path) (left input) × (new path ≡ without_source (old path)) × StaysBut path old new
 Opens left old new path (Err e) = StaysAll old new

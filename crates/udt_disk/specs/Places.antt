@@ -32,7 +32,7 @@ folder_of (Folder folder) = Some folder
 folder_of Nothing = None
 folder_of (Source source) = None
 
-abbrev pub kind_of : Occupant → Kind
-kind_of Nothing = Kinds.Nothing
-kind_of (Source source) = Kinds.Source
-kind_of (Folder folder) = Kinds.Folder
+abbrev pub kind_in : Occupant → Kind
+kind_in Nothing = Kinds.Nothing
+kind_in (Source source) = Kinds.Source
+kind_in (Folder folder) = Kinds.Folder

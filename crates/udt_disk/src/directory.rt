@@ -1,3 +1,5 @@
+//! The names of a folder in memory, with what stands under each and what a crash may leave there.
+
 ghost use Rattle.std.specs.Prelude.{◌≡◌, ◌≢◌, ◌<◌, ◌≤◌, ℕ, ◌+◌, Option, Some, None, IfSome, IfNone, IfOk};
 ghost use Rattle.udt_disk.specs.declared.name.FileName.{FileName as NameOf};
 ghost use Rattle.udt_disk.specs.declared.tree.Place.TheVariants.{Home, Out};
@@ -57,7 +59,7 @@ impl Room {
 
 impl Directory {
     ghost use Rattle.udt_disk.specs.Directory.{Put, Moved, Removed, Same, Made, NameLeaves, place_at};
-    ghost use Rattle.udt_disk.specs.AfterCrash.{IsOpened};
+    ghost use Rattle.udt_disk.specs.AfterCrash.{IsReopened};
 
     pub(crate) fn new() -> Directory
         ensures { (n : NameOf) → place_at result n ≡ None }
@@ -134,7 +136,7 @@ impl Directory {
 
     /// Makes what stands now last, as if all of it had been synced, in a folder of which nobody holds a file.
     pub(crate) fn clean(&mut self)
-        ensures { IsOpened self.old self.new }
+        ensures { IsReopened self.old self.new }
     {
         self.tree.clean();
     }

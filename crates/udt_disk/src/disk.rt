@@ -1,3 +1,5 @@
+//! The trait of folders.
+
 ghost use Rattle.std.specs.Prelude.{◌≡◌, ◌≢◌, ◌⊎◌, ◌≤◌, ℕ, [], Bool, List, Option, Some, None, IsTrue, IfOk, OnOk, OnErr, OnSome, IfSome, IfNone, MatchOption};
 ghost use Rattle.udt_disk.specs.declared.name.FileName.{FileName as NameOf};
 ghost use Rattle.udt_disk.specs.Causes.{HasCause, plus_faults};

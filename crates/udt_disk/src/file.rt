@@ -1,3 +1,5 @@
+//! The trait of files.
+
 ghost use Rattle.std.specs.Prelude.{◌≡◌, ◌+◌, ◌-◌, ◌^◌, ◌≤◌, ℕ, Bool, List, length, take, drop, Some, IsTrue, IfOk, OnOk, OnErr};
 ghost use Rattle.udt_disk.specs.declared.name.FileName.{FileName as NameOf};
 ghost use Rattle.udt_disk.specs.Causes.{HasCause};

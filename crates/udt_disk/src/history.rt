@@ -1,3 +1,5 @@
+//! The calls of a file in memory, as they are noted.
+
 /// A call that a file in memory took.
 #[derive(Drop)]
 pub(crate) enum FileCall {

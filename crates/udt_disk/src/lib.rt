@@ -13,8 +13,6 @@ mod memory;
 mod name;
 mod outcome;
 mod real;
-#[cfg(test)]
-mod tests;
 mod text;
 mod traits;
 mod tree;

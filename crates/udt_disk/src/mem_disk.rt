@@ -1,3 +1,5 @@
+//! Folders and their files in memory.
+
 ghost use Rattle.std.specs.Prelude.{◌≡◌, ◌≢◌, ◌⊎◌, ◌↔◌, IsErr, IsTrue, IfNone, OnSome, ℕ, ◌+◌, ◌-◌, ◌^◌, ◌≤◌, length, take, drop, true, List, reverse, Option, Some, None, IfOk, IfSome, OnOk, OnErr, MatchOption};
 ghost use Rattle.std.proofs.Common.{refl, inl};
 ghost use Rattle.udt_disk.specs.Causes.{plus_faults};

@@ -1,9 +1,11 @@
+//! What a file in memory holds, and its calls.
+
 ghost use Rattle.std.specs.Prelude.{◌≡◌, map, ◌+◌, ◌-◌, ◌^◌, ◌<◌, ◌≤◌, min, [], ◌∷◌, ◌++◌, List, ℕ, length, reverse, true, take, drop, if◌then◌else◌, ◌↔◌, IsErr, IsTrue, IfOk, OnOk, OnErr, Some};
 ghost use Rattle.std.specs.List.{list_any};
 ghost use Rattle.udt_disk.specs.Bytes.{overwritten};
 ghost use Rattle.udt_disk.specs.Causes.{plus_faults};
 ghost use Rattle.udt_disk.specs.Crash.{Image};
-ghost use Rattle.udt_disk.specs.History.{Leaves, is_synced};
+ghost use Rattle.udt_disk.specs.History.{CallsLeave, is_synced};
 ghost use Rattle.udt_disk.specs.Troubles.{is_due, counted_by};
 ghost use Rattle.udt_disk.specs.declared.history.FileCall.TheVariants.{Wrote, Synced};
 
@@ -43,7 +45,7 @@ impl FileData {
     /// Makes what a read gives now last, as if it had been synced.
     pub(crate) fn clean(&mut self)
         ensures bytes { self.new.bytes.items ≡ self.old.bytes.items }
-        ensures only { (c : Image) → Leaves self.new.may_miss self.new.may_differ self.new.bytes.items (reverse self.new.calls.items) c → c ≡ Some self.old.bytes.items }
+        ensures only { (c : Image) → CallsLeave self.new.may_miss self.new.may_differ self.new.bytes.items (reverse self.new.calls.items) c → c ≡ Some self.old.bytes.items }
     {
         self.calls.clear();
         self.may_miss = false;

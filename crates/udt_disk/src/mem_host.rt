@@ -1,7 +1,9 @@
+//! Hosts in memory: what stands under their paths.
+
 ghost use Rattle.std.specs.Prelude.{◌≡◌, ◌≢◌, ◌<◌, ◌≤◌, ℕ, List, Option, Some, None, IsTrue, IsSome, IfOk, IfSome, MatchOption, OnOk, OnErr, OnSome, if◌then◌else◌, is_err, length, position, slice_index_or, slice_set};
 ghost use Rattle.udt_disk.specs.Causes.{HasCause, plus_faults};
-ghost use Rattle.udt_disk.specs.Places.{has_path, stands_in, kind_of, source_of, folder_of, with_stands};
-ghost use Rattle.udt_disk.specs.Hosting.{IsOpening, IsNew};
+ghost use Rattle.udt_disk.specs.Places.{has_path, stands_in, kind_in, source_of, folder_of, with_stands};
+ghost use Rattle.udt_disk.specs.Hosting.{IsOpening, IsNewFolder};
 ghost use Rattle.udt_disk.specs.declared.mem_host.Occupant.TheVariants.{Nothing, Source as ASource, Folder as AFolder};
 
 use crate::{Disk, Failed, Host, MemDisk, MemSource, NoMemory, Text};
@@ -25,7 +27,7 @@ pub(crate) enum Kind {
 
 impl Occupant {
     fn kind(&self) -> Kind
-        ensures { result ≡ kind_of self.now }
+        ensures { result ≡ kind_in self.now }
     {
         match self {
             Occupant::Nothing => Kind::Nothing,
@@ -131,7 +133,7 @@ fn put_back(places: &mut Vec<Place>, path: &Text, folder: MemDisk)
 
 /// What stands under a path.
 fn kind_at(places: &[Place], path: &Text) -> Kind
-    ensures kind { result ≡ kind_of (stands_in places.now path.now) }
+    ensures kind { result ≡ kind_in (stands_in places.now path.now) }
     ensures place { result ≡ Kind.Folder → IsSome (position (has_path path.now) places.now) }
 {
     match place_of(places, path) {
@@ -158,7 +160,7 @@ fn take_folder(places: &mut Vec<Place>, path: &Text) -> Option<MemDisk>
 
 /// A new folder to be put back under a path, which has a place from now on.
 fn new_folder(alloc: Global, places: &mut Vec<Place>, path: &Text) -> Result<MemDisk, NoMemory>
-    ensures empty { IfOk result IsNew }
+    ensures empty { IfOk result IsNewFolder }
     ensures place { OnOk result (IsSome (position (has_path path.now) places.new.items)) }
     ensures same { (q : List ℕ) → stands_in places.new.items q ≡ stands_in places.old.items q }
     ensures places { (q : List ℕ) → IsSome (position (has_path q) places.old.items) → IsSome (position (has_path q) places.new.items) }

@@ -1,3 +1,5 @@
+//! The names of the files of a folder.
+
 /// The name of a file in a folder.
 #[derive(Clone, Copy, Debug, PartialEq, Eq)]
 pub enum FileName {

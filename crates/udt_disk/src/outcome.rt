@@ -1,7 +1,9 @@
+//! What a crash leaves of a folder in memory: three outcomes.
+
 ghost use Rattle.std.specs.Prelude.{◌≡◌, ◌+◌, ℕ, length, reverse, replicate, Option, Some, IfOk, option_map, None};
 ghost use Rattle.udt_disk.specs.History.{undone};
 ghost use Rattle.udt_disk.specs.Outcomes.{settled, spoiled, spoiled_at};
-ghost use Rattle.udt_disk.specs.Crashed.{settled_before, file_crash, place_crash, IsClean, IsCrashed};
+ghost use Rattle.udt_disk.specs.Crashed.{settled_before, file_crash, place_crash, IsCleanPlace, IsCrashed};
 ghost use Rattle.udt_disk.specs.Tree.{entry_from};
 ghost use Rattle.udt_disk.specs.declared.name.FileName.{FileName as NameOf};
 
@@ -136,7 +138,7 @@ impl Place {
         outcome: Outcome,
         before: Option<Vec<u8>>,
     ) -> Result<Place, NoMemory>
-        ensures { IfOk result (λ place. IsClean (Some place) (place_crash outcome self.now (option_map (λ v. v.items) before))) }
+        ensures { IfOk result (λ place. IsCleanPlace (Some place) (place_crash outcome self.now (option_map (λ v. v.items) before))) }
     {
         let left = match (self, outcome) {
             (Place::Home(file), _)
@@ -151,7 +153,7 @@ impl Place {
 
 /// The place of a file with these bytes, or of none, of which a crash leaves nothing else.
 fn clean_place(alloc: Global, bytes: Option<Vec<u8>>) -> Place
-    ensures { IsClean (Some result) (option_map (λ v. v.items) bytes) }
+    ensures { IsCleanPlace (Some result) (option_map (λ v. v.items) bytes) }
 {
     match bytes {
         None => Place::Missing,

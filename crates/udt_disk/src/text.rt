@@ -1,3 +1,5 @@
+//! Texts of a host: paths and words.
+
 ghost use Rattle.std.specs.Prelude.{◌≡◌, ℕ, ◌<◌, ◌≤◌, ◌↔◌, length, IfOk};
 ghost use Rattle.udt_disk.specs.declared.text.TextFault.TheVariants.{NoMemory};
 

@@ -1,8 +1,10 @@
+//! The entries of a folder in memory, by their names.
+
 ghost use Rattle.std.specs.Prelude.{◌≡◌, ◌≢◌, ℕ, Some, None, IfSome, option_map};
 ghost use Rattle.udt_disk.specs.declared.name.FileName.{FileName as NameOf};
 ghost use Rattle.udt_disk.specs.Tree.{entry_from, entry_of, early, lent, Changed};
 ghost use Rattle.udt_disk.specs.Files.{PlaceLeaves, LeavesBirth, place_stands, without_home, removed, file_at};
-ghost use Rattle.udt_disk.specs.Crashed.{IsClean, IsCleaned, emptied_by, settled_before, file_crash, place_crash, entry_crash};
+ghost use Rattle.udt_disk.specs.Crashed.{IsCleanPlace, IsCleaned, emptied_by, settled_before, file_crash, place_crash, entry_crash};
 ghost use Rattle.udt_disk.specs.declared.tree.Place.TheVariants.{Home, Out, Missing};
 ghost use Rattle.udt_disk.specs.declared.outcome.Outcome.TheVariants.{Lost};
 
@@ -77,7 +79,7 @@ pub(crate) struct Birth {
 
 impl Place {
     fn clean(&mut self)
-        ensures { IsClean (Some self.new) (place_stands (Some self.old)) }
+        ensures { IsCleanPlace (Some self.new) (place_stands (Some self.old)) }
     {
         match self {
             Place::Home(file) => file.clean(),

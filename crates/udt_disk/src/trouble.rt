@@ -1,3 +1,5 @@
+//! Calls that are made to fail.
+
 ghost use Rattle.std.specs.Prelude.{◌≡◌, map};
 ghost use Rattle.std.specs.List.{list_any};
 ghost use Rattle.udt_disk.specs.Troubles.{is_due, counted_by};

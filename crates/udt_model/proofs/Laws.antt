@@ -1,21 +1,23 @@
 -- Laws of the definitions.
 use Rattle.std.proofs.Common.{arith, ◌≡◌, ◌≢◌, ℕ, zero, suc, ◌+◌, ◌<◌, true, false, not, List, [], ◌∷◌, ◌++◌, length, map, Option, Some, None, refl, sym, ap, ◌∙◌, subst, inl, inr}
-use Rattle.std.specs.Prelude.{AllPairs, filter, option_map, slice_get, slice_index_or}
+use Rattle.std.specs.Prelude.{All, AllPairs, filter, flat_map, option_map, slice_get, slice_index_or}
 use Rattle.std.specs.Str.{bytes_eq}
 use Rattle.std.proofs.lemmas.Bool.{cases_Bool}
 use Rattle.ts_key.specs.declared.numbers.Family.{Family}
 use Rattle.ts_key.specs.declared.numbers.Ts.{Ts}
+use Rattle.ts_key.specs.declared.numbers.Seq.{Seq}
 use Rattle.ts_key.specs.declared.version.Form.TheVariants.{Persist}
 use Rattle.ts_key.specs.declared.version.Version.{Version}
 use Rattle.udt_model.specs.declared.line.FamilyHead.{FamilyHead}
 use Rattle.udt_model.specs.declared.line.Line.{Line}
 use Rattle.udt_model.specs.declared.reply.KeySpan.{KeySpan}
 use Rattle.udt_model.specs.declared.place.Place.{Place}
-use Rattle.udt_model.specs.Versions.{visible}
+use Rattle.udt_model.specs.Versions.{AreRising, visible}
 use Rattle.udt_model.specs.Orders.{is_in_some, stored}
 use Rattle.udt_model.specs.Collecting.{collect, collect_all, is_useless, seen_of}
 use Rattle.udt_model.specs.Standing.{AreAlike, Stands}
-use Rattle.udt_model.specs.State.{State, family_of, family_or, place_at, place_from, place_of_head}
+use Rattle.udt_model.specs.State.{State, FamilyState, family_of, family_or, heads_of, numbers_of, place_at, place_from, place_of_family, unflushed, unflushed_family}
+use Rattle.udt_model.specs.Crashes.{settled}
 use Rattle.udt_model.specs.declared.event.Event.{Event}
 use Rattle.udt_model.specs.declared.event.Event.TheVariants.{Snap, Release}
 use Rattle.udt_model.specs.declared.reply.Reply.{Reply}
@@ -35,7 +37,7 @@ all_stay kept floor deeper everywhere (v ∷ vs) =
     rw (stays, all_stay kept floor deeper everywhere vs) refl
 
 -- with spans that hold every key a compaction keeps what a flush keeps
-pub collect_everywhere : (vs : List Version) (floor : Ts) (seqs : List ℕ) (deeper : List KeySpan) → ((v : Version) → is_in_some deeper v.key ≡ true) → collect vs floor seqs deeper ≡ collect_all vs floor seqs
+pub collect_everywhere : (vs : List Version) (floor : Ts) (seqs : List Seq) (deeper : List KeySpan) → ((v : Version) → is_in_some deeper v.key ≡ true) → collect vs floor seqs deeper ≡ collect_all vs floor seqs
 collect_everywhere vs floor seqs deeper everywhere = ap stored (all_stay (seen_of vs floor seqs) floor deeper everywhere (seen_of vs floor seqs))
 
 -- ---- families by name and by number
@@ -43,37 +45,54 @@ collect_everywhere vs floor seqs deeper everywhere = ap stored (all_stay (seen_o
 abbrev numbered : ℕ → Family
 numbered n = record { 0 = n }
 
--- the family of a name stands at its place, as it is found there by name
-pub record Found (n : ℕ) (heads : List FamilyHead) (name : List ℕ) : Type 0 where
-  pub at : ℕ
-  pub family : family_or (n + length heads) (place_from n heads name) ≡ numbered (n + at)
-  pub place : option_map (place_of_head (numbered (n + at))) (slice_get heads at) ≡ place_from n heads name
+abbrev heads : List FamilyState → List FamilyHead
+heads families = map (λ f. f.head) families
 
-found : (n : ℕ) (heads : List FamilyHead) (name : List ℕ) → Found n heads name
+-- the family of a name stands at its place, as it is found there by name
+pub record Found (n : ℕ) (families : List FamilyState) (name : List ℕ) : Type 0 where
+  pub at : ℕ
+  pub family : family_or (n + length (heads families)) (place_from n (heads families) name) ≡ numbered (n + at)
+  pub place : option_map (place_of_family (numbered (n + at))) (slice_get families at) ≡ place_from n (heads families) name
+
+found : (n : ℕ) (families : List FamilyState) (name : List ℕ) → Found n families name
 found n [] name = record { at = 0; family = refl; place = refl }
-found n (head ∷ heads) name =
+found n (f ∷ families) name =
     let here : n + 0 ≡ n = omega arith in
-    elim (cases_Bool (bytes_eq head.name name)) [
-      | inl x ↦ record { at = 0; family = rw x (ap numbered (sym here)); place = rw x (ap (λ (k : ℕ). let p : Option Place = Some (place_of_head (numbered k) head) in p) here) }
+    elim (cases_Bool (bytes_eq f.head.name name)) [
+      | inl x ↦ record { at = 0; family = rw x (ap numbered (sym here)); place = rw x (ap (λ (k : ℕ). let p : Option Place = Some (place_of_family (numbered k) f) in p) here) }
       | inr x ↦
-        let more = found (n + 1) heads name in
-        let next : n + 1 + more.at ≡ n + suc more.at = omega arith in
-        let size : n + length (head ∷ heads) ≡ n + 1 + length heads = omega arith in
-        record {
-          at = suc more.at;
-          family = rw x (ap (λ (k : ℕ). family_or k (place_from (n + 1) heads name)) size ∙ more.family ∙ ap numbered next);
-          place = rw x (ap (λ (k : ℕ). option_map (place_of_head (numbered k)) (slice_get heads more.at)) (sym next) ∙ more.place);
-        }
+          let more = found (n + 1) families name in
+          let next : n + 1 + more.at ≡ n + suc more.at = omega arith in
+          let size : n + length (heads (f ∷ families)) ≡ n + 1 + length (heads families) = omega arith in
+          record {
+            at = suc more.at;
+            family = rw x (ap (λ (k : ℕ). family_or k (place_from (n + 1) (heads families) name)) size ∙ more.family ∙ ap numbered next);
+            place = rw x (ap (λ (k : ℕ). option_map (place_of_family (numbered k)) (slice_get families more.at)) (sym next) ∙ more.place);
+          }
     ]
 
 -- the place of the family of a name is that of the name
-pub place_of_name : (m : State) (name : List ℕ) → place_at m (family_of m.heads name) ≡ place_from 0 m.heads name
+pub place_of_name : (m : State) (name : List ℕ) → place_at m (family_of (heads_of m) name) ≡ place_from 0 (heads_of m) name
 place_of_name m name =
-    let it = found 0 m.heads name in
-    let size : 0 + length m.heads ≡ length m.heads = omega arith in
+    let it = found 0 m.families name in
+    let size : 0 + length (heads_of m) ≡ length (heads_of m) = omega arith in
     let at : 0 + it.at ≡ it.at = omega arith in
-    let family : family_of m.heads name ≡ numbered it.at = ap (λ (k : ℕ). family_or k (place_from 0 m.heads name)) (sym size) ∙ it.family ∙ ap numbered at in
-    ap (place_at m) family ∙ ap (λ (k : ℕ). option_map (place_of_head (numbered k)) (slice_get m.heads it.at)) (sym at) ∙ it.place
+    let family : family_of (heads_of m) name ≡ numbered it.at = ap (λ (k : ℕ). family_or k (place_from 0 (heads_of m) name)) (sym size) ∙ it.family ∙ ap numbered at in
+    ap (place_at m) family ∙ ap (λ (k : ℕ). option_map (place_of_family (numbered k)) (slice_get m.families it.at)) (sym at) ∙ it.place
+
+-- the heads of families without tables
+pub heads_unflushed : (families : List FamilyHead) → map (λ (f : FamilyState). f.head) (map unflushed_family families) ≡ families
+heads_unflushed [] = refl
+heads_unflushed (head ∷ families) = ap (λ (rest : List FamilyHead). head ∷ rest) (heads_unflushed families)
+
+-- and no number of a table
+pub none_live : (families : List FamilyHead) → flat_map (λ (f : FamilyState). numbers_of f.tables) (map unflushed_family families) ≡ []
+none_live [] = refl
+none_live (head ∷ families) = none_live families
+
+-- a store without tables is as an opening gives it
+pub settled_unflushed : (families : List FamilyHead) (versions : List Version) (last : Seq) (halted : Option ℕ) → settled (unflushed families versions last halted) ≡ unflushed families versions last None
+settled_unflushed families versions last halted = ap (λ (used : List ℕ). let m : State = record (unflushed families versions last None) { used = used } in m) (none_live families)
 
 -- ---- standing
 
@@ -81,11 +100,12 @@ same_image : (w : List Version) (floor : Ts) (family : Family) (a : Option Versi
 same_image w floor family None = tt
 same_image w floor family (Some v) = refl
 
--- a list whose sequences differ stands for itself
-pub stands_itself : (family : Family) (w : List Version) (floor : Ts) (seqs : List ℕ) → AllPairs (λ (a b : Version). a.seq.0 ≢ b.seq.0) w → Stands family Persist w w floor seqs
-stands_itself family w floor seqs apart = record {
-  images = λ k d within. (slice_index_or w k d, (k, within, inside w k d within), refl);
+-- the versions of one family stand for themselves, where their sequences differ and their timestamps rise
+pub stands_itself : (family : Family) (w : List Version) (floor : Ts) (seqs : List Seq) → All (λ (v : Version). v.family ≡ family) w → AllPairs (λ (a b : Version). a.seq.0 ≢ b.seq.0) w → AreRising w → Stands family Persist w w floor seqs
+stands_itself family w floor seqs own apart rising = record {
+  images = λ k d within. (slice_index_or w k d, (k, within, inside w k d within), own k d within, refl);
   apart = apart;
+  rising = rising;
   alike = λ key t s above sight. same_image w floor family (visible w family key t s);
 }
   where

@@ -1,5 +1,11 @@
 pub mod Newest
-pub mod Rows
+pub mod Samples
+pub mod ReadRows
+pub mod JobRows
 pub mod Laws
 pub mod CrashRows
 pub mod Limits
+pub mod StandRows
+pub mod EntryRows
+pub mod RunningRows
+pub mod Sorted

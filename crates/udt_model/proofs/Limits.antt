@@ -24,24 +24,7 @@ use Rattle.udt_model.specs.State.{State, Snap, LiveTable, unflushed}
 use Rattle.udt_model.specs.Jobs.{IsClosed, deeper_of}
 use Rattle.udt_model.specs.Names.{Names, SnapName, ViewName}
 use Rattle.udt_model.specs.Histories.{Point, IsLegal, behind, start, start_of}
-
-abbrev pub ts : ℕ → Ts
-ts t = record { 0 = t }
-
-abbrev pub named : List ℕ → List ℕ → ℕ → Op → NamedOp
-named family key t op = record { family = family; key = key; ts = ts t; op = op }
-
-abbrev pub row : List ℕ → List ℕ → Stamp → Row
-row key value stamp = record { key = key; value = value; stamp = stamp }
-
-abbrev pub piece : ℕ → ℕ → Piece
-piece table count = record { table = table; count = count }
-
-abbrev pub head : List ℕ → Form → ℕ → FamilyHead
-head name form floor = record { name = name; form = form; floor = ts floor }
-
-abbrev pub line : ℕ → ℕ → Who → Event → Reply → Line
-line n sub who event reply = record { mark = record { number = n; sub = sub }; who = who; event = event; reply = reply }
+use Rattle.udt_model.proofs.Samples.{ts, named, row, piece, head, line}
 
 abbrev pub d : List ℕ
 d = codes "d"
@@ -113,6 +96,10 @@ one_view_more h = grind (arith)
 pub of_flusher : IsLegal (viewing 64) (line 1 0 Flusher (events.Pin (codes "f")) replies.Done)
 of_flusher = record { mark = refl; named = refl; reply = inl (record { running = refl; is = inl refl }) }
 
+-- but it has no names: what it uses isn't unbound, it isn't legal
+pub no_names_of_flusher : IsLegal (viewing 64) (line 0 1 Flusher (events.Get d (codes "a") (ts 0) (Some (codes "s"))) replies.Unbound) → ⊥
+no_names_of_flusher h = grind (arith)
+
 -- ---- 2^56 - 1 sequences
 
 abbrev pub full : Point
@@ -135,17 +122,17 @@ still_syncs h = grind (arith)
 pub none_left : IsLegal (start_of (2 ^ 63) fresh) (line 0 1 (Client 1) events.Sync replies.History)
 none_left = record { mark = refl; named = refl; reply = inr (refl, inr (refl, refl, omega arith)) }
 
--- ---- plans (row R12-2)
+-- ---- plans
 
 abbrev pub version : List ℕ → ℕ → Version
 version key seq = record { family = record { 0 = 0 }; key = key; ts = ts 1; seq = record { 0 = seq }; op = ops.Del }
 
 abbrev pub table : ℕ → ℕ → List ℕ → List ℕ → LiveTable
-table number level low high = record { number = number; family = record { 0 = 0 }; level = level; versions = version low number ∷ version high (number + 20) ∷ [] }
+table number level low high = record { number = number; level = level; versions = version low number ∷ version high (number + 20) ∷ [] }
 
 abbrev pub planned : State
 planned = record fresh {
-  tables = table 3 1 (codes "b") (codes "c") ∷ table 4 1 (codes "x") (codes "z") ∷ table 7 0 (codes "a") (codes "b") ∷ table 8 0 (codes "c") (codes "d") ∷ table 9 0 (codes "b") (codes "f") ∷ table 10 0 (codes "d") (codes "e") ∷ [];
+  families = record { head = head d Persist 0; through = record { 0 = 30 }; tables = table 3 1 (codes "b") (codes "c") ∷ table 4 1 (codes "x") (codes "z") ∷ table 7 0 (codes "a") (codes "b") ∷ table 8 0 (codes "c") (codes "d") ∷ table 9 0 (codes "b") (codes "f") ∷ table 10 0 (codes "d") (codes "e") ∷ [] } ∷ [];
 }
 
 pub closed : IsClosed planned (record { 0 = 0 }) (3 ∷ 7 ∷ 8 ∷ 9 ∷ 10 ∷ []) 1

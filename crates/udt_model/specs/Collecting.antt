@@ -2,9 +2,10 @@
 use Rattle.std.specs.Prelude.{ℕ, ◌+◌, max, Bool, not, nat_le, ◌&&◌, ◌||◌, List, [], ◌∷◌, map, filter}
 use Rattle.std.specs.List.{list_any}
 use Rattle.ts_key.specs.declared.numbers.Ts.{Ts}
+use Rattle.ts_key.specs.declared.numbers.Seq.{Seq}
 use Rattle.ts_key.specs.declared.version.Version.{Version}
 use Rattle.udt_model.specs.declared.reply.KeySpan.{KeySpan}
-use Rattle.udt_model.specs.Versions.{is_newer, is_of, puts, up_to}
+use Rattle.udt_model.specs.Versions.{is_newer, is_of, is_put, up_to}
 use Rattle.udt_model.specs.Orders.{is_in_some, stored}
 
 -- o hides v from every read at or above the floor that sees both: it is a newer version of the key, at most as far up as v or the floor
@@ -15,30 +16,34 @@ hides floor o v = is_of v.family v.key o && is_newer o v && nat_le o.ts.0 (max v
 abbrev pub is_hidden : List Version → Ts → Version → Bool
 is_hidden vs floor v = list_any (λ o. hides floor o v) vs
 
--- none of the list hides it, or none of those up to some sequence of a snapshot that sees it
-abbrev pub is_seen : List Version → Ts → List ℕ → Version → Bool
-is_seen vs floor seqs v = not (is_hidden vs floor v) || list_any (λ s. nat_le v.seq.0 s && not (is_hidden (up_to s vs) floor v)) seqs
+-- a snapshot of this sequence sees it: none of the list up to there hides it
+abbrev pub is_seen_at : List Version → Ts → Version → Seq → Bool
+is_seen_at vs floor v s = nat_le v.seq.0 s.0 && not (is_hidden (up_to s.0 vs) floor v)
 
-abbrev pub seen_of : List Version → Ts → List ℕ → List Version
+-- a read at or above the floor may see it: now, or with one of the snapshots
+abbrev pub is_seen : List Version → Ts → List Seq → Version → Bool
+is_seen vs floor seqs v = not (is_hidden vs floor v) || list_any (is_seen_at vs floor v) seqs
+
+abbrev pub seen_of : List Version → Ts → List Seq → List Version
 seen_of vs floor seqs = filter (is_seen vs floor seqs) vs
 
--- a put that an older version of its key may need hidden
+-- p is a put of v's key that is older than v
 abbrev pub is_put_below : Version → Version → Bool
-is_put_below v p = puts p.op && is_of v.family v.key p && is_newer v p
+is_put_below v p = is_put p.op && is_of v.family v.key p && is_newer v p
 
 -- A delete up to the floor has no use where its key lies in no deeper span and no put of the key below it is kept.
 abbrev pub is_useless : List Version → Ts → List KeySpan → Version → Bool
-is_useless kept floor deeper v = not (puts v.op) && nat_le v.ts.0 floor.0 && not (is_in_some deeper v.key) && not (list_any (is_put_below v) kept)
+is_useless kept floor deeper v = not (is_put v.op) && nat_le v.ts.0 floor.0 && not (is_in_some deeper v.key) && not (list_any (is_put_below v) kept)
 
 abbrev pub without_useless : Ts → List KeySpan → List Version → List Version
 without_useless floor deeper kept = filter (λ v. not (is_useless kept floor deeper v)) kept
 
 -- what a compaction keeps of versions of one family, in the stored order
-abbrev pub collect : List Version → Ts → List ℕ → List KeySpan → List Version
+abbrev pub collect : List Version → Ts → List Seq → List KeySpan → List Version
 collect vs floor seqs deeper = stored (without_useless floor deeper (seen_of vs floor seqs))
 
--- what a flush keeps: every key may have versions deeper, so no delete is taken out
-abbrev pub collect_all : List Version → Ts → List ℕ → List Version
+-- what a flush keeps of them: every key may have versions deeper, so no delete is taken out
+abbrev pub collect_all : List Version → Ts → List Seq → List Version
 collect_all vs floor seqs = stored (seen_of vs floor seqs)
 
 -- ---- stripping

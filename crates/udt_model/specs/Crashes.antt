@@ -4,7 +4,7 @@ use Rattle.udt_model.specs.declared.reply.Reply.{Reply}
 use Rattle.udt_model.specs.declared.reply.Reply.TheVariants.{Done, OkAt, Table, Kept, Fault}
 use Rattle.udt_model.specs.declared.line.Line.{Line}
 use Rattle.udt_model.specs.Versions.{up_to}
-use Rattle.udt_model.specs.State.{State, numbers_of}
+use Rattle.udt_model.specs.State.{State, heads_of, live_numbers}
 use Rattle.udt_model.specs.Acts.{Act}
 use Rattle.udt_model.specs.Acts.Act.{write, raise, sync_all, flush_end, compact_end}
 use Rattle.udt_model.specs.Steps.{IsTold, after}
@@ -43,7 +43,7 @@ syncs act reply = false
 abbrev pub failing_at : State → ℕ → Act → Option Failing
 failing_at m number act = Some (record { state = m; number = number; act = act })
 
--- the disk fails under an act that puts what it changes on the disk
+-- the disk failed under an act that was to change what is on it
 abbrev pub failing_after : State → ℕ → Option Failing → Act → Reply → Option Failing
 failing_after m number failing (write ops sync) Fault = failing_at m number (write ops sync)
 failing_after m number failing (raise family floor) Fault = failing_at m number (raise family floor)
@@ -66,13 +66,13 @@ course_after_or m number c (Some act) reply = course_after m number c act reply
 -- what the lines behind a point make of it
 abbrev pub course_behind : Point → Course → List Line → Course
 course_behind p c [] = c
-course_behind p c (l ∷ ls) = course_behind (behind p l) (course_after_or p.state (p.number + 1) c (act_of p.state.heads (p.names l.who) l.event) l.reply) ls
+course_behind p c (l ∷ ls) = course_behind (behind p l) (course_after_or p.state (p.number + 1) c (act_of (heads_of p.state) (p.names l.who) l.event) l.reply) ls
 
 -- ---- what is left
 
 -- what opening a folder gives again: no snapshot, no job and no halt
 abbrev pub settled : State → State
-settled m = record m { halted = None; used = numbers_of m.tables; snaps = []; flush = None; compaction = None }
+settled m = record m { halted = None; used = live_numbers m; snaps = []; flush = None; compaction = None }
 
 -- the writes up to a sequence
 abbrev pub cut_at : State → ℕ → State
@@ -82,21 +82,21 @@ cut_at m end = settled (record m { versions = up_to end m.versions; last = recor
 abbrev pub IsCut : State → Course → State → Type 0
 IsCut m c left = (end : ℕ) × Contains c.ends end × (c.synced ≤ end) × (left ≡ cut_at m end)
 
--- the act puts what it changes on the disk with this reply: a write, a raise, or the end of a job
-abbrev pub is_put : Act → Reply → Bool
-is_put (write ops sync) (OkAt last) = true
-is_put (raise family floor) Done = true
-is_put (flush_end family start) (Table table kept floor) = true
-is_put (compact_end family start) (Kept kept pieces) = true
-is_put act reply = false
+-- with this reply the act changed what is on the disk: a write, a raise, or the end of a job
+abbrev pub is_change : Act → Reply → Bool
+is_change (write ops sync) (OkAt last) = true
+is_change (raise family floor) Done = true
+is_change (flush_end family start) (Table table kept floor) = true
+is_change (compact_end family start) (Kept kept pieces) = true
+is_change act reply = false
 
 -- every write, and what the act changes
-abbrev pub IsPut : State → ℕ → Act → State → Type 0
-IsPut m number act left = (reply : Reply) × IsTold m act reply × IsTrue (is_put act reply) × (left ≡ settled (after m number act reply))
+abbrev pub IsChanged : State → ℕ → Act → State → Type 0
+IsChanged m number act left = (reply : Reply) × IsTold m act reply × IsTrue (is_change act reply) × (left ≡ settled (after m number act reply))
 
 abbrev pub IsFailed : Option Failing → State → Type 0
 IsFailed None left = ⊥
-IsFailed (Some f) left = IsPut f.state f.number f.act left
+IsFailed (Some f) left = IsChanged f.state f.number f.act left
 
 -- A crash may leave this: the writes up to one of the ends that are at least synced, or every write and what the act under which
 -- the disk failed was to change.
@@ -105,4 +105,4 @@ IsOutcome m c left = IsCut m c left ⊎ IsFailed c.failing left
 
 -- the same while the disk works on an act
 abbrev pub IsOutcomeUnder : State → Course → ℕ → Act → State → Type 0
-IsOutcomeUnder m c number act left = IsOutcome m c left ⊎ IsPut m number act left
+IsOutcomeUnder m c number act left = IsOutcome m c left ⊎ IsChanged m number act left

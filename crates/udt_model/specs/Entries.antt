@@ -1,10 +1,10 @@
 -- Entries of the history of the threads: events by numbers, with their replies.
-use Rattle.std.specs.Prelude.{◌≡◌, ℕ, ◌+◌, ◌<◌, ◌≤◌, ◌&&◌, Bool, true, false, not, IsTrue, ⊤, List, [], ◌∷◌, Option, Some, None}
+use Rattle.std.specs.Prelude.{◌≡◌, ℕ, ◌+◌, ◌-◌, ◌^◌, ◌<◌, ◌≤◌, ◌==◌, min, Bool, true, false, IsTrue, ⊤, List, [], ◌∷◌, Option, Some, None}
 use Rattle.udt_model.specs.declared.reply.Reply.{Reply}
-use Rattle.udt_model.specs.declared.reply.Reply.TheVariants.{OkAt, Files, DroppedFault, DroppedFiles, Fault}
-use Rattle.udt_model.specs.State.{State}
+use Rattle.udt_model.specs.declared.reply.Reply.TheVariants.{OkAt, Inputs, Files, DroppedFault, DroppedFiles, Fault}
+use Rattle.udt_model.specs.State.{State, is_registered}
 use Rattle.udt_model.specs.Acts.{Act, takes_commit}
-use Rattle.udt_model.specs.Acts.Act.{get, scan, release, flush_start, flush_end, compact_end}
+use Rattle.udt_model.specs.Acts.Act.{get, scan, ask_floor, make_snapshot, release, pin, flush_start, flush_end, compact_start, compact_end}
 use Rattle.udt_model.specs.Steps.{IsReplyTo, after, file_limit}
 
 -- how often the disk had failed, and the number of the engine's next file
@@ -23,10 +23,22 @@ is_get (get family key t snap) = true
 is_get (scan family range t limit forward snap) = true
 is_get act = false
 
--- a fault comes only where the disk's count rose
+-- the act makes a step that neither reads nor works on the disk; what it releases is registered
+abbrev pub is_said : State → Act → Bool
+is_said m (ask_floor family) = true
+is_said m make_snapshot = true
+is_said m (release event) = is_registered m event
+is_said m pin = true
+is_said m act = false
+
+-- the disk's count rose, or stands at its end
+abbrev pub HasCounted : ℕ → ℕ → Type 0
+HasCounted before now = min (before + 1) (2 ^ 64 - 1) ≤ now
+
+-- a fault comes only where it did
 abbrev pub HasRisen : Reply → ℕ → ℕ → Type 0
-HasRisen Fault before now = before < now
-HasRisen DroppedFault before now = before < now
+HasRisen Fault before now = HasCounted before now
+HasRisen DroppedFault before now = HasCounted before now
 HasRisen reply before now = ⊤
 
 -- that there are no files is told only where it is so
@@ -52,7 +64,7 @@ pub record IsWorked (m : State) (old new : Counts) (act : Act) (reply : Reply) :
 -- the entry may follow in a state, with these counts
 abbrev pub IsEntry : State → Counts → Entry → Type 0
 IsEntry m counts (reads act) = IsTrue (is_get act)
-IsEntry m counts (says act reply) = IsTrue (not (takes_commit act) && not (is_get act)) × IsReplyTo m act reply
+IsEntry m counts (says act reply) = IsTrue (is_said m act) × IsReplyTo m act reply
 IsEntry m counts (works act reply new) = IsWorked m counts new act reply
 
 abbrev pub after_entry : State → ℕ → Entry → State
@@ -87,3 +99,10 @@ needed (release event) = Some event
 needed (flush_end family start) = Some start
 needed (compact_end family start) = Some start
 needed act = None
+
+-- the entry is what the act needs: the snapshot, or the start of the job
+abbrev pub is_start_of : Act → Entry → Bool
+is_start_of (release event) (says make_snapshot (OkAt seq)) = true
+is_start_of (flush_end family start) (works (flush_start f) (OkAt through) counts) = f.0 == family.0
+is_start_of (compact_end family start) (works (compact_start f pick) (Inputs inputs level) counts) = f.0 == family.0
+is_start_of act entry = false

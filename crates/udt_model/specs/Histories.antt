@@ -1,13 +1,14 @@
 -- Legal histories.
 use Rattle.std.specs.Prelude.{◌≡◌, ℕ, ◌+◌, ◌==◌, nat_lt, ◌&&◌, ◌||◌, Bool, true, false, if◌then◌else◌, IsTrue, List, [], ◌∷◌, filter}
 use Rattle.udt_model.specs.declared.event.Event.{Event}
+use Rattle.udt_model.specs.declared.event.Event.TheVariants.{Pin}
 use Rattle.udt_model.specs.declared.line.Line.{Line}
 use Rattle.udt_model.specs.declared.line.Mark.{Mark}
 use Rattle.udt_model.specs.declared.line.Who.{Who}
 use Rattle.udt_model.specs.declared.line.Who.TheVariants.{Client, Flusher, Compactor, Runner}
 use Rattle.udt_model.specs.State.{State}
 use Rattle.udt_model.specs.Names.{Names, fits, names_after, no_names, snap_names, view_names}
-use Rattle.udt_model.specs.Lines.{IsReply, after, is_step, says_fault}
+use Rattle.udt_model.specs.Lines.{IsReply, after, is_step, says_fault, says_files}
 
 abbrev pub is_same : Who → Who → Bool
 is_same (Client m) (Client n) = m == n
@@ -47,9 +48,14 @@ ends_here p = record p { height = p.number }
 abbrev pub next_mark : Point → Line → Mark
 next_mark p l = if is_step l.event l.reply then record { number = p.number + 1; sub = 0 } else record { number = (p.last l.who).number; sub = (p.last l.who).sub + 1 }
 
+-- a pin may have any name where names aren't kept
+abbrev pub fits_none : Event → Bool
+fits_none (Pin name) = true
+fits_none event = fits [] [] event
+
 -- the names that the event uses and binds may be used and bound
 abbrev pub is_named : Who → Names → Event → Bool
-is_named who names event = if keeps_names who then fits (snap_names names) (view_names names) event else true
+is_named who names event = if keeps_names who then fits (snap_names names) (view_names names) event else fits_none event
 
 -- the line is legal at this point
 pub record IsLegal (p : Point) (l : Line) : Type 0 where
@@ -78,6 +84,10 @@ Leads old (l ∷ ls) new = IsLegal old l × Leads (behind old l) ls new
 -- the disk didn't fail under this line
 abbrev pub IsSound : Line → Type 0
 IsSound l = says_fault l.reply ≡ false
+
+-- and there were files for it
+abbrev pub HasFiles : Line → Type 0
+HasFiles l = says_files l.reply ≡ false
 
 -- ---- actors
 

@@ -15,23 +15,23 @@ use Rattle.udt_model.specs.Collecting.{collect, collect_all, cutoff, stripped}
 use Rattle.udt_model.specs.State.{State, LiveTable, Flush, Compaction, floor_at, form_at, numbers_of, tables_of, through_at}
 
 -- the number is in the list
-abbrev pub has : List ℕ → ℕ → Bool
-has ns n = list_any (λ o. o == n) ns
+abbrev pub has_number : List ℕ → ℕ → Bool
+has_number ns n = list_any (λ o. o == n) ns
 
 -- no table has had one of these numbers, and no two of them are equal
 abbrev pub are_new : List ℕ → List ℕ → Bool
 are_new used [] = true
-are_new used (n ∷ ns) = not (has used n) && are_new (n ∷ used) ns
+are_new used (n ∷ ns) = not (has_number used n) && are_new (n ∷ used) ns
 
 -- ---- flushes
 
 -- the versions of a family that are in no table
 abbrev pub unflushed_of : State → Family → List Version
-unflushed_of m family = between family (through_at m family) m.last.0 m.versions
+unflushed_of m family = between family (through_at m family).0 m.last.0 m.versions
 
 -- the versions that a flush takes
 abbrev pub taken : State → Flush → List Version
-taken m job = between job.family (through_at m job.family) job.through.0 m.versions
+taken m job = between job.family (through_at m job.family).0 job.through.0 m.versions
 
 -- versions as a table of the form keeps them
 abbrev pub in_form : Form → List Version → List Version
@@ -54,7 +54,7 @@ flush_floor m job = floor_over (form_at m job.family) (floor_at m job.family) (t
 -- ---- plans of compactions
 
 abbrev pub is_input : List ℕ → LiveTable → Bool
-is_input inputs t = has inputs t.number
+is_input inputs t = has_number inputs t.number
 
 abbrev pub spans_of : List LiveTable → List KeySpan
 spans_of tables = map (λ t. span_of t.versions) tables
@@ -76,10 +76,14 @@ is_amid a b c = (nat_lt a b && nat_lt b c) || (nat_lt c b && nat_lt b a)
 abbrev pub goes_with : ℕ → LiveTable → LiveTable → Bool
 goes_with level input t = t.level == level || is_amid input.level t.level level || (input.level == 0 && t.level == 0)
 
+-- the hull of the keys of tables; where there is none, the span of the empty key
+abbrev pub hull_of : List LiveTable → KeySpan
+hull_of [] = span_of []
+hull_of (t ∷ ts) = hull_with (span_of t.versions) (spans_of ts)
+
 -- the table meets the hull of the inputs and has to be taken in with one of them
 abbrev pub is_wanted : ℕ → List LiveTable → LiveTable → Bool
-is_wanted level [] t = false
-is_wanted level (i ∷ is) t = meets (span_of t.versions) (hull_with (span_of i.versions) (spans_of is)) && list_any (λ input. goes_with level input t) (i ∷ is)
+is_wanted level inputs t = meets (span_of t.versions) (hull_of inputs) && list_any (λ input. goes_with level input t) inputs
 
 -- the live tables of a family that are inputs
 abbrev pub inputs_of : State → Family → List ℕ → List LiveTable
@@ -90,7 +94,7 @@ inputs_of m family inputs = filter (is_input inputs) (tables_of m family)
 pub record IsClosed (m : State) (family : Family) (inputs : List ℕ) (level : ℕ) : Type 0 where
   pub some : IsTrue (nat_lt 0 (length inputs))
   pub ascending : IsTrue (is_ascending inputs)
-  pub live : IsTrue (list_all (has (numbers_of (tables_of m family))) inputs)
+  pub live : IsTrue (list_all (has_number (numbers_of (tables_of m family))) inputs)
   pub level_is : IsTrue (nat_le 1 level && nat_le level 6)
   pub taken_in : IsTrue (list_all (λ t. is_input inputs t || not (is_wanted level (inputs_of m family inputs) t)) (tables_of m family))
 
@@ -121,9 +125,9 @@ are_parts vs [] = length vs == 0
 are_parts vs (p ∷ ps) = nat_lt 0 p.count && nat_le p.count (length vs) && is_cut (take p.count vs) (drop p.count vs) && are_parts (drop p.count vs) ps
 
 -- the tables that pieces make of the versions
-abbrev pub tables_from : Family → ℕ → List Version → List Piece → List LiveTable
-tables_from family level vs [] = []
-tables_from family level vs (p ∷ ps) = record { number = p.table; family = family; level = level; versions = take p.count vs } ∷ tables_from family level (drop p.count vs) ps
+abbrev pub tables_from : ℕ → List Version → List Piece → List LiveTable
+tables_from level vs [] = []
+tables_from level vs (p ∷ ps) = record { number = p.table; level = level; versions = take p.count vs } ∷ tables_from level (drop p.count vs) ps
 
 abbrev pub numbers_of_pieces : List Piece → List ℕ
 numbers_of_pieces ps = map (λ p. p.table) ps

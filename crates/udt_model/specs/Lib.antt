@@ -7,6 +7,7 @@ pub mod State
 pub mod Acts
 pub mod Refusals
 pub mod Jobs
+pub mod Running
 pub mod Steps
 pub mod Names
 pub mod Lines
@@ -14,3 +15,4 @@ pub mod Histories
 pub mod Crashes
 pub mod Standing
 pub mod Entries
+pub mod SortedLaws

@@ -4,7 +4,7 @@ use Rattle.udt_model.specs.declared.event.Event.{Event}
 use Rattle.udt_model.specs.declared.event.Event.TheVariants.{Get, Scan, Floor, Snap, Release, Unpin, ViewGet, ViewScan, ViewFloor, Sync, FlushEnd, CompactEnd}
 use Rattle.udt_model.specs.declared.reply.Reply.{Reply}
 use Rattle.udt_model.specs.declared.reply.Reply.TheVariants.{Files, DroppedFault, DroppedFiles, Fault, NoMemory, Unbound, History}
-use Rattle.udt_model.specs.State.{State}
+use Rattle.udt_model.specs.State.{State, heads_of}
 use Rattle.udt_model.specs.Acts.{Act, takes_commit}
 use Rattle.udt_model.specs.Names.{Names, act_of, seen_by}
 use Rattle.udt_model.specs.Steps.{IsReplyTo, after as after_act, is_running}
@@ -80,7 +80,7 @@ IsReplyOr height m event (Some act) reply = IsReplyTo m act reply ⊎ (IsTrue (i
 
 -- the reply to an event of somebody with these names is legal
 abbrev pub IsReply : ℕ → State → Names → Event → Reply → Type 0
-IsReply height m names event reply = IsReplyOr height (seen_by m names event) event (act_of m.heads names event) reply
+IsReply height m names event reply = IsReplyOr height (seen_by m names event) event (act_of (heads_of m) names event) reply
 
 abbrev pub after_or : State → ℕ → Option Act → Reply → State
 after_or m number None reply = m
@@ -88,4 +88,4 @@ after_or m number (Some act) reply = after_act m number act reply
 
 -- what the event of this number leaves with this reply
 abbrev pub after : State → ℕ → Names → Event → Reply → State
-after m number names event reply = if is_step event reply then after_or m number (act_of m.heads names event) reply else m
+after m number names event reply = if is_step event reply then after_or m number (act_of (heads_of m) names event) reply else m

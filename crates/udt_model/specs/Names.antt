@@ -139,7 +139,7 @@ act_of heads names (CompactEnd family start) = Some (Act.compact_end (family_of 
 -- the state at a pin, with the snapshots of now
 abbrev pub pinned : State → Option View → State
 pinned m None = m
-pinned m (Some v) = record m { heads = with_floors v.floors m.heads; versions = up_to v.last.0 m.versions; last = v.last }
+pinned m (Some v) = record m { families = with_floors v.floors m.families; versions = up_to v.last.0 m.versions; last = v.last }
 
 -- the state in which the event is judged
 abbrev pub seen_by : State → Names → Event → State

@@ -7,7 +7,7 @@ use Rattle.ts_key.specs.declared.version.Version.{Version}
 use Rattle.udt_model.specs.declared.place.Place.{Place}
 use Rattle.udt_model.specs.declared.reply.Reply.{Reply}
 use Rattle.udt_model.specs.declared.reply.Reply.TheVariants.{Below, Fell, Full, Floor, Snapshots, Busy, Unknown, Halted}
-use Rattle.udt_model.specs.Versions.{newest_of, of_key}
+use Rattle.udt_model.specs.Versions.{newest_of, of_key, version_of}
 use Rattle.udt_model.specs.State.{State, place_at}
 use Rattle.udt_model.specs.Acts.{Act}
 use Rattle.udt_model.specs.Acts.Act.{write, raise, ask_floor, make_snapshot, sync_all, flush_start, flush_end, compact_start, compact_end}
@@ -42,15 +42,6 @@ abbrev pub halt : State → Option Reply
 halt m = option_map Halted m.halted
 
 -- ---- writes
-
--- the version that an operation makes
-abbrev pub version_of : WriteOp → ℕ → Version
-version_of o n = record { family = o.family; key = o.key; ts = o.ts; seq = record { 0 = n }; op = o.op }
-
--- the versions that operations make, the first with the sequence above n
-abbrev pub made : ℕ → List WriteOp → List Version
-made n [] = []
-made n (o ∷ os) = version_of o (n + 1) ∷ made (n + 1) os
 
 -- the timestamp ts of the k-th operation is below the one of the newest version of its key
 abbrev pub fell : ℕ → Ts → Option Version → Option Reply

@@ -1,5 +1,5 @@
 -- Which replies are legal to an act in a state, and what it changes with its reply.
-use Rattle.std.specs.Prelude.{◌≡◌, ◌⊎◌, ℕ, ◌+◌, ◌^◌, nat_lt, ◌==◌, ◌++◌, length, not, Bool, true, false, IsTrue, ⊤, if◌then◌else◌, List, [], ◌∷◌, filter, slice_set, Option, Some, None}
+use Rattle.std.specs.Prelude.{◌≡◌, ◌⊎◌, ℕ, ◌+◌, ◌^◌, nat_lt, ◌==◌, ◌++◌, length, not, Bool, true, false, IsTrue, ⊤, if◌then◌else◌, List, [], ◌∷◌, filter, Option, Some, None}
 use Rattle.ts_key.specs.declared.batch.WriteOp.{WriteOp}
 use Rattle.ts_key.specs.declared.numbers.Family.{Family}
 use Rattle.ts_key.specs.declared.numbers.Ts.{Ts}
@@ -14,11 +14,12 @@ use Rattle.udt_model.specs.declared.reply.Reply.{Reply}
 use Rattle.udt_model.specs.declared.reply.Reply.TheVariants.{Done, OkAt, Found, Absent, Collapsed, Rows, Floor, Nothing, Files, Table, Inputs, Kept, DroppedFault, DroppedMemory, DroppedFiles, Unknown, Halted, Fault}
 use Rattle.udt_model.specs.Reads.{read}
 use Rattle.udt_model.specs.Scans.{Range, limited, rows_of}
-use Rattle.udt_model.specs.State.{State, LiveTable, Flush, Compaction, floor_at, numbers_of, place_at, seqs_of, sight, tables_of, with_floor_at, with_table}
+use Rattle.udt_model.specs.State.{State, FamilyState, LiveTable, Flush, Compaction, floor_at, head_with_floor, numbers_of, place_at, seqs_of, sight, tables_of, with_family, with_floor, with_table, with_tables}
 use Rattle.udt_model.specs.Acts.{Act}
 use Rattle.udt_model.specs.Acts.Act.{write, get, scan, raise, ask_floor, make_snapshot, release, pin, unpin, sync_all, flush_start, flush_end, compact_start, compact_end}
 use Rattle.udt_model.specs.Acts.{takes_commit}
-use Rattle.udt_model.specs.Refusals.{refusal, made, ◌otherwise◌}
+use Rattle.udt_model.specs.Versions.{made}
+use Rattle.udt_model.specs.Refusals.{refusal, ◌otherwise◌}
 use Rattle.udt_model.specs.Jobs.{IsClosed, are_new, are_parts, compaction_kept, deeper_of, flush_floor, flush_kept, is_input, level0_of, numbers_of_pieces, runs_compaction, runs_flush, tables_from, unflushed_of}
 
 -- the number of a file that can't be made
@@ -150,28 +151,20 @@ without_job m (compact_end family start) = record m { compaction = None }
 without_job m act = m
 
 -- the table of a flush joins level 0
+abbrev pub flushed : LiveTable → Seq → Ts → FamilyState → FamilyState
+flushed table through floor f = record f { head = head_with_floor floor f.head; through = through; tables = with_table table f.tables }
+
 abbrev pub with_flush : State → Option Flush → ℕ → Ts → State
 with_flush m None table floor = m
-with_flush m (Some job) table floor = record m {
-  heads = with_floor_at job.family.0 floor m.heads;
-  throughs = slice_set m.throughs job.family.0 job.through.0;
-  tables = with_table (record { number = table; family = job.family; level = 0; versions = flush_kept m job }) m.tables;
-  used = m.used ++ table ∷ [];
-  flush = None;
-}
-
-abbrev pub with_tables : List LiveTable → List LiveTable → List LiveTable
-with_tables [] tables = tables
-with_tables (t ∷ ts) tables = with_table t (with_tables ts tables)
+with_flush m (Some job) table floor = record (with_family m job.family (flushed (record { number = table; level = 0; versions = flush_kept m job }) job.through floor)) { used = m.used ++ table ∷ []; flush = None }
 
 -- the inputs of a compaction leave, and its pieces join the output level
+abbrev pub compacted : List ℕ → List LiveTable → FamilyState → FamilyState
+compacted inputs new f = record f { tables = with_tables new (filter (λ t. not (is_input inputs t)) f.tables) }
+
 abbrev pub with_compaction : State → Option Compaction → List Piece → State
 with_compaction m None pieces = m
-with_compaction m (Some job) pieces = record m {
-  tables = with_tables (tables_from job.family job.level (compaction_kept m job) pieces) (filter (λ t. not (is_input job.inputs t)) m.tables);
-  used = m.used ++ numbers_of_pieces pieces;
-  compaction = None;
-}
+with_compaction m (Some job) pieces = record (with_family m job.family (compacted job.inputs (tables_from job.level (compaction_kept m job) pieces))) { used = m.used ++ numbers_of_pieces pieces; compaction = None }
 
 -- what the act of this number leaves with this reply
 abbrev pub after : State → ℕ → Act → Reply → State
@@ -181,11 +174,11 @@ after m number act DroppedFault = without_job m act
 after m number act DroppedMemory = without_job m act
 after m number act (DroppedFiles next) = without_job m act
 after m number (write ops sync) (OkAt last) = record m { versions = m.versions ++ made m.last.0 ops; last = record { 0 = last } }
-after m number (raise family floor) Done = record m { heads = with_floor_at family.0 floor m.heads }
+after m number (raise family floor) Done = with_family m family (with_floor floor)
 after m number make_snapshot (OkAt seq) = record m { snaps = m.snaps ++ record { event = number; seq = m.last } ∷ [] }
 after m number (release event) Done = record m { snaps = filter (λ s. not (s.event == event)) m.snaps }
 after m number (flush_start family) (OkAt through) = record m { flush = Some (record { start = number; family = family; through = m.last; floor = floor_at m family; seqs = seqs_of m }) }
 after m number (flush_end family start) (Table table kept floor) = with_flush m m.flush table floor
-after m number (compact_start family pick) (Inputs inputs level) = record m { compaction = Some (record { start = number; family = family; inputs = inputs; level = level; deeper = deeper_of m family inputs level; floor = floor_at m family; seqs = seqs_of m }) }
+after m number (compact_start family pick) (Inputs inputs level) = record m { compaction = Some (record { start = number; family = family; inputs = inputs; level = level; deeper = deeper_of m family inputs level; last = m.last; floor = floor_at m family; seqs = seqs_of m }) }
 after m number (compact_end family start) (Kept kept pieces) = with_compaction m m.compaction pieces
 after m number act reply = m

@@ -1,6 +1,7 @@
--- Versions of keys, and which one a read sees.
-use Rattle.std.specs.Prelude.{ℕ, Bool, true, false, ◌==◌, nat_lt, nat_le, ◌&&◌, ◌||◌, if◌then◌else◌, List, [], ◌∷◌, filter, Option, Some, None}
+-- Versions of keys, which one a read sees, and which versions writes make.
+use Rattle.std.specs.Prelude.{ℕ, ◌+◌, ◌<◌, ◌≤◌, Bool, true, false, ◌==◌, nat_lt, nat_le, ◌&&◌, ◌||◌, if◌then◌else◌, IsTrue, List, [], ◌∷◌, filter, All, AllPairs, Contains, Option, Some, None}
 use Rattle.std.specs.Str.{bytes_eq}
+use Rattle.ts_key.specs.declared.batch.WriteOp.{WriteOp}
 use Rattle.ts_key.specs.declared.numbers.Family.{Family}
 use Rattle.ts_key.specs.declared.numbers.Ts.{Ts}
 use Rattle.ts_key.specs.declared.numbers.Seq.{Seq}
@@ -49,6 +50,34 @@ up_to s w = filter (λ v. nat_le v.seq.0 s) w
 abbrev pub between : Family → ℕ → ℕ → List Version → List Version
 between family low high w = filter (λ v. v.family.0 == family.0 && nat_lt low v.seq.0 && nat_le v.seq.0 high) w
 
-abbrev pub puts : Op → Bool
-puts (Put value) = true
-puts Del = false
+abbrev pub is_put : Op → Bool
+is_put (Put value) = true
+is_put Del = false
+
+-- ---- versions that writes make
+
+-- the version that an operation makes
+abbrev pub version_of : WriteOp → ℕ → Version
+version_of o n = record { family = o.family; key = o.key; ts = o.ts; seq = record { 0 = n }; op = o.op }
+
+-- the versions that operations make, the first with the sequence n
+abbrev pub logged : ℕ → List WriteOp → List Version
+logged n [] = []
+logged n (o ∷ os) = version_of o n ∷ logged (n + 1) os
+
+-- the same behind the last sequence n
+abbrev pub made : ℕ → List WriteOp → List Version
+made n os = logged (n + 1) os
+
+-- of two versions of a key the one with the greater sequence hasn't the smaller timestamp
+abbrev pub AreRising : List Version → Type 0
+AreRising vs = (a b : Version) → Contains vs a → Contains vs b → IsTrue (is_of a.family a.key b) → a.seq.0 < b.seq.0 → a.ts.0 ≤ b.ts.0
+
+-- What the writes of a store of so many families made, up to this last sequence: the sequences ascend, from 1 on, and the timestamps
+-- of a key never fall.
+pub record AreWritten (count last : ℕ) (w : List Version) : Type 0 where
+  pub ascending : AllPairs (λ (a b : Version). a.seq.0 < b.seq.0) w
+  pub positive : All (λ (v : Version). 1 ≤ v.seq.0) w
+  pub bounded : All (λ (v : Version). v.seq.0 ≤ last) w
+  pub families : All (λ (v : Version). v.family.0 < count) w
+  pub rising : AreRising w

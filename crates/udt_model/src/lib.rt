@@ -10,6 +10,7 @@ mod line;
 mod place;
 mod read;
 mod reply;
+mod sorting;
 mod step;
 
 pub use event::{Event, NamedOp};
@@ -18,7 +19,5 @@ pub use line::{FamilyHead, Line, Mark, Who};
 pub use place::{Place, plain_place};
 pub use read::{Answer, ModelRead, plain_newest, plain_read, plain_visible};
 pub use reply::{KeySpan, Piece, Reply, Row, Stamp};
+pub use sorting::{stored_keys_order_versions, the_first_is_the_newest};
 pub use step::is_step;
-
-#[cfg(test)]
-mod tests;

@@ -3,8 +3,12 @@
 mod bad_folders;
 mod commits;
 mod every_call;
+mod grammar;
 mod inits;
+mod printing;
 mod real;
 mod sessions;
 mod stage;
+mod tries;
 mod words;
+mod wrong_lines;

@@ -1,6 +1,8 @@
 //! The program: a key-value store whose keys carry timestamps. Its commands are those of `client_runner`.
 #![tactic(auto)]
 
+mod reasons;
+
 use client_runner::{Status, refuse_words, store_plain};
 use std::alloc::AllocFailed;
 use std::process::ExitCode;
@@ -56,8 +58,18 @@ fn command_words(rt: &(impl Env + AllocGlobal)) -> Result<Vec<Text>, WordsFault>
 fn main(rt: HostRuntime) -> ExitCode {
     let mut out = HostSink::new(io::writer(&rt));
     let status = match command_words(&rt) {
-        Ok(words) => store_plain(rt.alloc(), &words, &mut RealHost::new(&rt), &mut out),
-        Err(WordsFault::Refused) => refuse_words(&mut out),
+        Ok(words) => {
+            let mut host = RealHost::new(&rt);
+            let status = store_plain(rt.alloc(), &words, &mut host, &mut out);
+            if let Ok(Some(reason)) = reasons::reason(&rt, &words, status, host.last_error()) {
+                let _ = eprintln!(rt; "udtstore: {reason}");
+            }
+            status
+        }
+        Err(WordsFault::Refused) => {
+            let _ = eprintln!(rt; "udtstore: a word is no text, or has more than 4096 bytes");
+            refuse_words(&mut out)
+        }
         Err(WordsFault::NoMemory) => Status::NoMemory,
     };
     ExitCode::from(status.code())

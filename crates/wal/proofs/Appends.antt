@@ -134,11 +134,11 @@ holds_synced sizes bodies bs ws fresh waiting held first some is all sequence =
     holds_push sizes bodies bs ws waiting held (subst (λ (f : Bool). IsBodyOf sizes f ws waiting) first (waiting_body sizes fresh ws waiting some is all)) (in_sequence_cut sizes bs ws sequence).1
 
 -- each image of a log of frames, as one of batches
-pub reads_as : (sizes : List ℕ) (bodies : List (List ℕ)) (bs : List Numbered) → HoldsBatches sizes bodies bs → (c : Image) → frames.ReadsAs bodies c → ReadsAs sizes bs c
+pub reads_as : (sizes : List ℕ) (bodies : List (List ℕ)) (bs : List Numbered) → HoldsBatches sizes bodies bs → (c : Image) → frames.IsLogImage bodies c → ReadsAs sizes bs c
 reads_as sizes bodies bs held None none = none
 reads_as sizes bodies bs held (Some bytes) log = record { bodies = bodies; log = log; held = held }
 
-pub before_or_after : (sizes : List ℕ) (bodies : List (List ℕ)) (bs ws : List Numbered) (waiting : List ℕ) → HoldsBatches sizes bodies bs → HoldsBatches sizes (bodies ++ waiting ∷ []) (bs ++ ws) → (c : Image) → frames.IsBeforeOrAfter bodies waiting c → IsBeforeOrAfter sizes bs ws c
+pub before_or_after : (sizes : List ℕ) (bodies : List (List ℕ)) (bs ws : List Numbered) (waiting : List ℕ) → HoldsBatches sizes bodies bs → HoldsBatches sizes (bodies ++ waiting ∷ []) (bs ++ ws) → (c : Image) → frames.IsWithOrWithout bodies waiting c → IsBeforeOrAfter sizes bs ws c
 before_or_after sizes bodies bs ws waiting held all c image =
     ⊎_elim (λ before. inl (reads_as sizes bodies bs held c before)) (λ after. inr (reads_as sizes (bodies ++ waiting ∷ []) (bs ++ ws) all c after)) image
 

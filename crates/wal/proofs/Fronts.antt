@@ -5,7 +5,7 @@ use Rattle.std.specs.List.{flat_map}
 use Rattle.std.proofs.lemmas.List.{length-append, append_assoc, flat_map_more}
 use Rattle.std.proofs.lemmas.List.Elements.{All-head, All-tail, All-push}
 use Rattle.std.proofs.Math.Seq.{take-append_seam, drop-append_seam}
-use Rattle.wal.specs.Reading.{SpellsNone, IsReadFault, ReadsFront}
+use Rattle.wal.specs.Reading.{SpellsNone, IsBodyFault, ReadsFront}
 use Rattle.wal.specs.declared.fault.BodyFault.{BodyFault}
 use Rattle.wal.specs.declared.fault.BodyFault.TheVariants.{Bad, NoMemory}
 
@@ -22,8 +22,8 @@ module _ {V : Type 0} (spelled : V → List ℕ) (Allowed : V → Type 0) where
   hands_on view old new (Err NoMemory) fault is none = tt
 
   -- a reader that calls the bytes bad
-  pub none_there : (old : List ℕ) (fault : BodyFault) → IsReadFault spelled Allowed old fault → fault ≡ Bad → SpellsNone spelled Allowed old
-  none_there old fault read is = subst (IsReadFault spelled Allowed old) is read
+  pub none_there : (old : List ℕ) (fault : BodyFault) → IsBodyFault spelled Allowed old fault → fault ≡ Bad → SpellsNone spelled Allowed old
+  none_there old fault read is = subst (IsBodyFault spelled Allowed old) is read
 
   -- bytes that are too short for any spelling
   pub short_front : (n : ℕ) (old : List ℕ) → ((v : V) → Allowed v → n ≤ length (spelled v)) → length old < n → SpellsNone spelled Allowed old

@@ -1,5 +1,5 @@
 -- Frames of a log with their places, and the first whose body isn't in the grammar.
-use Rattle.std.proofs.Common.{◌≡◌, inl, inr, ℕ, suc, ◌+◌, ◌<◌, ◌≤◌, List, [], ◌∷◌, ◌++◌, length, take, drop, map, get_or, drop-cons, refl, sym, ap, ◌∙◌, arith, subst, Vec, Err}
+use Rattle.std.proofs.Common.{◌≡◌, inl, inr, ℕ, suc, ◌+◌, ◌<◌, ◌≤◌, List, [], ◌∷◌, ◌++◌, length, take, drop, map, get_or, drop-cons, refl, sym, ap, ◌∙◌, arith, subst, Vec, Err, false}
 use Rattle.std.proofs.lemmas.List.{length-append, append_assoc, map-append, length-map, take-append-drop, take_more}
 use Rattle.std.proofs.Math.Seq.{drop-append_seam}
 use Rattle.gate_log.specs.Placed.{Placed}
@@ -8,8 +8,7 @@ use Rattle.gate_log.specs.Reads.{body_of, placed, IsFront, IsTorn, IsBad}
 use Rattle.gate_log.specs.Outcomes.{IsReading}
 use Rattle.gate_log.proofs.Reading.{only_log}
 use Rattle.wal.specs.Bodies.{HoldsBatches}
-use Rattle.wal.specs.Replays.{LogHolds, IsStrange, IsBadFrame, IsBadAt, ReadsFrames, IsReplayFault, IsReplayCause, log_fault_of}
-use Rattle.gate_log.specs.Faults.{IsFramesCause}
+use Rattle.wal.specs.Replays.{LogHolds, IsStrange, IsBadFrame, IsBadLogAt, ReadsFrames, IsReplayFault, is_replay_disk_fault, log_fault_of}
 use Rattle.wal.specs.declared.fault.FrameFault.{FrameFault}
 use Rattle.wal.specs.declared.fault.FrameFault.TheVariants.{Bad, NoMemory}
 use Rattle.wal.proofs.Fronts.{fronts_same}
@@ -82,18 +81,18 @@ module _ (frames before behind : List Placed) (bad : Placed) (parts : frames ≡
       (record { is = whole_is ∙ ap (λ (bs : List ℕ). framed xs ++ bs) (sym there); end = place_is; fit = fit.0; places = places_are.0 }, there, fit.1.0)
 
 -- the frames before a bad one stand where they do, and it stands behind them
-front_before : (sizes : List ℕ) (frames : List Placed) (end : ℕ) (bytes : List ℕ) (at : ℕ) → IsFront frames end bytes → 0 < length (drop end bytes) → IsBadFrame sizes frames at → IsBadAt sizes bytes at
+front_before : (sizes : List ℕ) (frames : List Placed) (end : ℕ) (bytes : List ℕ) (at : ℕ) → IsFront frames end bytes → 0 < length (drop end bytes) → IsBadFrame sizes frames at → IsBadLogAt sizes bytes at
 front_before sizes frames end bytes at front gate bad =
     let here = stands_at frames bad.before bad.behind bad.bad bad.parts end bytes front in
     let rest = framed (map body_of bad.behind) ++ drop end bytes in
-    let found : IsBadAt sizes bytes bad.bad.at = record {
+    let found : IsBadLogAt sizes bytes bad.bad.at = record {
       before = bad.before;
       front = here.0;
       batches = bad.batches;
       held = bad.held;
       bad = inr (record { body = bad.bad.bytes; rest = rest; is = here.1; fits = here.2; gate = omega (arith, length-append (framed (map body_of bad.behind)) (drop end bytes)); strange = bad.strange });
     } in
-    subst (IsBadAt sizes bytes) (sym bad.place) found
+    subst (IsBadLogAt sizes bytes) (sym bad.place) found
 
 reading_front : (frames : List Placed) (bytes : List ℕ) → IsReading frames bytes → IsFront frames (length (framed (map body_of frames))) bytes × (0 < length (drop (length (framed (map body_of frames))) bytes))
 reading_front frames bytes reading =
@@ -104,7 +103,7 @@ reading_front frames bytes reading =
     (record { is = reading.log.is ∙ ap (λ (bs : List ℕ). framed bodies ++ bs) (sym behind); end = refl; fit = reading.log.fit; places = reading.places }, some)
 
 -- a frame whose body isn't in the grammar, in a log of frames
-pub reading_bad : (sizes : List ℕ) (frames : List Placed) (bytes : List ℕ) (at : ℕ) → IsReading frames bytes → IsBadFrame sizes frames at → IsBadAt sizes bytes at
+pub reading_bad : (sizes : List ℕ) (frames : List Placed) (bytes : List ℕ) (at : ℕ) → IsReading frames bytes → IsBadFrame sizes frames at → IsBadLogAt sizes bytes at
 reading_bad sizes frames bytes at reading bad =
     let front = reading_front frames bytes reading in
     front_before sizes frames (length (framed (map body_of frames))) bytes at front.0 front.1 bad
@@ -118,7 +117,7 @@ bad_holds_none sizes frames bytes at reading bad batches holds =
     bad.strange front.0 front.1
 
 -- a frame that isn't whole
-pub torn_bad : (sizes : List ℕ) (before : List Placed) (bytes : List ℕ) (at : ℕ) (batches : List Numbered) → IsBad before at bytes → HoldsBatches sizes (map body_of before) batches → IsBadAt sizes bytes at
+pub torn_bad : (sizes : List ℕ) (before : List Placed) (bytes : List ℕ) (at : ℕ) (batches : List Numbered) → IsBad before at bytes → HoldsBatches sizes (map body_of before) batches → IsBadLogAt sizes bytes at
 torn_bad sizes before bytes at batches torn held = record {
   before = before;
   front = torn.front;
@@ -128,7 +127,7 @@ torn_bad sizes before bytes at batches torn held = record {
 }
 
 -- a frame whose body isn't in the grammar, before one that isn't whole
-pub torn_strange : (sizes : List ℕ) (before : List Placed) (bytes : List ℕ) (end at : ℕ) → IsBad before end bytes → IsBadFrame sizes before at → IsBadAt sizes bytes at
+pub torn_strange : (sizes : List ℕ) (before : List Placed) (bytes : List ℕ) (end at : ℕ) → IsBad before end bytes → IsBadFrame sizes before at → IsBadLogAt sizes bytes at
 torn_strange sizes before bytes end at torn bad =
     front_before sizes before end bytes at torn.front (some before (drop end bytes) (omega (arith, ap length bad.parts, length-append bad.before (bad.bad ∷ bad.behind))) torn.torn) bad
   where
@@ -181,13 +180,10 @@ fault_handed sizes number at before list fault r is same told bytes refused =
     let torn = subst (λ (f : FramesFault). IsFramesFault f bytes) is refused in
     told bytes (subst (λ (ps : List Placed). IsBad ps at bytes) (sym same) torn.0) torn.1
 
-pub cause_handed : (at : ℕ) (before : Vec Placed Global) (fault : FramesFault) (r : ReplayFault) → fault ≡ BadFrame at before → ((count now : ℕ) → now ≡ count → IsReplayCause count now r) → (count now : ℕ) → IsFramesCause count now fault → IsReplayCause count now r
-cause_handed at before fault r is told count now cause = told count now (subst (λ (f : FramesFault). IsFramesCause count now f) is cause)
-
 -- want of memory, or a bad body, in a log whose file didn't fail
-pub fault_cause : (number before now : ℕ) (fault : FrameFault) → now ≡ before → IsReplayCause before now (log_fault_of number fault)
-fault_cause number before now (Bad at) same = same
-fault_cause number before now NoMemory same = same
+pub not_the_disks : (number : ℕ) (fault : FrameFault) → is_replay_disk_fault (log_fault_of number fault) ≡ false
+not_the_disks number (Bad at) = refl
+not_the_disks number NoMemory = refl
 
 pub reading_refused : (sizes : List ℕ) (number : ℕ) (frames list : List Placed) (bytes : List ℕ) (fault : FrameFault) → frames ≡ list → IsReading list bytes → ReadsFrames sizes frames (Err fault) → IsReplayFault sizes number bytes (log_fault_of number fault)
 reading_refused sizes number frames list bytes (Bad at) same reading bad =

@@ -2,7 +2,7 @@
 use Rattle.std.proofs.Common.{◌≡◌, ◌≢◌, ℕ, ◌^◌, ◌<◌, ◌≤◌, List, ◌++◌, length, refl, sym, ap, ◌∙◌, arith, subst}
 use Rattle.std.proofs.lemmas.List.{length-append, append_assoc}
 use Rattle.wal.specs.Numbers.{number_bytes}
-use Rattle.wal.specs.Records.{kind_of, value_bytes, op_bytes, IsShortValue, IsLoggedOp}
+use Rattle.wal.specs.Records.{kind_code, value_bytes, op_bytes, IsShortValue, IsLoggedOp}
 use Rattle.wal.specs.Heads.{op_head_bytes, IsAllowedOpHead, FitsOpHead}
 use Rattle.wal.specs.Reading.{SpellsNone}
 use Rattle.wal.proofs.Numbers.{number_bytes-unique, length-number_bytes}
@@ -43,13 +43,13 @@ pub key_short : (n : ℕ) (old : List ℕ) → length old < n → SpellsNone (λ
 key_short n old short = short_front (λ (key : List ℕ). key) (λ (key : List ℕ). length key ≡ n) n old (λ key len. omega arith) short
 
 -- a put's value
-pub change_none : (kind : ℕ) (old : List ℕ) → kind ≢ 0 → SpellsNone long_value IsValue old → SpellsNone value_bytes (λ (op : Op). (kind_of op ≡ kind) × IsShortValue op) old
+pub change_none : (kind : ℕ) (old : List ℕ) → kind ≢ 0 → SpellsNone long_value IsValue old → SpellsNone value_bytes (λ (op : Op). (kind_code op ≡ kind) × IsShortValue op) old
 change_none kind old put none (Put value) rest allowed is = none value rest allowed.1 is
 change_none kind old put none Del rest allowed is = put (sym allowed.0)
 
 -- the head of an operation
 abbrev pub head_of : WriteOp → OpHead
-head_of op = record { family = op.family.0; kind = kind_of op.op; ts = op.ts.0; key_len = length op.key }
+head_of op = record { family = op.family.0; kind = kind_code op.op; ts = op.ts.0; key_len = length op.key }
 
 pub op_head_short : (families : ℕ) (old : List ℕ) → length old < 15 → SpellsNone op_head_bytes (IsAllowedOpHead families) old
 op_head_short families old short =
@@ -75,7 +75,7 @@ head_allowed families op logged = record {
   key = logged.key;
 }
   where
-    kind_small : (op : Op) → kind_of op ≤ 1
+    kind_small : (op : Op) → kind_code op ≤ 1
     kind_small (Put value) = omega arith
     kind_small Del = omega arith
 
@@ -98,14 +98,14 @@ op_without_key families head mid old few allowed whole none op rest logged is =
     let same = behind_head families head mid old few allowed whole op rest logged is in
     none op.key (value_bytes op.op ++ rest) (sym (ap (λ (h : OpHead). h.key_len) same.0)) same.1
 
-pub op_without_value : (families : ℕ) (head : OpHead) (key mid behind old : List ℕ) → families ≤ 16 → IsAllowedOpHead families head → old ≡ op_head_bytes head ++ mid → length key ≡ head.key_len → mid ≡ key ++ behind → SpellsNone value_bytes (λ (op : Op). (kind_of op ≡ head.kind) × IsShortValue op) behind → SpellsNone op_bytes (IsLoggedOp families) old
+pub op_without_value : (families : ℕ) (head : OpHead) (key mid behind old : List ℕ) → families ≤ 16 → IsAllowedOpHead families head → old ≡ op_head_bytes head ++ mid → length key ≡ head.key_len → mid ≡ key ++ behind → SpellsNone value_bytes (λ (op : Op). (kind_code op ≡ head.kind) × IsShortValue op) behind → SpellsNone op_bytes (IsLoggedOp families) old
 op_without_value families head key mid behind old few allowed whole len keyed none op rest logged is =
     let same = behind_head families head mid old few allowed whole op rest logged is in
     let parts = fronts_same key op.key behind (value_bytes op.op ++ rest) (len ∙ ap (λ (h : OpHead). h.key_len) same.0) (sym keyed ∙ same.1) in
     none op.op rest (sym (ap (λ (h : OpHead). h.kind) same.0), logged.value) parts.1
 
 -- what an operation does is known by its kind and its bytes
-change_same : (a b : Op) (r s : List ℕ) → IsShortValue a → IsShortValue b → kind_of a ≡ kind_of b → value_bytes a ++ r ≡ value_bytes b ++ s → (a ≡ b) × (r ≡ s)
+change_same : (a b : Op) (r s : List ℕ) → IsShortValue a → IsShortValue b → kind_code a ≡ kind_code b → value_bytes a ++ r ≡ value_bytes b ++ s → (a ≡ b) × (r ≡ s)
 change_same (Put a) (Put b) r s short_a short_b kind is =
     let lens = value_behind (length a) (a ++ r) b s (omega arith) short_b (sym (append_assoc (number_bytes 4 (length a)) a r) ∙ is) in
     let same = fronts_same a b r s lens.0 lens.1 in

@@ -3,10 +3,10 @@ use Rattle.std.proofs.Common.{◌≡◌, ◌==◌, ◌&&◌, ℕ, ◌<◌, ◌�
 use Rattle.std.specs.Prelude.{All, IsTrue}
 use Rattle.std.proofs.lemmas.List.{append-nil, append_assoc}
 use Rattle.std.proofs.lemmas.List.Elements.{All-nil, All-push}
-use Rattle.udt_disk.specs.Crash.{Image, Only, LeavesOnly}
+use Rattle.udt_disk.specs.Crash.{Image, Only}
+use Rattle.udt_disk.specs.Runs.{Leaves}
 use Rattle.udt_disk.specs.declared.file.DiskFile.{Ghosts}
-use Rattle.udt_disk.proofs.Moments.{started}
-use Rattle.udt_disk.proofs.Runs.{run_weaker}
+use Rattle.udt_disk.proofs.Runs.{started, run_weaker}
 use Rattle.gate_log.specs.Frames as frames
 use Rattle.gate_log.specs.GateLog as gate
 use Rattle.gate_log.specs.declared.log.GateLog.{GateLog}
@@ -17,7 +17,7 @@ use Rattle.wal.specs.Sequences.{sequence_after, next_sequence, IsNext, IsInSeque
 use Rattle.wal.specs.Bodies.{front_bytes, HoldsBatches}
 use Rattle.wal.specs.Reserving.{IsReserved}
 use Rattle.wal.specs.Replays.{ReadsAs, IsBeforeOrAfter}
-use Rattle.wal.specs.Wals.{file_of, waiting_bytes, IsWalOf, Holds, IsReady, MayGoOn}
+use Rattle.wal.specs.Wals.{wal_file, waiting_bytes, IsWalOf, Holds, IsWalReady, MayGoOn}
 use Rattle.wal.proofs.Bodies.{holds_same, holds_none}
 use Rattle.wal.proofs.Appends.{waits_more, waits_same, sequence_more, waits_none, not_first_behind, holds_synced, before_or_after, next_push}
 use Rattle.wal.specs.declared.numbered.Numbered.{Numbered}
@@ -30,11 +30,11 @@ module _ {F : Type 0} (g : Ghosts F) where
   -- a log shows one list of batches, and one of those that wait
   pub wal_same : (wal : Wal F g) (bs ws cs vs : List Numbered) → length wal.sizes ≤ 16 → IsWalOf g wal bs ws → IsWalOf g wal cs vs → (bs ≡ cs) × (ws ≡ vs)
   wal_same wal bs ws cs vs few a b =
-      let bodies = only_log a.bodies b.bodies (g.seen (file_of wal)) a.logged.file b.logged.file in
+      let bodies = only_log a.bodies b.bodies (g.seen (wal_file wal)) a.logged.file b.logged.file in
       (holds_same wal.sizes b.bodies bs cs few (subst (λ (xs : List (List ℕ)). HoldsBatches wal.sizes xs bs) bodies a.held) b.held, waits_same wal.sizes wal.is_fresh ws vs few a.allowed b.allowed (sym a.waits ∙ b.waits))
 
   -- the frames of a log that shows batches
-  pub gate_ready : (wal : Wal F g) → IsReady g wal → gate.IsReady g wal.log
+  pub gate_ready : (wal : Wal F g) → IsWalReady g wal → gate.IsLogReady g wal.log
   gate_ready wal ready = λ told. let shown = (ready told).2 in (shown.bodies, shown.logged)
 
   -- one batch more waits
@@ -103,22 +103,22 @@ module _ {F : Type 0} (g : Ghosts F) where
   }
 
   -- each image reads as the batches
-  pub images_read : (wal : Wal F g) (bs ws : List Numbered) → Holds g wal bs ws → (c : Image) → g.may_leave (file_of wal) c → ReadsAs wal.sizes bs c
+  pub images_read : (wal : Wal F g) (bs ws : List Numbered) → Holds g wal bs ws → (c : Image) → g.may_leave (wal_file wal) c → ReadsAs wal.sizes bs c
   images_read wal bs ws holds c left =
       subst (ReadsAs wal.sizes bs) (sym (holds.durable c left)) (record { bodies = holds.shown.bodies; log = holds.shown.logged.file; held = holds.shown.held })
 
   -- no call is made
-  pub rests_as : ((x : F) (c : Image) → g.left_since x (g.moment x) c → g.may_leave x c) → (wal : Wal F g) (bs ws : List Numbered) → Holds g wal bs ws → LeavesOnly g.moment g.may_leave g.left_since (file_of wal) (file_of wal) (IsBeforeOrAfter wal.sizes bs ws)
+  pub rests_as : ((x : F) (c : Image) → g.left_since x (g.moment x) c → g.may_leave x c) → (wal : Wal F g) (bs ws : List Numbered) → Holds g wal bs ws → Leaves g (wal_file wal) (wal_file wal) (IsBeforeOrAfter wal.sizes bs ws)
   rests_as only_now wal bs ws holds =
-      started g (file_of wal) (IsBeforeOrAfter wal.sizes bs ws) (λ c left. inl (images_read wal bs ws holds c left)) (λ c left. only_now (file_of wal) c left)
+      started g (wal_file wal) (IsBeforeOrAfter wal.sizes bs ws) (λ c left. inl (images_read wal bs ws holds c left)) (λ c left. only_now (wal_file wal) c left)
 
   -- while the frame is added
   pub adds_as : (wal : Wal F g) (new : F) (frame : List ℕ) (bs ws : List Numbered) → frame ≡ wal.waiting.items → Holds g wal bs ws → 0 < length wal.waiting.items
-      → ((bodies : List (List ℕ)) → gate.IsAtRest g wal.log bodies → LeavesOnly g.moment g.may_leave g.left_since (file_of wal) new (frames.IsBeforeOrAfter bodies frame)) → LeavesOnly g.moment g.may_leave g.left_since (file_of wal) new (IsBeforeOrAfter wal.sizes bs ws)
+      → ((bodies : List (List ℕ)) → gate.IsAtRest g wal.log bodies → Leaves g (wal_file wal) new (frames.IsWithOrWithout bodies frame)) → Leaves g (wal_file wal) new (IsBeforeOrAfter wal.sizes bs ws)
   adds_as wal new frame bs ws same holds some moments =
       let shown = holds.shown in
       let all = holds_synced wal.sizes shown.bodies bs ws wal.is_fresh wal.waiting.items shown.held shown.fresh some shown.waits shown.allowed shown.sequence in
-      run_weaker g (file_of wal) new (frames.IsBeforeOrAfter shown.bodies wal.waiting.items) (IsBeforeOrAfter wal.sizes bs ws) (before_or_after wal.sizes shown.bodies bs ws wal.waiting.items shown.held all) (subst (λ (b : List ℕ). LeavesOnly g.moment g.may_leave g.left_since (file_of wal) new (frames.IsBeforeOrAfter shown.bodies b)) same (moments shown.bodies (record { logged = shown.logged; durable = holds.durable })))
+      run_weaker g (wal_file wal) new (frames.IsWithOrWithout shown.bodies wal.waiting.items) (IsBeforeOrAfter wal.sizes bs ws) (before_or_after wal.sizes shown.bodies bs ws wal.waiting.items shown.held all) (subst (λ (b : List ℕ). Leaves g (wal_file wal) new (frames.IsWithOrWithout shown.bodies b)) same (moments shown.bodies (record { logged = shown.logged; durable = holds.durable })))
 
   -- a log without frames, in which nothing waits
   pub holds_nothing : (wal : Wal F g) → gate.IsAtRest g wal.log [] → wal.is_fresh ≡ true → wal.waiting.items ≡ [] → Holds g wal [] []
@@ -139,7 +139,7 @@ module _ {F : Type 0} (g : Ghosts F) where
   pub goes_on_appended : (old new : Wal F g) (n : Numbered) (listed : List ℕ) → listed ≡ old.sizes → IsReserved g old.log new.log → new.sizes ≡ old.sizes → new.is_fresh ≡ old.is_fresh → length old.sizes ≤ 16
       → new.waiting.items ≡ old.waiting.items ++ (front_bytes listed (old.is_fresh && (length old.waiting.items == 0)) ++ batch_bytes n) → IsLoggedBatch (length old.sizes) n → MayGoOn g old n.first.0 → MayGoOn g new (sequence_after n)
   goes_on_appended old new n listed same_sizes reserved sizes fresh few more allowed next told =
-      let told_old : IsTrue (g.is_told (file_of old)) = subst (λ (x : F). IsTrue (g.is_told x)) reserved.file told in
+      let told_old : IsTrue (g.is_told (wal_file old)) = subst (λ (x : F). IsTrue (g.is_told x)) reserved.file told in
       let goes = next told_old in
       let shown = appended old new n listed same_sizes reserved sizes fresh few more allowed next goes.0 goes.1 goes.2 in
       let after : next_sequence (goes.0 ++ (goes.1 ++ n ∷ [])) ≡ Some (sequence_after n) = ap next_sequence (sym (append_assoc goes.0 goes.1 (n ∷ []))) ∙ next_push (goes.0 ++ goes.1) n in
@@ -147,11 +147,11 @@ module _ {F : Type 0} (g : Ghosts F) where
 
   pub goes_on_kept : (old new : Wal F g) (first : ℕ) → IsReserved g old.log new.log → new.sizes ≡ old.sizes → new.is_fresh ≡ old.is_fresh → new.waiting.items ≡ old.waiting.items → MayGoOn g old first → MayGoOn g new first
   goes_on_kept old new first reserved sizes fresh waiting next told =
-      let told_old : IsTrue (g.is_told (file_of old)) = subst (λ (x : F). IsTrue (g.is_told x)) reserved.file told in
+      let told_old : IsTrue (g.is_told (wal_file old)) = subst (λ (x : F). IsTrue (g.is_told x)) reserved.file told in
       let goes = next told_old in
       (goes.0, goes.1, kept_back old new reserved sizes fresh waiting goes.0 goes.1 goes.2, goes.3)
 
-  pub goes_on_synced : (old new : Wal F g) (frame : List ℕ) (first : ℕ) → g.is_told (file_of new) ≡ g.is_told (file_of old) → frame ≡ old.waiting.items → new.sizes ≡ old.sizes → new.is_fresh ≡ false → new.waiting.items ≡ [] → 0 < length old.waiting.items
+  pub goes_on_synced : (old new : Wal F g) (frame : List ℕ) (first : ℕ) → g.is_told (wal_file new) ≡ g.is_told (wal_file old) → frame ≡ old.waiting.items → new.sizes ≡ old.sizes → new.is_fresh ≡ false → new.waiting.items ≡ [] → 0 < length old.waiting.items
       → ((bodies : List (List ℕ)) → gate.IsLogOf g old.log bodies → gate.IsAtRest g new.log (bodies ++ frame ∷ [])) → MayGoOn g old first → MayGoOn g new first
   goes_on_synced old new frame first same_told same sizes fresh none some logged next told =
       let goes = next (subst IsTrue same_told told) in
@@ -160,7 +160,7 @@ module _ {F : Type 0} (g : Ghosts F) where
   pub shows_nothing : (wal : Wal F g) → gate.IsAtRest g wal.log [] → wal.is_fresh ≡ true → wal.waiting.items ≡ [] → IsWalOf g wal [] []
   shows_nothing wal rest fresh none = (holds_nothing wal rest fresh none).shown
 
-  pub ready_from : (wal : Wal F g) (first : ℕ) → MayGoOn g wal first → IsReady g wal
+  pub ready_from : (wal : Wal F g) (first : ℕ) → MayGoOn g wal first → IsWalReady g wal
   ready_from wal first next told =
       let goes = next told in
       (goes.0, goes.1, goes.2)
@@ -171,10 +171,10 @@ module _ {F : Type 0} (g : Ghosts F) where
       (goes.0, goes.1, goes.2, subst (IsNext (next_sequence (goes.0 ++ goes.1))) same goes.3)
 
   -- with the same log inside, the same log
-  pub same_wal : (old : Wal F g) (log : GateLog F g) → log ≡ old.log → (fits : length old.waiting.items ≤ 8388608) (reserved : length old.waiting.items ≤ gate.room_of log) → (let new : Wal F g = record { log = log; sizes = old.sizes; waiting = old.waiting; is_fresh = old.is_fresh; fits = fits; reserved = reserved } in new) ≡ old
+  pub same_wal : (old : Wal F g) (log : GateLog F g) → log ≡ old.log → (fits : length old.waiting.items ≤ 8388608) (reserved : length old.waiting.items ≤ gate.log_room log) → (let new : Wal F g = record { log = log; sizes = old.sizes; waiting = old.waiting; is_fresh = old.is_fresh; fits = fits; reserved = reserved } in new) ≡ old
   same_wal old log same fits reserved =
-      subst (λ (l : GateLog F g). (r : length old.waiting.items ≤ gate.room_of l) → (let new : Wal F g = record { log = l; sizes = old.sizes; waiting = old.waiting; is_fresh = old.is_fresh; fits = fits; reserved = r } in new) ≡ old) (sym same)
-      (λ r. ap (λ (p : length old.waiting.items ≤ 8388608). let new : Wal F g = record { log = old.log; sizes = old.sizes; waiting = old.waiting; is_fresh = old.is_fresh; fits = p; reserved = r } in new) (le_prop fits old.fits) ∙ ap (λ (q : length old.waiting.items ≤ gate.room_of old.log). let new : Wal F g = record { log = old.log; sizes = old.sizes; waiting = old.waiting; is_fresh = old.is_fresh; fits = old.fits; reserved = q } in new) (le_prop r old.reserved)) reserved
+      subst (λ (l : GateLog F g). (r : length old.waiting.items ≤ gate.log_room l) → (let new : Wal F g = record { log = l; sizes = old.sizes; waiting = old.waiting; is_fresh = old.is_fresh; fits = fits; reserved = r } in new) ≡ old) (sym same)
+      (λ r. ap (λ (p : length old.waiting.items ≤ 8388608). let new : Wal F g = record { log = old.log; sizes = old.sizes; waiting = old.waiting; is_fresh = old.is_fresh; fits = p; reserved = r } in new) (le_prop fits old.fits) ∙ ap (λ (q : length old.waiting.items ≤ gate.log_room old.log). let new : Wal F g = record { log = old.log; sizes = old.sizes; waiting = old.waiting; is_fresh = old.is_fresh; fits = old.fits; reserved = q } in new) (le_prop r old.reserved)) reserved
 
 -- whether bytes wait
 pub some_wait : (waiting : Vec ℕ Global) (r : Bool) → r ≡ (vec_len waiting == 0) → r ≡ false → 0 < length waiting.items

@@ -9,9 +9,9 @@ use Rattle.ts_key.specs.declared.version.Op.TheVariants.{Put, Del}
 use Rattle.wal.specs.declared.numbered.Numbered.{Numbered}
 
 -- the byte of an operation's kind
-abbrev pub kind_of : Op → ℕ
-kind_of (Put value) = 1
-kind_of Del = 0
+abbrev pub kind_code : Op → ℕ
+kind_code (Put value) = 1
+kind_code Del = 0
 
 -- the value's length and bytes, where there is a value
 abbrev pub value_bytes : Op → List ℕ
@@ -23,7 +23,7 @@ abbrev pub op_head : ℕ → ℕ → ℕ → ℕ → List ℕ
 op_head family kind ts key_len = number_bytes 4 family ++ kind ∷ (number_bytes 8 ts ++ number_bytes 2 key_len)
 
 abbrev pub op_bytes : WriteOp → List ℕ
-op_bytes op = op_head op.family.0 (kind_of op.op) op.ts.0 (length op.key) ++ (op.key ++ value_bytes op.op)
+op_bytes op = op_head op.family.0 (kind_code op.op) op.ts.0 (length op.key) ++ (op.key ++ value_bytes op.op)
 
 -- what stands before the operations: the tag 2, the first sequence, the number of operations
 abbrev pub batch_head : ℕ → ℕ → List ℕ

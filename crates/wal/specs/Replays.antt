@@ -1,7 +1,6 @@
 -- Which batches a log file holds, and where it is outside of its grammar.
-use Rattle.std.specs.Prelude.{◌≡◌, ◌⊎◌, ℕ, ◌<◌, List, [], ◌∷◌, ◌++◌, length, drop, map, Some, None, Vec, Result, Ok, Err, ⊤}
+use Rattle.std.specs.Prelude.{◌≡◌, ◌⊎◌, ℕ, ◌<◌, Bool, true, false, List, [], ◌∷◌, ◌++◌, length, drop, map, Some, None, Vec, Result, Ok, Err, ⊤}
 use Rattle.std.specs.declared.alloc.Global.{Global}
-use Rattle.udt_disk.specs.Causes.{Rose}
 use Rattle.udt_disk.specs.Crash.{Image}
 use Rattle.gate_log.specs.Placed.{Placed}
 use Rattle.gate_log.specs.Frames.{frame, IsBody, IsLog}
@@ -54,7 +53,7 @@ pub record IsStrangeFrame (sizes : List ℕ) (bodies : List (List ℕ)) (bytes :
 
 -- The frames before this offset are a log of batches; the frame that stands there isn't whole or its body isn't in the
 -- grammar, or the file is empty.
-pub record IsBadAt (sizes : List ℕ) (bytes : List ℕ) (at : ℕ) : Type 0 where
+pub record IsBadLogAt (sizes : List ℕ) (bytes : List ℕ) (at : ℕ) : Type 0 where
   pub before : List Placed
   pub front : IsFront before at bytes
   pub batches : List Numbered
@@ -69,15 +68,15 @@ ReadsFrames sizes list (Err frames.NoMemory) = ⊤
 
 -- a log with this number may be refused so
 abbrev pub IsReplayFault : List ℕ → ℕ → List ℕ → ReplayFault → Type 0
-IsReplayFault sizes number bytes (BadLog n at) = (n ≡ number) × IsBadAt sizes bytes at × ((batches : List Numbered) → LogHolds sizes batches bytes → ⊥)
+IsReplayFault sizes number bytes (BadLog n at) = (n ≡ number) × IsBadLogAt sizes bytes at × ((batches : List Numbered) → LogHolds sizes batches bytes → ⊥)
 IsReplayFault sizes number bytes DiskFault = ⊤
 IsReplayFault sizes number bytes NoMemory = ⊤
 
--- a disk fault comes only where the count of the file rose; else it stays
-abbrev pub IsReplayCause : ℕ → ℕ → ReplayFault → Type 0
-IsReplayCause before now (BadLog n at) = now ≡ before
-IsReplayCause before now DiskFault = Rose before now
-IsReplayCause before now NoMemory = now ≡ before
+-- the fault is the disk's
+abbrev pub is_replay_disk_fault : ReplayFault → Bool
+is_replay_disk_fault (BadLog n at) = false
+is_replay_disk_fault DiskFault = true
+is_replay_disk_fault NoMemory = false
 
 -- what is told of a log, by what is wrong with the bodies of its frames
 abbrev pub log_fault_of : ℕ → FrameFault → ReplayFault

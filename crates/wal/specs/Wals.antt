@@ -11,24 +11,24 @@ use Rattle.wal.specs.declared.wal.Wal.{Wal}
 
 module _ {F : Type 0} {g : Ghosts F} where
   -- the file that the log holds
-  abbrev pub file_of : Wal F g → F
-  file_of wal = gate.file_of wal.log
+  abbrev pub wal_file : Wal F g → F
+  wal_file wal = gate.log_file wal.log
 
   -- the size of the timestamps of each family
-  abbrev pub sizes_of : Wal F g → List ℕ
-  sizes_of wal = wal.sizes
+  abbrev pub wal_sizes : Wal F g → List ℕ
+  wal_sizes wal = wal.sizes
 
   -- how many bytes aren't on the disk
-  abbrev pub pending_of : Wal F g → ℕ
-  pending_of wal = length wal.waiting.items
+  abbrev pub wal_pending : Wal F g → ℕ
+  wal_pending wal = length wal.waiting.items
 
   -- the body of the frame that the next sync writes
-  abbrev pub waiting_of : Wal F g → List ℕ
-  waiting_of wal = wal.waiting.items
+  abbrev pub wal_waiting : Wal F g → List ℕ
+  wal_waiting wal = wal.waiting.items
 
   -- the offset behind the log's last frame
-  abbrev pub end_of : Wal F g → ℕ
-  end_of wal = gate.end_of wal.log
+  abbrev pub wal_end : Wal F g → ℕ
+  wal_end wal = gate.log_end wal.log
 
 -- the body of the frame that the next sync writes: nothing where no batch waits
 abbrev pub waiting_bytes : List ℕ → Bool → List Numbered → List ℕ
@@ -48,12 +48,12 @@ pub record IsWalOf {F : Type 0} (g : Ghosts F) (wal : Wal F g) (batches waiting 
 -- the same, and a crash leaves nothing else
 pub record Holds {F : Type 0} (g : Ghosts F) (wal : Wal F g) (batches waiting : List Numbered) : Type 0 where
   pub shown : IsWalOf g wal batches waiting
-  pub durable : Only (g.seen (file_of wal)) (g.may_leave (file_of wal))
+  pub durable : Only (g.seen (wal_file wal)) (g.may_leave (wal_file wal))
 
 -- where the file tells what it holds, it is a log of some batches, and some wait
-abbrev pub IsReady : {F : Type 0} (g : Ghosts F) → Wal F g → Type 0
-IsReady g wal = IsTrue (g.is_told (file_of wal)) → (batches : List Numbered) × (waiting : List Numbered) × IsWalOf g wal batches waiting
+abbrev pub IsWalReady : {F : Type 0} (g : Ghosts F) → Wal F g → Type 0
+IsWalReady g wal = IsTrue (g.is_told (wal_file wal)) → (batches : List Numbered) × (waiting : List Numbered) × IsWalOf g wal batches waiting
 
 -- the same, and a batch that begins with this sequence may go on there
 abbrev pub MayGoOn : {F : Type 0} (g : Ghosts F) → Wal F g → ℕ → Type 0
-MayGoOn g wal first = IsTrue (g.is_told (file_of wal)) → (batches : List Numbered) × (waiting : List Numbered) × IsWalOf g wal batches waiting × IsNext (next_sequence (batches ++ waiting)) first
+MayGoOn g wal first = IsTrue (g.is_told (wal_file wal)) → (batches : List Numbered) × (waiting : List Numbered) × IsWalOf g wal batches waiting × IsNext (next_sequence (batches ++ waiting)) first

@@ -1,10 +1,12 @@
+//! Reads the bodies of frames: the records of a log file, from the front of the bytes on.
+
 ghost use Rattle.std.specs.Prelude.{◌≡◌, ℕ, ◌≤◌, List, ◌++◌, length, All, ⊤};
 ghost use Rattle.std.specs.List.{flat_map};
 ghost use Rattle.wal.specs.Numbers.{number_bytes};
 ghost use Rattle.wal.specs.Reading.{ReadsFront, StandsBehind};
 ghost use Rattle.wal.specs.Bodies.{front_bytes, AreBatches, ReadsBody};
 ghost use Rattle.wal.specs.Heads.{op_head_bytes, batch_head_bytes, IsAllowedOpHead, IsAllowedBatchHead};
-ghost use Rattle.wal.specs.Records.{kind_of, value_bytes, op_bytes, batch_bytes, IsShortValue, IsLoggedOp, IsLoggedBatch};
+ghost use Rattle.wal.specs.Records.{kind_code, value_bytes, op_bytes, batch_bytes, IsShortValue, IsLoggedOp, IsLoggedBatch};
 
 use crate::cursor::Cursor;
 use crate::fault::BodyFault;
@@ -57,7 +59,7 @@ impl<'a> Cursor<'a> {
     /// What an operation of this kind does.
     fn change(&mut self, alloc: Global, kind: u8) -> Result<Op, BodyFault>
         requires { kind ≤ 1 }
-        ensures { ReadsFront (λ op. op) value_bytes (λ op. (kind_of op ≡ kind) × IsShortValue op) self.old.left.now self.new.left.now result }
+        ensures { ReadsFront (λ op. op) value_bytes (λ op. (kind_code op ≡ kind) × IsShortValue op) self.old.left.now self.new.left.now result }
     {
         if kind == 0 {
             return Ok(Op::Del);

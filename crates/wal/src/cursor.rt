@@ -1,3 +1,5 @@
+//! Bytes that are read from the front.
+
 ghost use Rattle.std.specs.Prelude.{◌≡◌, ◌<◌, ◌++◌, length, MatchResult};
 ghost use Rattle.wal.specs.declared.fault.BodyFault.TheVariants.{Bad};
 

@@ -1,3 +1,5 @@
+//! Why a log, or a part of it, is not read.
+
 use std::alloc::AllocError;
 use thiserror::Error;
 

@@ -1,3 +1,5 @@
+//! What stands before the parts of the records of a log file.
+
 ghost use Rattle.std.specs.Prelude.{◌≡◌, length, MatchOption};
 ghost use Rattle.std.specs.Bool.{OnTrue, OnFalse};
 ghost use Rattle.wal.specs.Numbers.{number_bytes};

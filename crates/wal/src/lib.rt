@@ -12,8 +12,6 @@ mod numbered;
 mod record;
 mod sequence;
 mod sizes;
-#[cfg(test)]
-mod tests;
 mod wal;
 
 pub use fault::ReplayFault;

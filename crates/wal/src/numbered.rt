@@ -1,3 +1,5 @@
+//! A batch with its sequence.
+
 use ts_key::{Batch, Seq};
 
 /// A batch with the sequence of its first operation. The operations behind it have the sequences that follow.

@@ -14,7 +14,7 @@
 ghost use Rattle.std.specs.Prelude.{◌≡◌, ◌≤◌, ◌++◌, List, length, All, OnOk};
 ghost use Rattle.std.specs.List.{flat_map};
 ghost use Rattle.wal.specs.Numbers.{number_bytes};
-ghost use Rattle.wal.specs.Records.{kind_of, value_bytes, op_head, op_bytes, batch_bytes, sizes_bytes, families_bytes, IsShortValue};
+ghost use Rattle.wal.specs.Records.{kind_code, value_bytes, op_head, op_bytes, batch_bytes, sizes_bytes, families_bytes, IsShortValue};
 ghost use Rattle.ts_key.specs.Batches.{IsBatch};
 ghost use Rattle.wal.specs.Writing.{Extends, IsShortOp};
 
@@ -61,7 +61,7 @@ fn put_u64(out: &mut Vec<u8>, n: u64) -> Result<(), NoMemory>
 }
 
 fn kind_byte(op: &Op) -> u8
-    ensures { result ≡ kind_of op.now }
+    ensures { result ≡ kind_code op.now }
 {
     match op {
         Op::Put(_) => 1,
@@ -89,7 +89,7 @@ fn put_value(out: &mut Vec<u8>, op: &Op) -> Result<(), NoMemory>
 /// Adds what stands before the key of an operation.
 #[tactic(auto, using(crate::proofs::Writing::extends_on, std::proofs::lemmas::List::append_assoc))]
 fn put_op_head(out: &mut Vec<u8>, op: &WriteOp, key_len: u16) -> Result<(), NoMemory>
-    ensures written { OnOk result (out.new.items ≡ out.old.items ++ op_head op.now.family.0 (kind_of op.now.op) op.now.ts.0 key_len) }
+    ensures written { OnOk result (out.new.items ≡ out.old.items ++ op_head op.now.family.0 (kind_code op.now.op) op.now.ts.0 key_len) }
     ensures extends { Extends out.old.items out.new.items }
 {
     put_u32(out, op.family.0)?;

@@ -1,3 +1,5 @@
+//! The sizes of the timestamps of the families of a folder.
+
 ghost use Rattle.std.specs.Prelude.{◌≡◌, IfOk};
 ghost use Rattle.wal.specs.Sizing.{AreSizes};
 

@@ -1,14 +1,17 @@
-ghost use Rattle.std.specs.Prelude.{◌≡◌, ◌⊎◌, ◌==◌, ◌&&◌, ℕ, ◌+◌, ◌^◌, ◌<◌, ◌≤◌, [], ◌∷◌, ◌++◌, List, Some, length, All, IfOk, IfErr, IsOk, OnOk, OnErr, IsTrue};
-ghost use Rattle.udt_disk.specs.Causes.{HasCause, Rose, plus_faults};
+//! The write-ahead log and its calls.
+
+ghost use Rattle.std.specs.Prelude.{◌≡◌, ◌⊎◌, ◌==◌, ◌&&◌, ℕ, ◌+◌, ◌^◌, ◌<◌, ◌≤◌, [], ◌∷◌, ◌++◌, List, Some, length, All, IfOk, IfErr, IsOk, OnOk, OnErr, IsTrue, false};
+ghost use Rattle.udt_disk.specs.Causes.{HasCause, IsCause, Rose, plus_faults};
 ghost use Rattle.udt_disk.specs.Touches.{Touches};
 ghost use Rattle.udt_disk.specs.Joint.{Ran, IsFree};
+ghost use Rattle.udt_disk.specs.Moments.{holding};
+ghost use Rattle.udt_disk.specs.Runs.{Leaves, IsOnlyRead, IsSameFile, file_after};
 ghost use Rattle.udt_disk.specs.declared.name.FileName.{FileName as NameOf};
 ghost use Rattle.udt_disk.specs.declared.name.FileName.TheVariants.{Log};
 ghost use Rattle.udt_disk.specs.Crash.{Only, NoMore};
-ghost use Rattle.gate_log.specs.GateLog.{room_of};
-ghost use Rattle.gate_log.specs.Tearing.{Leaves};
-ghost use Rattle.gate_log.specs.Outcomes.{IsFramesFault, IsOnlyRead, IsSameFile, file_after};
-ghost use Rattle.gate_log.specs.Faults.{IsFramesCause};
+ghost use Rattle.gate_log.specs.GateLog.{log_room};
+ghost use Rattle.gate_log.specs.Outcomes.{IsFramesFault};
+ghost use Rattle.gate_log.specs.Faults.{is_log_disk_fault, is_frames_disk_fault};
 ghost use Rattle.gate_log.specs.Frames.{IsLog, with_frame};
 ghost use Rattle.gate_log.specs.Reads.{IsBad};
 ghost use Rattle.wal.specs.declared.numbered.Numbered.{Numbered as NumberedBatch};
@@ -18,9 +21,9 @@ ghost use Rattle.wal.specs.Records.{batch_bytes};
 ghost use Rattle.wal.specs.Bodies.{front_bytes};
 ghost use Rattle.wal.specs.Writing.{Extends, IsShortOp};
 ghost use Rattle.wal.specs.Sequences.{IsNumberedWithin};
-ghost use Rattle.wal.specs.Making.{IsWhileMade, IsMakingCause, joint, held_after};
+ghost use Rattle.wal.specs.Making.{IsWhileMade, held_with};
 ghost use Rattle.wal.specs.Reserving.{IsReserved};
-ghost use Rattle.wal.specs.Replays.{LogHolds, IsBeforeOrAfter, IsReplayFault, IsReplayCause, log_fault_of};
+ghost use Rattle.wal.specs.Replays.{LogHolds, IsBeforeOrAfter, IsReplayFault, is_replay_disk_fault, log_fault_of};
 
 use crate::NoMemory;
 use crate::fault::{FrameFault, ReplayFault};
@@ -46,7 +49,7 @@ pub struct Wal<F: DiskFile> {
     /// The log has no frame.
     is_fresh: bool,
     ghost fits: { length waiting.items ≤ 8388608 },
-    ghost reserved: { length waiting.items ≤ room_of log },
+    ghost reserved: { length waiting.items ≤ log_room log },
 }
 
 /// Adds the size record, where the body is that of the first frame.
@@ -76,7 +79,7 @@ fn lay_out<F: DiskFile>(
     ensures written { OnOk result (waiting.new.items ≡ waiting.old.items ++ (front_bytes sizes.now (is_fresh && (length waiting.old.items == 0)) ++ batch_bytes (record { first = first; batch = batch.now }))) }
     ensures valid { OnOk result (IsBatch batch.now) }
     ensures short { OnOk result (All IsShortOp batch.now) }
-    ensures room { OnOk result (length waiting.new.items ≤ room_of log.new) }
+    ensures room { OnOk result (length waiting.new.items ≤ log_room log.new) }
     ensures extends { Extends waiting.old.items waiting.new.items }
     ensures kept { IsReserved F.DiskFile log.old log.new }
 {
@@ -100,7 +103,7 @@ fn log_fault(number: u64, fault: FrameFault) -> ReplayFault
 /// stands first.
 fn torn_fault(alloc: Global, before: &[Frame], at: u64, number: u64, sizes: &Sizes) -> ReplayFault
     ensures refused { (bytes : List ℕ) → IsBad before.now at bytes → ((bodies : List (List ℕ)) → IsLog bodies bytes → ⊥) → IsReplayFault sizes.now number bytes result }
-    ensures cause { (count now : ℕ) → now ≡ count → IsReplayCause count now result }
+    ensures cause { is_replay_disk_fault result ≡ false }
 {
     let Err(earlier) = batches_of(alloc, before, sizes) else {
         return ReplayFault::BadLog { number, at };
@@ -111,7 +114,7 @@ fn torn_fault(alloc: Global, before: &[Frame], at: u64, number: u64, sizes: &Siz
 /// What is told of log `number`, by what is wrong with its frames.
 fn replay_fault(alloc: Global, fault: FramesFault, number: u64, sizes: &Sizes) -> ReplayFault
     ensures refused { (bytes : List ℕ) → IsFramesFault fault bytes → IsReplayFault sizes.now number bytes result }
-    ensures cause { (before now : ℕ) → IsFramesCause before now fault → IsReplayCause before now result }
+    ensures cause { is_replay_disk_fault result ≡ is_frames_disk_fault fault }
 {
     match fault {
         FramesFault::BadFrame { at, before } => torn_fault(alloc, &before, at, number, sizes),
@@ -121,7 +124,7 @@ fn replay_fault(alloc: Global, fault: FramesFault, number: u64, sizes: &Sizes) -
 }
 
 impl<F: DiskFile> Wal<F> {
-    ghost use Rattle.wal.specs.Wals.{file_of, sizes_of, pending_of, waiting_of, end_of, IsWalOf, Holds, IsReady, MayGoOn};
+    ghost use Rattle.wal.specs.Wals.{wal_file, wal_sizes, wal_pending, wal_waiting, wal_end, IsWalOf, Holds, IsWalReady, MayGoOn};
 
     /// Makes the file of log `number`, and in it a log without frames, on the disk. A crash at any moment leaves under its
     /// name what it might have left there before; or none, or a file of one byte at most; or, where a file was there, any bytes. Where that fails, the file is given back.
@@ -134,19 +137,20 @@ impl<F: DiskFile> Wal<F> {
     ) -> Result<Wal<F>, LogFault>
         ensures holds { IfOk result (λ wal. IsTrue (D.is_told disk.old) → Holds F.DiskFile wal [] []) }
         ensures goes_on { IfOk result (λ wal. (first : ℕ) → MayGoOn F.DiskFile wal first) }
-        ensures durable { IfOk result (λ wal. Only (F.seen (file_of wal)) (F.may_leave (file_of wal))) }
-        ensures name { IfOk result (λ wal. F.name (file_of wal) ≡ Log number) }
-        ensures sizes { IfOk result (λ wal. sizes_of wal ≡ sizes) }
-        ensures pending { IfOk result (λ wal. pending_of wal ≡ 0) }
-        ensures written { IfOk result (λ wal. IsTrue (D.is_told disk.old) → F.seen (file_of wal) ≡ 90 ∷ []) }
-        ensures fresh { IfOk result (λ wal. F.faults (file_of wal) ≡ 0) }
-        ensures told { IfOk result (λ wal. F.is_told (file_of wal) ≡ D.is_told disk.old) }
-        ensures model { IfOk result (λ wal. F.keeps_model (file_of wal) ≡ D.keeps_model disk.old) }
+        ensures durable { IfOk result (λ wal. Only (F.seen (wal_file wal)) (F.may_leave (wal_file wal))) }
+        ensures name { IfOk result (λ wal. F.name (wal_file wal) ≡ Log number) }
+        ensures sizes { IfOk result (λ wal. wal_sizes wal ≡ sizes) }
+        ensures pending { IfOk result (λ wal. wal_pending wal ≡ 0) }
+        ensures written { IfOk result (λ wal. IsTrue (D.is_told disk.old) → F.seen (wal_file wal) ≡ 90 ∷ []) }
+        ensures fresh { IfOk result (λ wal. F.faults (wal_file wal) ≡ 0) }
+        ensures told { IfOk result (λ wal. F.is_told (wal_file wal) ≡ D.is_told disk.old) }
+        ensures model { IfOk result (λ wal. F.keeps_model (wal_file wal) ≡ D.keeps_model disk.old) }
         ensures touches { Touches D.Disk (λ (n : NameOf). n ≡ Log number) disk.old disk.new }
-        ensures cause { IsMakingCause (D.faults disk.old) (D.faults disk.new) result }
+        ensures kept { OnOk result (D.faults disk.new ≡ D.faults disk.old) }
+        ensures cause { IfErr result (λ fault. IsCause (is_log_disk_fault fault) (D.faults disk.old) (D.faults disk.new)) }
         ensures unmade { IfErr result (λ fault. fault ≡ LogFault.NoMemory → IsTrue (D.is_told disk.old) → D.stands disk.new (Log number) ≡ Some []) }
         // Other files may be held meanwhile.
-        ensures moments { (others : List F) → IsFree D.Disk F.DiskFile (joint disk.old others) (Log number) → Ran D.Disk F.DiskFile (IsWhileMade D.Disk F.DiskFile (joint disk.old others) (Log number)) (joint disk.old others) (joint disk.new (held_after file_of result others)) }
+        ensures moments { (others : List F) → IsFree D.Disk F.DiskFile (holding disk.old others) (Log number) → Ran D.Disk F.DiskFile (IsWhileMade D.Disk F.DiskFile (holding disk.old others) (Log number)) (holding disk.old others) (holding disk.new (held_with wal_file result others)) }
     {
         let Ok(file) = disk.create(FileName::Log(number)) else {
             return Err(LogFault::DiskFault);
@@ -177,13 +181,13 @@ impl<F: DiskFile> Wal<F> {
         ensures only { IfOk result (λ r. IsTrue (F.is_told file) → (others : List NumberedBatch) → LogHolds sizes others (F.seen file) → others ≡ r.1.items) }
         ensures shown { IfOk result (λ r. IsTrue (F.is_told file) → IsWalOf F.DiskFile r.0 r.1.items []) }
         ensures at_rest { IfOk result (λ r. IsTrue (F.is_told file) → Only (F.seen file) (F.may_leave file) → Holds F.DiskFile r.0 r.1.items []) }
-        ensures sizes { IfOk result (λ r. sizes_of r.0 ≡ sizes) }
-        ensures pending { IfOk result (λ r. pending_of r.0 ≡ 0) }
+        ensures sizes { IfOk result (λ r. wal_sizes r.0 ≡ sizes) }
+        ensures pending { IfOk result (λ r. wal_pending r.0 ≡ 0) }
         ensures within { IfOk result (λ r. All IsNumberedWithin r.1.items) }
         ensures refused { IfErr result (λ e. IsTrue (F.is_told file) → IsReplayFault sizes number (F.seen file) e.1) }
-        ensures same { IsOnlyRead F.DiskFile file (file_after (λ r. file_of r.0) result) }
-        ensures kept { IfOk result (λ r. F.faults (file_of r.0) ≡ F.faults file) }
-        ensures cause { IfErr result (λ e. IsReplayCause (F.faults file) (F.faults e.0) e.1) }
+        ensures same { IsOnlyRead F.DiskFile file (file_after (λ r. wal_file r.0) result) }
+        ensures kept { IfOk result (λ r. F.faults (wal_file r.0) ≡ F.faults file) }
+        ensures cause { IfErr result (λ e. IsCause (is_replay_disk_fault e.1) (F.faults file) (F.faults e.0)) }
     {
         let (log, frames) = match GateLog::of(alloc, file) {
             Ok(read) => read,
@@ -210,22 +214,22 @@ impl<F: DiskFile> Wal<F> {
     pub fn append(&mut self, first: Seq, batch: &Batch) -> Result<(), NoMemory>
         requires first { 1 ≤ first.0 }
         requires last { first.0 + length batch.now ≤ 2 ^ 56 }
-        requires families { All (λ (op : Operation). op.family.0 < length (sizes_of self.old)) batch.now }
-        requires room { pending_of self.old < 1048576 }
+        requires families { All (λ (op : Operation). op.family.0 < length (wal_sizes self.old)) batch.now }
+        requires room { wal_pending self.old < 1048576 }
         requires next { MayGoOn F.DiskFile self.old first.0 }
 
         ensures waits { (batches waiting : List NumberedBatch) → IsWalOf F.DiskFile self.old batches waiting → OnOk result (IsWalOf F.DiskFile self.new batches (waiting ++ record { first = first; batch = batch.now } ∷ [])) }
         ensures holds { (batches waiting : List NumberedBatch) → Holds F.DiskFile self.old batches waiting → OnOk result (Holds F.DiskFile self.new batches (waiting ++ record { first = first; batch = batch.now } ∷ [])) }
         ensures goes_on { OnOk result (MayGoOn F.DiskFile self.new (first.0 + length batch.now)) }
-        ensures more { OnOk result (pending_of self.old < pending_of self.new) }
+        ensures more { OnOk result (wal_pending self.old < wal_pending self.new) }
 
         ensures err_waits { (batches waiting : List NumberedBatch) → IsWalOf F.DiskFile self.old batches waiting → OnErr result (IsWalOf F.DiskFile self.new batches waiting) }
         ensures err_holds { (batches waiting : List NumberedBatch) → Holds F.DiskFile self.old batches waiting → OnErr result (Holds F.DiskFile self.new batches waiting) }
         ensures err_goes_on { OnErr result (MayGoOn F.DiskFile self.new first.0) }
-        ensures err_pending { OnErr result (pending_of self.new ≡ pending_of self.old) }
+        ensures err_pending { OnErr result (wal_pending self.new ≡ wal_pending self.old) }
 
-        ensures file { file_of self.new ≡ file_of self.old }
-        ensures sizes { sizes_of self.new ≡ sizes_of self.old }
+        ensures file { wal_file self.new ≡ wal_file self.old }
+        ensures sizes { wal_sizes self.new ≡ wal_sizes self.old }
     {
         let before = self.waiting.len();
         match lay_out(
@@ -246,7 +250,7 @@ impl<F: DiskFile> Wal<F> {
 
     /// How many bytes wait: the body of the frame that the next `sync` writes, and none where no batch waits.
     pub fn pending(&self) -> u64
-        ensures { result ≡ pending_of self.now }
+        ensures { result ≡ wal_pending self.now }
     {
         self.waiting.len() as u64
     }
@@ -254,19 +258,19 @@ impl<F: DiskFile> Wal<F> {
     /// Writes all batches that wait as one frame. After `Ok` they are on the disk. A crash at any moment of the call leaves the
     /// batches from before, or these and all that waited. Where nothing waits it does nothing. It takes no memory.
     pub fn sync(&mut self) -> Result<(), Failed>
-        requires { IsReady F.DiskFile self.old }
+        requires { IsWalReady F.DiskFile self.old }
 
         ensures synced { (batches waiting : List NumberedBatch) → IsWalOf F.DiskFile self.old batches waiting → OnOk result (IsWalOf F.DiskFile self.new (batches ++ waiting) []) }
         ensures holds { (batches waiting : List NumberedBatch) → Holds F.DiskFile self.old batches waiting → OnOk result (Holds F.DiskFile self.new (batches ++ waiting) []) }
-        ensures durable { (batches waiting : List NumberedBatch) → IsWalOf F.DiskFile self.old batches waiting → 0 < pending_of self.old → OnOk result (Holds F.DiskFile self.new (batches ++ waiting) []) }
+        ensures durable { (batches waiting : List NumberedBatch) → IsWalOf F.DiskFile self.old batches waiting → 0 < wal_pending self.old → OnOk result (Holds F.DiskFile self.new (batches ++ waiting) []) }
         ensures goes_on { (first : ℕ) → MayGoOn F.DiskFile self.old first → OnOk result (MayGoOn F.DiskFile self.new first) }
-        ensures moments { (batches waiting : List NumberedBatch) → Holds F.DiskFile self.old batches waiting → Leaves F.DiskFile (file_of self.old) (file_of self.new) (IsBeforeOrAfter (sizes_of self.old) batches waiting) }
-        ensures pending { OnOk result (pending_of self.new ≡ 0) }
-        ensures written { OnOk result (0 < pending_of self.old → IsTrue (F.is_told (file_of self.old)) → F.seen (file_of self.new) ≡ with_frame (F.seen (file_of self.old)) (end_of self.old) (waiting_of self.old)) }
-        ensures none { pending_of self.old ≡ 0 → IsOk result × (file_of self.new ≡ file_of self.old) }
-        ensures cause { HasCause (F.faults (file_of self.old)) (F.faults (file_of self.new)) result }
-        ensures same { IsSameFile F.DiskFile (file_of self.old) (file_of self.new) }
-        ensures sizes { sizes_of self.new ≡ sizes_of self.old }
+        ensures moments { (batches waiting : List NumberedBatch) → Holds F.DiskFile self.old batches waiting → Leaves F.DiskFile (wal_file self.old) (wal_file self.new) (IsBeforeOrAfter (wal_sizes self.old) batches waiting) }
+        ensures pending { OnOk result (wal_pending self.new ≡ 0) }
+        ensures written { OnOk result (0 < wal_pending self.old → IsTrue (F.is_told (wal_file self.old)) → F.seen (wal_file self.new) ≡ with_frame (F.seen (wal_file self.old)) (wal_end self.old) (wal_waiting self.old)) }
+        ensures none { wal_pending self.old ≡ 0 → IsOk result × (wal_file self.new ≡ wal_file self.old) }
+        ensures cause { HasCause (F.faults (wal_file self.old)) (F.faults (wal_file self.new)) result }
+        ensures same { IsSameFile F.DiskFile (wal_file self.old) (wal_file self.new) }
+        ensures sizes { wal_sizes self.new ≡ wal_sizes self.old }
     {
         if self.waiting.is_empty() {
             return Ok(());
@@ -281,28 +285,28 @@ impl<F: DiskFile> Wal<F> {
     /// Where that fails, the log is as it was. A crash at any moment leaves under the new name what it might have left
     /// there before; or none, or a file of one byte at most; or, where a file was there, any bytes. It takes no memory.
     pub fn roll<D: Disk<File = F>>(&mut self, disk: &mut D, number: u64) -> Result<(), Failed>
-        requires { pending_of self.old ≡ 0 }
+        requires { wal_pending self.old ≡ 0 }
         ensures holds { OnOk result (IsTrue (D.is_told disk.old) → Holds F.DiskFile self.new [] []) }
         ensures goes_on { OnOk result ((first : ℕ) → MayGoOn F.DiskFile self.new first) }
-        ensures durable { OnOk result (Only (F.seen (file_of self.new)) (F.may_leave (file_of self.new))) }
-        ensures name { OnOk result (F.name (file_of self.new) ≡ Log number) }
-        ensures written { OnOk result (IsTrue (D.is_told disk.old) → F.seen (file_of self.new) ≡ 90 ∷ []) }
-        ensures fresh { OnOk result (F.faults (file_of self.new) ≡ 0) }
-        ensures told { OnOk result (F.is_told (file_of self.new) ≡ D.is_told disk.old) }
-        ensures model { OnOk result (F.keeps_model (file_of self.new) ≡ D.keeps_model disk.old) }
+        ensures durable { OnOk result (Only (F.seen (wal_file self.new)) (F.may_leave (wal_file self.new))) }
+        ensures name { OnOk result (F.name (wal_file self.new) ≡ Log number) }
+        ensures written { OnOk result (IsTrue (D.is_told disk.old) → F.seen (wal_file self.new) ≡ 90 ∷ []) }
+        ensures fresh { OnOk result (F.faults (wal_file self.new) ≡ 0) }
+        ensures told { OnOk result (F.is_told (wal_file self.new) ≡ D.is_told disk.old) }
+        ensures model { OnOk result (F.keeps_model (wal_file self.new) ≡ D.keeps_model disk.old) }
 
-        ensures old_stands { OnOk result (IsTrue (D.is_told disk.old) → IsTrue (F.is_told (file_of self.old)) → D.stands disk.new (F.name (file_of self.old)) ≡ Some (F.seen (file_of self.old))) }
-        ensures old_leaves { OnOk result (NoMore (F.may_leave (file_of self.old)) (D.may_leave disk.new (F.name (file_of self.old)))) }
-        ensures counted { OnOk result (D.faults disk.new ≡ plus_faults (D.faults disk.old) (F.faults (file_of self.old))) }
+        ensures old_stands { OnOk result (IsTrue (D.is_told disk.old) → IsTrue (F.is_told (wal_file self.old)) → D.stands disk.new (F.name (wal_file self.old)) ≡ Some (F.seen (wal_file self.old))) }
+        ensures old_leaves { OnOk result (NoMore (F.may_leave (wal_file self.old)) (D.may_leave disk.new (F.name (wal_file self.old)))) }
+        ensures counted { OnOk result (D.faults disk.new ≡ plus_faults (D.faults disk.old) (F.faults (wal_file self.old))) }
 
         ensures err { OnErr result (self.new ≡ self.old) }
         ensures cause { OnErr result (Rose (D.faults disk.old) (D.faults disk.new)) }
         ensures later { D.faults disk.old ≤ D.faults disk.new }
-        ensures sizes { sizes_of self.new ≡ sizes_of self.old }
-        ensures pending { pending_of self.new ≡ 0 }
-        ensures touches { Touches D.Disk (λ (n : NameOf). (n ≡ Log number) ⊎ (n ≡ F.name (file_of self.old))) disk.old disk.new }
+        ensures sizes { wal_sizes self.new ≡ wal_sizes self.old }
+        ensures pending { wal_pending self.new ≡ 0 }
+        ensures touches { Touches D.Disk (λ (n : NameOf). (n ≡ Log number) ⊎ (n ≡ F.name (wal_file self.old))) disk.old disk.new }
         // Other files may be held meanwhile.
-        ensures moments { (others : List F) → IsFree D.Disk F.DiskFile (joint disk.old (file_of self.old ∷ others)) (Log number) → IsFree D.Disk F.DiskFile (joint disk.old others) (F.name (file_of self.old)) → Ran D.Disk F.DiskFile (IsWhileMade D.Disk F.DiskFile (joint disk.old (file_of self.old ∷ others)) (Log number)) (joint disk.old (file_of self.old ∷ others)) (joint disk.new (file_of self.new ∷ others)) }
+        ensures moments { (others : List F) → IsFree D.Disk F.DiskFile (holding disk.old (wal_file self.old ∷ others)) (Log number) → IsFree D.Disk F.DiskFile (holding disk.old others) (F.name (wal_file self.old)) → Ran D.Disk F.DiskFile (IsWhileMade D.Disk F.DiskFile (holding disk.old (wal_file self.old ∷ others)) (Log number)) (holding disk.old (wal_file self.old ∷ others)) (holding disk.new (wal_file self.new ∷ others)) }
     {
         let file = disk.create(FileName::Log(number))?;
         match self.log.restart(file) {
@@ -320,7 +324,7 @@ impl<F: DiskFile> Wal<F> {
 
     /// The file that it holds.
     pub fn into_file(self) -> F
-        ensures { result ≡ file_of self }
+        ensures { result ≡ wal_file self }
     {
         let Wal {
             log,

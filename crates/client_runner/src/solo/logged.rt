@@ -5,7 +5,7 @@ ghost use Rattle.ts_key.specs.declared.batch.WriteOp.{WriteOp as Operation};
 ghost use Rattle.udt_model.specs.declared.event.Event.TheVariants.{Write, Get};
 ghost use Rattle.udt_model.specs.declared.event.NamedOp.{NamedOp as Named};
 ghost use Rattle.client_lang.specs.Print.{IsBuilt};
-ghost use Rattle.wal.specs.Wals.{file_of, sizes_of};
+ghost use Rattle.wal.specs.Wals.{wal_file, wal_sizes};
 ghost use Rattle.client_runner.specs.Adding.{op_of};
 ghost use Rattle.client_runner.specs.Logging.{HasRoom, IsLogged, batch_behind};
 
@@ -25,7 +25,7 @@ fn log_batch<F: DiskFile>(
 ) -> Result<(), LogFault>
     requires first { 1 ≤ first.0 }
     requires last { first.0 + length batch.now ≤ 2 ^ 56 }
-    requires families { All (λ (op : Operation). op.family.0 < length (sizes_of wal.old)) batch.now }
+    requires families { All (λ (op : Operation). op.family.0 < length (wal_sizes wal.old)) batch.now }
     requires room { HasRoom F.DiskFile wal.old first.0 }
     ensures { IsLogged F.DiskFile wal.old wal.new (record { first = first; batch = batch.now }) sync result }
 {
@@ -52,7 +52,7 @@ fn log_behind<F: DiskFile>(
     requires within { count ≤ length plain.now.versions }
     requires batch { IsBatch (map op_of (drop count plain.now.versions)) }
     requires last { plain.now.last.0 + length (map op_of (drop count plain.now.versions)) < 2 ^ 56 }
-    requires families { All (λ (op : Operation). op.family.0 < length (sizes_of wal.old)) (map op_of (drop count plain.now.versions)) }
+    requires families { All (λ (op : Operation). op.family.0 < length (wal_sizes wal.old)) (map op_of (drop count plain.now.versions)) }
     requires room { HasRoom F.DiskFile wal.old (plain.now.last.0 + 1) }
     ensures { IsLogged F.DiskFile wal.old wal.new (batch_behind plain.now count) sync result }
 {
@@ -181,7 +181,7 @@ impl<F: DiskFile> LoggedStore<F> {
 
     /// The file of the log.
     pub fn into_file(self) -> F
-        ensures { result ≡ file_of (wal_of self) }
+        ensures { result ≡ wal_file (wal_of self) }
     {
         let LoggedStore {
             plain: _,

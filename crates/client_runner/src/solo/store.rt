@@ -2,7 +2,7 @@
 //! at or above the latest timestamp needs none.
 ghost use Rattle.std.specs.Prelude.{◌≡◌, ℕ, ◌+◌, ◌-◌, ◌^◌, ◌<◌, ◌≤◌, [], false, nat_lt, if◌then◌else◌, length, take, drop, map, Bool, None, Ok, IfOk, IfSome, OnErr};
 ghost use Rattle.client_runner.specs.Named.{place_of, admitted, synced, refusal, refused, unknown as unknown_of};
-ghost use Rattle.udt_model.specs.State.{unflushed};
+ghost use Rattle.udt_model.specs.State.{heads_of, unflushed};
 ghost use Rattle.udt_model.specs.Steps.{got, reply_of_read as told_reply};
 ghost use Rattle.client_runner.specs.Named.{IsReply, after as state_after};
 ghost use Rattle.udt_model.specs.Lines.{says_fault};
@@ -24,7 +24,7 @@ const LAST_SEQUENCE: u64 = (1 << 56) - 1;
 
 /// The families of a store in memory: the one family `d`, which keeps its timestamps, with floor 0.
 pub fn fresh_heads(alloc: Global) -> Result<Vec<FamilyHead>, NoMemory>
-    ensures { IfOk result (λ heads. heads.items ≡ fresh.heads) }
+    ensures { IfOk result (λ heads. heads.items ≡ heads_of fresh) }
 {
     let name = match Name::of(alloc, b"d") {
         Ok(name) => name,
@@ -261,13 +261,20 @@ impl PlainStore {
         Ok(self.full(ops.len()))
     }
 
+    /// The place of the family of this name.
+    fn place_named(&self, name: &Name) -> Option<Place>
+        ensures { result ≡ place_of self.now name.now }
+    {
+        plain_place(&self.heads, name)
+    }
+
     /// `unknown` where one of the operations names no family.
     pub(super) fn unknown(&self, ops: &[NamedOp]) -> Option<Reply>
         ensures unknown { result ≡ unknown_of self.now ops.now }
         ensures built { IfSome result IsRefusal }
     {
         for op in ops {
-            if plain_place(&self.heads, &op.family).is_none() {
+            if self.place_named(&op.family).is_none() {
                 return Some(Reply::Unknown);
             }
         }
@@ -319,7 +326,7 @@ impl PlainStore {
         ensures err { OnErr result (self.new ≡ self.old) }
         ensures built { IfOk result (λ found. IfSome found IsRefusal) }
     {
-        let Some(Place { family, floor }) = plain_place(&self.heads, &op.family) else {
+        let Some(Place { family, floor }) = self.place_named(&op.family) else {
             return Ok(Some(Reply::Unknown));
         };
         if op.ts.0 < floor.0 {
@@ -344,7 +351,7 @@ impl PlainStore {
         ensures built { IfOk result IsBuiltReply }
     {
         let last = self.last;
-        let Some(place) = plain_place(&self.heads, family) else {
+        let Some(place) = self.place_named(family) else {
             return Ok(Reply::Unknown);
         };
         let read = plain_read(

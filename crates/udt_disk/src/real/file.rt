@@ -1,7 +1,8 @@
+//! Files of the operating system.
 ghost use Rattle.std.specs.Prelude.{◌≡◌, [], true, false};
 ghost use Rattle.udt_disk.specs.Real.{not_told};
 
-use super::counted;
+use super::Faults;
 use crate::{DiskFile, Failed, FileName};
 use std::fs::File;
 use std::io::ErrorKind;
@@ -12,13 +13,13 @@ use std::os::unix::fs::FileExt;
 pub struct HostFile {
     pub(super) file: File,
     pub(super) name: FileName,
-    pub(super) faults: u64,
+    pub(super) faults: Faults,
 }
 
 impl DiskFile for HostFile {
     ghost name = { λ f. f.name };
 
-    ghost faults = { λ f. f.faults };
+    ghost faults = { λ f. f.faults.count };
 
     ghost is_told = { λ _. false };
 
@@ -41,7 +42,7 @@ impl DiskFile for HostFile {
     ghost only_now = { λ _ _ left. left };
 
     fn len(&mut self) -> Result<u64, Failed> {
-        let metadata = counted(self.file.metadata(), &mut self.faults)?;
+        let metadata = self.faults.counted(self.file.metadata())?;
         Ok(metadata.len())
     }
 
@@ -57,21 +58,21 @@ impl DiskFile for HostFile {
                 Ok(0) => return Ok(done),
                 Ok(count) => done += count,
                 Err(e) if e.kind() == ErrorKind::Interrupted => {}
-                Err(_) => break,
+                Err(e) => return self.faults.counted(Err(e)),
             }
         }
-        counted(Err(Failed), &mut self.faults)
+        self.faults.counted(Err(ErrorKind::Interrupted.into()))
     }
 
     fn write_at(&mut self, at: u64, bytes: &[u8]) -> Result<(), Failed> {
         if at > u64::MAX - bytes.len() as u64 {
-            return counted(Err(Failed), &mut self.faults);
+            return self.faults.counted(Err(ErrorKind::InvalidInput.into()));
         }
-        counted(self.file.write_all_at(bytes, at), &mut self.faults)
+        self.faults.counted(self.file.write_all_at(bytes, at))
     }
 
-    /// Reaches the device.
+    /// Reaches the device: the bytes, and the length where the file grew.
     fn sync(&mut self) -> Result<(), Failed> {
-        counted(self.file.sync_all(), &mut self.faults)
+        self.faults.counted(self.file.sync_data())
     }
 }

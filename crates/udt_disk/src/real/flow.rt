@@ -1,6 +1,7 @@
+//! Sources and sinks over readers and writers of the operating system.
 ghost use Rattle.std.specs.Prelude.{◌≡◌, None};
 
-use super::counted;
+use super::Faults;
 use crate::{Failed, Sink, Source};
 use std::io::{ErrorKind, Read, Write};
 
@@ -8,15 +9,18 @@ use std::io::{ErrorKind, Read, Write};
 #[derive(Drop)]
 pub struct HostSource<R: Read + Drop> {
     inner: R,
-    faults: u64,
+    faults: Faults,
 }
 
 impl<R: Read + Drop> HostSource<R> {
     pub(super) fn new(inner: R) -> HostSource<R> {
-        HostSource { inner, faults: 0 }
+        HostSource {
+            inner,
+            faults: Faults::new(),
+        }
     }
 
-    pub(super) fn faults(&self) -> u64
+    pub(super) fn faults(&self) -> Faults
         ensures { result ≡ self.now.faults }
     {
         self.faults
@@ -26,7 +30,7 @@ impl<R: Read + Drop> HostSource<R> {
 impl<R: Read + Drop> Source for HostSource<R> {
     ghost left = { λ _. None };
 
-    ghost faults = { λ s. s.faults };
+    ghost faults = { λ s. s.faults.count };
 
     /// A read that a signal interrupts is tried again.
     fn read(&mut self, into: &mut [u8]) -> Result<usize, Failed> {
@@ -34,10 +38,10 @@ impl<R: Read + Drop> Source for HostSource<R> {
             match self.inner.read(into) {
                 Ok(count) => return Ok(count),
                 Err(e) if e.kind() == ErrorKind::Interrupted => {}
-                Err(_) => break,
+                Err(e) => return self.faults.counted(Err(e)),
             }
         }
-        counted(Err(Failed), &mut self.faults)
+        self.faults.counted(Err(ErrorKind::Interrupted.into()))
     }
 }
 
@@ -45,7 +49,7 @@ impl<R: Read + Drop> Source for HostSource<R> {
 #[derive(Drop)]
 pub struct HostSink<W: Write + Drop> {
     inner: W,
-    faults: u64,
+    faults: Faults,
 }
 
 impl<W: Write + Drop> HostSink<W> {
@@ -53,24 +57,28 @@ impl<W: Write + Drop> HostSink<W> {
     pub fn new(inner: W) -> HostSink<W>
         ensures { ⟦<HostSink<W> as Sink>⟧.faults result ≡ 0 }
     {
-        HostSink { inner, faults: 0 }
+        HostSink {
+            inner,
+            faults: Faults::new(),
+        }
     }
 }
 
 impl<W: Write + Drop> Sink for HostSink<W> {
     ghost taken = { λ _. None };
 
-    ghost faults = { λ s. s.faults };
+    ghost faults = { λ s. s.faults.count };
 
     /// A write that a signal interrupts is tried again. A writer that takes nothing of a piece has failed.
     fn write(&mut self, piece: &[u8]) -> Result<usize, Failed> {
         for _ in 0..u64::MAX {
             match self.inner.write(piece) {
                 Ok(count) if count > 0 || piece.is_empty() => return Ok(count),
+                Ok(_) => return self.faults.counted(Err(ErrorKind::WriteZero.into())),
                 Err(e) if e.kind() == ErrorKind::Interrupted => {}
-                _ => break,
+                Err(e) => return self.faults.counted(Err(e)),
             }
         }
-        counted(Err(Failed), &mut self.faults)
+        self.faults.counted(Err(ErrorKind::Interrupted.into()))
     }
 }

@@ -1,8 +1,10 @@
+//! Folders of the operating system. One that is open is locked, and what is opened in it is synced before it is read, since
+//! an earlier process may have been stopped between a write and its sync.
 ghost use Rattle.std.specs.Prelude.{◌≡◌, None, IfOk, IfSome, true, false};
 ghost use Rattle.udt_disk.specs.Folder.{opened};
 ghost use Rattle.udt_disk.specs.Real.{not_told};
 
-use super::{HostFile, counted};
+use super::{Faults, HostFile};
 use crate::{Disk, Failed, FileName, NoMemory};
 use std::alloc::Global;
 use std::fs::{File, OpenOptions};
@@ -10,12 +12,14 @@ use std::io::ErrorKind;
 use std::rt::Files;
 use std::{fs, io};
 
-/// A folder of the operating system, by its path.
+/// A folder of the operating system, by its path. It is locked for as long as it is held.
 pub struct HostFolder<'a, R: Files<File = File>> {
     pub(super) rt: &'a R,
     pub(super) alloc: Global,
     pub(super) path: String,
-    pub(super) faults: u64,
+    /// The folder itself, which holds the lock.
+    pub(super) handle: File,
+    pub(super) faults: Faults,
 }
 
 /// The path of a file in a folder.
@@ -31,14 +35,9 @@ fn path_of(alloc: Global, folder: &str, name: FileName) -> Result<String, NoMemo
 }
 
 impl<'a, R: Files<File = File>> HostFolder<'a, R> {
-    /// Makes the names of the folder reach the device.
-    fn sync_names(&self) -> io::Result<()> {
-        fs::open(self.rt, self.path.as_str())?.sync_all()
-    }
-
     fn try_create(&self, name: FileName) -> io::Result<HostFile>
         ensures name { IfOk result (λ f. f.name ≡ name) }
-        ensures fresh { IfOk result (λ f. f.faults ≡ 0) }
+        ensures fresh { IfOk result (λ f. f.faults.count ≡ 0) }
     {
         let path = path_of(self.alloc, &self.path, name)?;
         let file = OpenOptions::new()
@@ -47,32 +46,36 @@ impl<'a, R: Files<File = File>> HostFolder<'a, R> {
             .create(true)
             .truncate(true)
             .open(self.rt, path.as_str())?;
-        self.sync_names()?;
+        self.handle.sync_all()?;
         Ok(HostFile {
             file,
             name,
-            faults: 0,
+            faults: Faults::new(),
         })
     }
 
     fn try_open(&self, name: FileName) -> io::Result<Option<HostFile>>
         ensures name { IfSome (opened result) (λ f. f.name ≡ name) }
-        ensures fresh { IfSome (opened result) (λ f. f.faults ≡ 0) }
+        ensures fresh { IfSome (opened result) (λ f. f.faults.count ≡ 0) }
     {
         let path = path_of(self.alloc, &self.path, name)?;
-        match OpenOptions::new()
+        let file = match OpenOptions::new()
             .read(true)
             .write(true)
             .open(self.rt, path.as_str())
         {
-            Ok(file) => Ok(Some(HostFile {
-                file,
-                name,
-                faults: 0,
-            })),
-            Err(e) if e.kind() == ErrorKind::NotFound => Ok(None),
-            Err(e) => Err(e),
+            Err(e) if e.kind() == ErrorKind::NotFound => return Ok(None),
+            file => file?,
+        };
+        // A table is named only once its sync answered Ok.
+        if !matches!(name, FileName::Table(_)) {
+            file.sync_all()?;
         }
+        Ok(Some(HostFile {
+            file,
+            name,
+            faults: Faults::new(),
+        }))
     }
 
     fn try_remove(&self, name: FileName) -> io::Result<()> {
@@ -80,7 +83,7 @@ impl<'a, R: Files<File = File>> HostFolder<'a, R> {
         match fs::remove_file(self.rt, path.as_str()) {
             Err(e) if e.kind() == ErrorKind::NotFound => Ok(()),
             Err(e) => Err(e),
-            Ok(()) => self.sync_names(),
+            Ok(()) => self.handle.sync_all(),
         }
     }
 }
@@ -88,7 +91,7 @@ impl<'a, R: Files<File = File>> HostFolder<'a, R> {
 impl<'a, R: Files<File = File> + Sync> Disk for HostFolder<'a, R> {
     type File = HostFile;
 
-    ghost faults = { λ d. d.faults };
+    ghost faults = { λ d. d.faults.count };
 
     ghost is_told = { λ _. false };
 
@@ -112,20 +115,23 @@ impl<'a, R: Files<File = File> + Sync> Disk for HostFolder<'a, R> {
 
     /// The name reaches the device too.
     fn create(&mut self, name: FileName) -> Result<HostFile, Failed> {
-        counted(self.try_create(name), &mut self.faults)
+        let answer = self.try_create(name);
+        self.faults.counted(answer)
     }
 
     fn open_file(&mut self, name: FileName) -> Result<Option<HostFile>, Failed> {
-        counted(self.try_open(name), &mut self.faults)
+        let answer = self.try_open(name);
+        self.faults.counted(answer)
     }
 
     /// That the name is gone reaches the device too.
     fn remove(&mut self, name: FileName) -> Result<(), Failed> {
-        counted(self.try_remove(name), &mut self.faults)
+        let answer = self.try_remove(name);
+        self.faults.counted(answer)
     }
 
     fn retire(&mut self, file: HostFile) {
-        self.faults = self.faults.saturating_add(file.faults);
+        self.faults.add(file.faults);
     }
 }
 
@@ -135,6 +141,7 @@ impl<'a, R: Files<File = File>> Drop for HostFolder<'a, R> {
             rt: _,
             alloc: _,
             path: _,
+            handle: _,
             faults: _,
         } = self;
     }

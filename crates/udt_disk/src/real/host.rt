@@ -1,6 +1,7 @@
+//! The host of the process: the files and folders of the operating system by their paths.
 ghost use Rattle.std.specs.Prelude.{◌≡◌, None, true, false};
 
-use super::{HostFolder, HostSource, counted};
+use super::{Faults, HostFolder, HostSource};
 use crate::{Failed, Host, Text};
 use std::fs::File;
 use std::io::ErrorKind;
@@ -11,19 +12,28 @@ use std::{fs, io};
 /// The host of the process: files and folders by their paths. It tells nothing of what stands under them.
 pub struct RealHost<'a, R: Files> {
     rt: &'a R,
-    faults: u64,
+    faults: Faults,
 }
 
 impl<'a, R: Files> RealHost<'a, R> {
+    /// Why the last call failed that did, of the host's or of what was given back to it.
+    pub fn last_error(&self) -> Option<ErrorKind> {
+        self.faults.last
+    }
+
     /// The host of the process whose runtime this is.
     pub fn new(rt: &'a R) -> RealHost<'a, R>
-        ensures { result.faults ≡ 0 }
+        ensures { result.faults.count ≡ 0 }
     {
-        RealHost { rt, faults: 0 }
+        RealHost {
+            rt,
+            faults: Faults::new(),
+        }
     }
 }
 
-/// The folder at a path, made where there is none and one is asked for.
+/// The folder at a path, made where there is none and one is asked for. It is locked, so that no other process opens it
+/// as long as it is held, and its names have reached the device; so has its own name where it may just have been made.
 fn try_folder<'a, R: Files<File = File> + AllocGlobal>(
     rt: &'a R,
     path: &str,
@@ -32,8 +42,7 @@ fn try_folder<'a, R: Files<File = File> + AllocGlobal>(
     let alloc = rt.alloc();
     let metadata = match fs::metadata(rt, path) {
         Err(e) if e.kind() == ErrorKind::NotFound && make => {
-            fs::create_dir(rt, path)?;
-            sync_parent(rt, path)?;
+            make_folder(rt, path)?;
             fs::metadata(rt, path)?
         }
         metadata => metadata?,
@@ -41,12 +50,30 @@ fn try_folder<'a, R: Files<File = File> + AllocGlobal>(
     if !metadata.is_dir() {
         return Err(ErrorKind::NotADirectory.into());
     }
+    let handle = fs::open(rt, path)?;
+    handle.try_lock()?;
+    handle.sync_all()?;
+    if make {
+        sync_parent(rt, path)?;
+    }
     Ok(HostFolder {
         rt,
         alloc,
         path: String::from_str(alloc, path)?,
-        faults: 0,
+        handle,
+        faults: Faults::new(),
     })
+}
+
+/// Makes a folder. A call that a signal interrupts is made again.
+fn make_folder<R: Files>(rt: &R, path: &str) -> io::Result<()> {
+    for _ in 0..u64::MAX {
+        match fs::create_dir(rt, path) {
+            Err(e) if e.kind() == ErrorKind::Interrupted => {}
+            made => return made,
+        }
+    }
+    Err(ErrorKind::Interrupted.into())
 }
 
 /// Makes the name of a folder reach the device.
@@ -76,43 +103,44 @@ impl<'a, R: Files<File = File> + AllocGlobal + Sync> Host for RealHost<'a, R> {
 
     ghost keeps_model = { λ _. false };
 
-    ghost faults = { λ h. h.faults };
+    ghost faults = { λ h. h.faults.count };
 
-    /// Fails too where the path is no UTF-8: such a folder can't be named here, though there may be one.
+    /// Fails too where another process holds the folder, and where the path is no UTF-8: such a folder can't be named
+    /// here, though there may be one.
     fn open_folder(
         &mut self,
         path: &Text,
         make: bool,
     ) -> Result<Option<HostFolder<'a, R>>, Failed> {
-        if let Ok(path) = str::from_utf8(path.bytes()) {
-            match try_folder(self.rt, path, make) {
-                Ok(folder) => return Ok(Some(folder)),
-                Err(e) if e.kind() == ErrorKind::NotFound && !make => return Ok(None),
-                Err(_) => {}
-            }
+        let Ok(path) = str::from_utf8(path.bytes()) else {
+            return self.faults.counted(Err(ErrorKind::InvalidInput.into()));
+        };
+        match try_folder(self.rt, path, make) {
+            Ok(folder) => Ok(Some(folder)),
+            Err(e) if e.kind() == ErrorKind::NotFound && !make => Ok(None),
+            Err(e) => self.faults.counted(Err(e)),
         }
-        counted(Err(Failed), &mut self.faults)
     }
 
     fn close_folder(&mut self, path: &Text, folder: HostFolder<'a, R>) {
         let _ = path;
-        self.faults = self.faults.saturating_add(folder.faults);
+        self.faults.add(folder.faults);
     }
 
     /// Fails too where the path is no UTF-8: such a file can't be named here, though there may be one.
     fn open_source(&mut self, path: &Text) -> Result<Option<HostSource<File>>, Failed> {
-        if let Ok(path) = str::from_utf8(path.bytes()) {
-            match fs::open(self.rt, path) {
-                Ok(inner) => return Ok(Some(HostSource::new(inner))),
-                Err(e) if e.kind() == ErrorKind::NotFound => return Ok(None),
-                Err(_) => {}
-            }
+        let Ok(path) = str::from_utf8(path.bytes()) else {
+            return self.faults.counted(Err(ErrorKind::InvalidInput.into()));
+        };
+        match fs::open(self.rt, path) {
+            Ok(inner) => Ok(Some(HostSource::new(inner))),
+            Err(e) if e.kind() == ErrorKind::NotFound => Ok(None),
+            Err(e) => self.faults.counted(Err(e)),
         }
-        counted(Err(Failed), &mut self.faults)
     }
 
     fn close_source(&mut self, input: HostSource<File>) {
-        self.faults = self.faults.saturating_add(input.faults());
+        self.faults.add(input.faults());
     }
 }
 

@@ -38,10 +38,10 @@ const ALL_OF_IT: &str = "udt 1\nopened 3\nfamily d persist 0\nbegin\n\
     3 c1 get d c 1 = found z 1\n\
     4 r sync = ok\n";
 
-/// What a crash leaves where this call of the log's file failed, counted from the opening, which makes three. The
+/// What a crash leaves where this call of the log's file failed, counted from the opening, which makes two. The
 /// fourth call of a commit syncs the gate that its third one opened; the bytes behind it were synced by the second.
 fn left(call: u64, outcome: Outcome) -> &'static str {
-    if call == 7 && outcome != Outcome::Lost {
+    if call == 6 && outcome != Outcome::Lost {
         ALL_OF_IT
     } else {
         NONE_OF_IT
@@ -51,7 +51,7 @@ fn left(call: u64, outcome: Outcome) -> &'static str {
 #[test]
 fn a_commit_that_fails_is_there_whole_or_not_at_all(rt: HostRuntime) -> Result<(), Fail> {
     let alloc = rt.alloc();
-    for call in 4..8 {
+    for call in 3..7 {
         for outcome in OUTCOMES {
             let trouble = Trouble {
                 name: LOG,
@@ -79,7 +79,7 @@ fn a_write_that_failed_is_not_read(rt: HostRuntime) -> Result<(), Fail> {
     for outcome in OUTCOMES {
         let trouble = Trouble {
             name: LOG,
-            call: 7,
+            call: 6,
             lasting: false,
         };
         let mut host = store_of(alloc, &INIT, Some(trouble))?;
@@ -87,7 +87,7 @@ fn a_write_that_failed_is_not_read(rt: HostRuntime) -> Result<(), Fail> {
         assert!(rt; failed.is(Status::DiskFault, FAILED_AND_READ), "{failed:?}");
         let mut host = crashed(alloc, host, outcome)?;
         let found = run(alloc, &mut host, READS)?;
-        let wanted = left(7, outcome);
+        let wanted = left(6, outcome);
         assert!(rt; found.is(Status::Done, wanted), "{outcome:?}: {found:?}");
     }
     Ok(())

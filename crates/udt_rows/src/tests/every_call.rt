@@ -160,21 +160,21 @@ const FOUND: [&str; 5] = [
     10 r sync = ok\n",
 ];
 
-/// The files that the run uses, and how many calls it makes on each: three to read the manifest and the log, and four a
-/// commit.
+/// The files that the run uses, and how many calls it makes on each: three to read the manifest, two to read the log, which
+/// has no frame, and four a commit.
 const CALLS: [(FileName, u64); 4] = [
     (FileName::Made, 1),
     (FileName::Current, 1),
     (FileName::Manifest0, 3),
-    (LOG, 19),
+    (LOG, 18),
 ];
 
 /// What the run prints where this call fails.
 fn told(name: FileName, call: u64) -> &'static str {
-    if name != LOG || call < 4 {
+    if name != LOG || call < 3 {
         return "disk fault\n";
     }
-    match (call - 4) / 4 {
+    match (call - 3) / 4 {
         0 => TOLD[0],
         1 => TOLD[1],
         2 => TOLD[2],

@@ -5,7 +5,7 @@ use client_runner::Status;
 use std::alloc::Global;
 use std::test::Fail;
 use std::{env, fs, process};
-use udt_disk::{Host, RealHost};
+use udt_disk::{Host, RealHost, Text};
 
 /// A folder of its own for a test, in the place for temporary files.
 fn temporary(rt: &HostRuntime, name: &str) -> Result<String, Fail> {
@@ -123,6 +123,75 @@ fn a_damaged_log_stays(rt: HostRuntime) -> Result<(), Fail> {
     fs::remove_file(&rt, log.as_str())?;
     let ran = run(alloc, &mut host, &folder, &file)?;
     assert!(rt; ran.is(Status::Folder, "bad log 1 0\n"), "{ran:?}");
+    fs::remove_dir_all(&rt, path.as_str())?;
+    Ok(())
+}
+
+#[test]
+fn a_folder_that_is_held_is_opened_by_no_other(rt: HostRuntime) -> Result<(), Fail> {
+    let alloc = rt.alloc();
+    let path = temporary(&rt, "held")?;
+    let folder = format!(in alloc; "{path}/X")?;
+    let file = format!(in alloc; "{path}/F")?;
+    let log = format!(in alloc; "{path}/X/1.log")?;
+    fs::write(&rt, file.as_str(), "put d a 1 x\n")?;
+    let mut host = RealHost::new(&rt);
+    let made = init(alloc, &mut host, &folder)?;
+    assert!(rt; made.is(Status::Done, "made 2\n"), "{made:?}");
+    let before = fs::read(&rt, log.as_str())?;
+    let text = Text::of(alloc, folder.as_bytes())?;
+    let mut holder = RealHost::new(&rt);
+    let held = holder.open_folder(&text, false)?.ok_or("no folder")?;
+    let ran = run(alloc, &mut host, &folder, &file)?;
+    assert!(rt; ran.is(Status::DiskFault, "disk fault\n"), "{ran:?}");
+    let made = init(alloc, &mut host, &folder)?;
+    assert!(rt; made.is(Status::DiskFault, "disk fault\n"), "{made:?}");
+    let left = fs::read(&rt, log.as_str())?;
+    assert!(rt; left.as_slice() == before.as_slice());
+    holder.close_folder(&text, held);
+    let ran = run(alloc, &mut host, &folder, &file)?;
+    assert!(rt; ran.status == Status::Done, "{ran:?}");
+    fs::remove_dir_all(&rt, path.as_str())?;
+    Ok(())
+}
+
+#[test]
+fn a_missing_folder_is_made_by_init_alone(rt: HostRuntime) -> Result<(), Fail> {
+    let alloc = rt.alloc();
+    let path = temporary(&rt, "missing")?;
+    let folder = format!(in alloc; "{path}/X")?;
+    let file = format!(in alloc; "{path}/F")?;
+    fs::write(&rt, file.as_str(), "put d a 1 x\n")?;
+    let mut host = RealHost::new(&rt);
+    let ran = run(alloc, &mut host, &folder, &file)?;
+    assert!(rt; ran.is(Status::Folder, "no store\n"), "{ran:?}");
+    assert!(rt; fs::metadata(&rt, folder.as_str()).is_err());
+    fs::create_dir(&rt, folder.as_str())?;
+    let made = init(alloc, &mut host, &folder)?;
+    assert!(rt; made.is(Status::Done, "made 2\n"), "{made:?}");
+    let ran = run(alloc, &mut host, &folder, &file)?;
+    assert!(rt; ran.status == Status::Done, "{ran:?}");
+    fs::remove_dir_all(&rt, path.as_str())?;
+    Ok(())
+}
+
+#[test]
+fn what_stands_behind_a_log_costs_nothing(rt: HostRuntime) -> Result<(), Fail> {
+    let alloc = rt.alloc();
+    let path = temporary(&rt, "tail")?;
+    let folder = format!(in alloc; "{path}/X")?;
+    let file = format!(in alloc; "{path}/F")?;
+    let log = format!(in alloc; "{path}/X/1.log")?;
+    fs::write(&rt, file.as_str(), "put d a 1 x sync\n")?;
+    let mut host = RealHost::new(&rt);
+    let made = init(alloc, &mut host, &folder)?;
+    assert!(rt; made.is(Status::Done, "made 2\n"), "{made:?}");
+    for opened in ["opened 0\n", "opened 1\n", "opened 2\n"] {
+        let ran = run(alloc, &mut host, &folder, &file)?;
+        assert!(rt; ran.status == Status::Done && ran.tells(opened), "{ran:?}");
+        let grown = fs::OpenOptions::new().write(true).open(&rt, log.as_str())?;
+        grown.set_len(3 << 30)?;
+    }
     fs::remove_dir_all(&rt, path.as_str())?;
     Ok(())
 }

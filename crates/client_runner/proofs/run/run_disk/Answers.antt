@@ -1,4 +1,8 @@
-use Rattle.std.proofs.Common.{subst}
+use Rattle.std.proofs.Common.{inl, subst}
+use Rattle.udt_disk.specs.Causes.{IsCause}
+use Rattle.udt_disk.proofs.Moments.{stands_all, leaves_all}
+use Rattle.recovery.specs.Fault.{is_open_disk_fault}
+use Rattle.recovery.specs.declared.fault.OpenFault.{OpenFault}
 use Rattle.client_runner.specs.Runs.{HasRunParts}
 use Rattle.client_runner.proofs.RunLemmas.{IsOpenedFrom, run_ready, run_refused}
 use Rattle.client_runner.proofs.run.run_disk.Goals as goal
@@ -22,3 +26,18 @@ returns-in-Err-ready-clause-stopped g c =
     let new = c.run_parts-disk.result.0 in
     let from : IsOpenedFrom d f c.args.disk parts = record { opened = e.opened; reads = e.reads; told = e.told; wal_told = e.wal_told; manifest_told = e.manifest_told; kept = e.kept } in
     run_refused d f c.args.disk new parts c.args.commands.items c.in-Err-ready.field-0 from (subst (HasRunParts d f parts new c.args.commands.items) c.in-Err-ready.is c.run_parts-disk.ensures.run)
+
+pub returns-in-Err-clause-stopped : goal.returns-in-Err-clause-stopped
+returns-in-Err-clause-stopped g c =
+    let d = g.D.Disk in
+    let f = g.D.File.DiskFile in
+    let e = c.in-Err.ensures in
+    let old = c.args.disk in
+    let new = c.in-Err.disk in
+    record {
+      fault = c.in-Err.fault;
+      stop_is = c.stop_of_opening.ensures;
+      refuses = e.refused;
+      cause = λ is. subst (λ (x : OpenFault). IsCause (is_open_disk_fault x) (d.faults old) (d.faults new)) is e.cause;
+      left = inl (record { stands = λ told n. stands_all d f old new e.gives_back told n; no_more = λ n image left. leaves_all d f old new e.gives_back n image left });
+    }

@@ -1,7 +1,7 @@
 use Rattle.std.proofs.Common.{◌≡◌, sym, ap, ◌∙◌, subst}
 use Rattle.std.specs.Prelude.{None}
 use Rattle.udt_model.specs.State.{State}
-use Rattle.wal.specs.Wals.{file_of}
+use Rattle.wal.specs.Wals.{wal_file}
 use Rattle.client_lang.specs.Print.{print_header}
 use Rattle.client_runner.specs.LoggedStores.{state_of, wal_of}
 use Rattle.client_runner.specs.Runs.{HasRunParts, state_of_parts}
@@ -33,11 +33,11 @@ returns-clause-run g c =
     elim c.match-header.branch [
       | in-Ok w ↦
           let now = w.run_over-ready.new.store in
-          let log = c.into_file.ensures ∙ ap (λ s. file_of (wal_of s)) w.store-is in
+          let log = c.into_file.ensures ∙ ap (λ s. wal_file (wal_of s)) w.store-is in
           subst (HasRunParts d f parts new commands) (sym w.ready-is)
           (parts_over d f parts new first now c.into_file.result c.into_file-2.result commands w.in-Ok.header.items w.run_over-ready.result wal is c.requires.fresh log c.into_file-2.ensures closed (w.in-Ok.ensures ∙ ap (print_header parts.last.0) c.deref.ensures.value) w.run_over-ready.ensures)
       | in-Err w ↦
-          let log = c.into_file.ensures ∙ ap (λ s. file_of (wal_of s)) w.store-is in
+          let log = c.into_file.ensures ∙ ap (λ s. wal_file (wal_of s)) w.store-is in
           subst (HasRunParts d f parts new commands) (sym w.ready-is)
           (parts_unmade d f parts new first c.into_file.result c.into_file-2.result commands _ wal is c.requires.fresh log c.into_file-2.ensures closed)
     ]

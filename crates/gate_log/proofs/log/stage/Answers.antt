@@ -1,6 +1,6 @@
 use Rattle.std.proofs.Common.{rules, ◌+◌, length}
 use Rattle.udt_disk.specs.Crash.{Image}
-use Rattle.gate_log.proofs.Steps.{write_and_sync}
+use Rattle.udt_disk.proofs.Runs.{write_and_sync}
 use Rattle.gate_log.proofs.log.stage.Goals as goal
 
 pub returns : goal.returns

@@ -1,30 +1,33 @@
-use Rattle.std.proofs.Common.{◌≡◌, []}
+use Rattle.std.proofs.Common.{◌≡◌, sym, ap, ◌∙◌}
+use Rattle.std.specs.Prelude.{is_some, false}
 use Rattle.udt_disk.specs.declared.name.FileName.TheVariants.{Current}
+use Rattle.udt_disk.proofs.Moments.{stands_all, leaves_all}
 use Rattle.udt_disk.proofs.TouchLemmas.{touches_then}
-use Rattle.manifest.proofs.Calls.{weaker_but, but_after_look}
+use Rattle.manifest.specs.Folders.{chosen_by}
+use Rattle.manifest.proofs.Files.{emptied_none, missing}
 use Rattle.manifest.proofs.manifest.empty_current.Goals as goal
-
-pub returns-in_err-is_there-clause-run : goal.returns-in_err-is_there-clause-run
-returns-in_err-is_there-clause-run g c =
-    let d = g.D.Disk in
-    let f = g.D.File.DiskFile in
-    weaker_but d f Current c.args.disk.now c.is_there.new.disk c.is_there.ensures.looks
 
 pub returns-then-branch-clause-touches : goal.returns-then-branch-clause-touches
 returns-then-branch-clause-touches g c =
     touches_then g.D.Disk (λ n. n ≡ Current) c.args.disk.now c.is_there.new.disk c.make_empty.new.disk c.is_there.ensures.touches c.make_empty.ensures.touches
 
-pub returns-then-branch-clause-run : goal.returns-then-branch-clause-run
-returns-then-branch-clause-run g c =
+pub returns-else-branch-clause-emptied : goal.returns-else-branch-clause-emptied
+returns-else-branch-clause-emptied g c told =
     let d = g.D.Disk in
-    let f = g.D.File.DiskFile in
     let old = c.args.disk.now in
-    let mid = c.is_there.new.disk in
-    let new = c.make_empty.new.disk in
-    but_after_look d f Current old mid new c.is_there.ensures.looks (c.make_empty.ensures.run [] (λ x held. absurd held))
+    let none : is_some (d.stands old Current) ≡ false = sym (c.in_ok-is_there.ensures.there told) ∙ c.if-branch.false in
+    stands_all d g.D.File.DiskFile old c.is_there.new.disk c.is_there.ensures.looks told Current ∙ sym (emptied_none (d.stands old Current) none)
 
-pub returns-else-branch-clause-run : goal.returns-else-branch-clause-run
-returns-else-branch-clause-run g c =
+pub returns-else-branch-clause-chooses : goal.returns-else-branch-clause-chooses
+returns-else-branch-clause-chooses g c told =
     let d = g.D.Disk in
-    let f = g.D.File.DiskFile in
-    weaker_but d f Current c.args.disk.now c.is_there.new.disk c.is_there.ensures.looks
+    let old = c.args.disk.now in
+    let none : is_some (d.stands old Current) ≡ false = sym (c.in_ok-is_there.ensures.there told) ∙ c.if-branch.false in
+    ap chosen_by (stands_all d g.D.File.DiskFile old c.is_there.new.disk c.is_there.ensures.looks told Current ∙ missing (d.stands old Current) none)
+
+pub returns-else-branch-clause-durable : goal.returns-else-branch-clause-durable
+returns-else-branch-clause-durable g c told stays image left =
+    let d = g.D.Disk in
+    let old = c.args.disk.now in
+    let none : is_some (d.stands old Current) ≡ false = sym (c.in_ok-is_there.ensures.there told) ∙ c.if-branch.false in
+    ap chosen_by (stays (missing (d.stands old Current) none) image (leaves_all d g.D.File.DiskFile old c.is_there.new.disk c.is_there.ensures.looks Current image left))

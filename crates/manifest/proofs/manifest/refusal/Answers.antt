@@ -1,7 +1,8 @@
-use Rattle.std.proofs.Common.{List, Ok, Err, subst}
+use Rattle.std.proofs.Common.{List, Ok, Err, subst, sym, ap, ◌∙◌}
+use Rattle.gate_log.specs.Faults.{is_frames_disk_fault}
 use Rattle.gate_log.specs.Placed.{Placed}
 use Rattle.manifest.specs.Answers.{Folds}
-use Rattle.manifest.proofs.FoldLemmas.{torn_there, outside_before}
+use Rattle.manifest.proofs.FoldLemmas.{torn_there, outside_before, not_by_disk}
 use Rattle.manifest.proofs.manifest.refusal.Goals as goal
 
 pub returns-in-Ok-clause-refusal : goal.returns-in-Ok-clause-refusal
@@ -13,3 +14,9 @@ pub returns-in-BadFrame-clause-refusal : goal.returns-in-BadFrame-clause-refusal
 returns-in-BadFrame-clause-refusal c bytes bad =
     let b = c.in-BadFrame in
     outside_before c.args.fault b.at b.before c.in-Err.fault bytes b.is (subst (λ (l : List Placed). Folds l (Err c.in-Err.fault)) c.deref.ensures.value c.in-Err.ensures) bad
+
+pub returns-in-Ok-clause-cause : goal.returns-in-Ok-clause-cause
+returns-in-Ok-clause-cause c = sym (ap is_frames_disk_fault c.in-BadFrame.is)
+
+pub returns-in-BadFrame-clause-cause : goal.returns-in-BadFrame-clause-cause
+returns-in-BadFrame-clause-cause c = not_by_disk c.deref.result.now c.in-Err.fault c.in-Err.ensures ∙ sym (ap is_frames_disk_fault c.in-BadFrame.is)

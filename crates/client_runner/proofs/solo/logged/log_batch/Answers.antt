@@ -1,5 +1,5 @@
 use Rattle.std.proofs.Common.{◌≡◌, ◌+◌, ◌++◌, ◌∷◌, [], length, ap, ◌∙◌, sym, arith}
-use Rattle.wal.specs.Wals.{file_of}
+use Rattle.wal.specs.Wals.{wal_file}
 use Rattle.wal.proofs.WalLemmas.{ready_from}
 use Rattle.client_runner.proofs.LoggingLemmas.{holds_synced, run_from, same_from}
 use Rattle.client_runner.proofs.solo.logged.log_batch.Goals as goal
@@ -16,13 +16,13 @@ returns-in-Ok-sync g c =
     let n = c.args.first.0 + length c.args.batch.now in
     let waits = c.in-Ok.ensures in
     let told = c.in-Ok-sync.ensures in
-    let faults : f.faults (file_of new) ≡ f.faults (file_of old) = told.cause.kept ∙ ap f.faults waits.file in
+    let faults : f.faults (wal_file new) ≡ f.faults (wal_file old) = told.cause.kept ∙ ap f.faults waits.file in
     record {
       goes_on = (record { next = told.goes_on n waits.goes_on; room = omega (arith, told.pending) }, faults);
       holds = λ bs ws holds. holds_synced f new bs ws _ c.args.sync (told.holds bs (ws ++ record { first = c.args.first; batch = c.args.batch.now } ∷ []) (waits.holds bs ws holds));
-      moments = λ bs ws holds. run_from f old mid (file_of new) bs (ws ++ record { first = c.args.first; batch = c.args.batch.now } ∷ []) waits.file waits.sizes (told.moments bs (ws ++ record { first = c.args.first; batch = c.args.batch.now } ∷ []) (waits.holds bs ws holds));
+      moments = λ bs ws holds. run_from f old mid (wal_file new) bs (ws ++ record { first = c.args.first; batch = c.args.batch.now } ∷ []) waits.file waits.sizes (told.moments bs (ws ++ record { first = c.args.first; batch = c.args.batch.now } ∷ []) (waits.holds bs ws holds));
       later = omega (arith, faults);
-      same = same_from f (file_of old) (file_of mid) (file_of new) waits.file told.same;
+      same = same_from f (wal_file old) (wal_file mid) (wal_file new) waits.file told.same;
       sizes = told.sizes ∙ waits.sizes;
     }
 
@@ -34,12 +34,12 @@ returns-in-Err-sync g c =
     let new = c.sync.new.self in
     let waits = c.in-Ok.ensures in
     let told = c.in-Err-sync.ensures in
-    let faults : f.faults (file_of mid) ≡ f.faults (file_of old) = ap f.faults waits.file in
+    let faults : f.faults (wal_file mid) ≡ f.faults (wal_file old) = ap f.faults waits.file in
     record {
       goes_on = rw (sym faults) told.cause.failed;
       holds = λ bs ws holds. tt;
-      moments = λ bs ws holds. run_from f old mid (file_of new) bs (ws ++ record { first = c.args.first; batch = c.args.batch.now } ∷ []) waits.file waits.sizes (told.moments bs (ws ++ record { first = c.args.first; batch = c.args.batch.now } ∷ []) (waits.holds bs ws holds));
+      moments = λ bs ws holds. run_from f old mid (wal_file new) bs (ws ++ record { first = c.args.first; batch = c.args.batch.now } ∷ []) waits.file waits.sizes (told.moments bs (ws ++ record { first = c.args.first; batch = c.args.batch.now } ∷ []) (waits.holds bs ws holds));
       later = omega (arith, faults, told.cause.later);
-      same = same_from f (file_of old) (file_of mid) (file_of new) waits.file told.same;
+      same = same_from f (wal_file old) (wal_file mid) (wal_file new) waits.file told.same;
       sizes = told.sizes ∙ waits.sizes;
     }

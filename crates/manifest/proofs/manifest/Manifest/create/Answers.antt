@@ -1,18 +1,18 @@
 use Rattle.std.proofs.Common.{◌≡◌, List, [], ◌∷◌, sym, ◌∙◌, subst}
 use Rattle.std.specs.Prelude.{IsTrue}
-use Rattle.udt_disk.specs.Crash.{Image, NoMore}
-use Rattle.udt_disk.specs.Joint.{IsHeld, Ran}
-use Rattle.udt_disk.specs.Touches.{Touches}
+use Rattle.udt_disk.specs.Crash.{Image}
+use Rattle.udt_disk.specs.Joint.{Ran}
 use Rattle.udt_disk.specs.declared.name.FileName.{FileName}
-use Rattle.udt_disk.specs.declared.name.FileName.TheVariants.{Manifest0, Current}
+use Rattle.udt_disk.specs.declared.name.FileName.TheVariants.{Manifest0, Current, Made}
+use Rattle.udt_disk.specs.Moments.{holding, alone}
+use Rattle.udt_disk.proofs.Moments.{Giving, disk_step, take_step}
 use Rattle.udt_disk.proofs.TouchLemmas.{touches_one}
 use Rattle.gate_log.specs.Frames.{IsBody}
 use Rattle.manifest.specs.Files.{HasFold}
 use Rattle.manifest.specs.Folders.{chosen_by}
 use Rattle.manifest.specs.Folds.{fold_of}
 use Rattle.manifest.specs.Making.{IsNoneOrAll}
-use Rattle.manifest.specs.Moments.{holding, alone}
-use Rattle.manifest.proofs.Makes.{at_rest_now, first_step, second_step, third_step, gives_back, all_there, head_of, has_fold, not_made, early_names}
+use Rattle.manifest.proofs.Makes.{at_rest_now, first_step, second_step, third_step, gives_back, all_there, head_of, has_fold, early_names}
 use Rattle.manifest.proofs.Files.{none_made}
 use Rattle.manifest.proofs.Sizes.{head_fits}
 use Rattle.manifest.proofs.manifest.Manifest.create.Goals as goal
@@ -37,7 +37,7 @@ returns-in-Err-clause-moments g c unmade =
     let f = g.F.DiskFile in
     let disk_now = λ (x : _) (n : FileName) (image : Image) (left : d.left_since x (d.moment x) n image). (g.met.D.Disk g.world.𝓛 g.world.𝓜 g.world.𝓡 ((λ s x. x), (λ x. x), (λ x. x), λ x. x)).only_now x n image left in
     let file_now = λ (x : _) (image : Image) (left : f.left_since x (f.moment x) image). (g.met.F.DiskFile g.world.𝓛 g.world.𝓜 g.world.𝓡 ((λ s x. x), (λ x. x), (λ x. x), λ x. x)).only_now x image left in
-    first_step d f disk_now file_now c.args.head.now.families c.args.disk.now unmade c.empty_current.new.disk c.empty_current.ensures.run
+    first_step d f disk_now file_now c.args.head.now.families c.args.disk.now unmade c.empty_current.new.disk c.empty_current.ensures.touches
 
 pub returns-in_err-log-clause-moments : goal.returns-in_err-log-clause-moments
 returns-in_err-log-clause-moments g c unmade =
@@ -49,8 +49,7 @@ returns-in_err-log-clause-moments g c unmade =
     let zero = c.args.disk.now in
     let one = c.empty_current.new.disk in
     let two = c.make_log.new.disk in
-    let first = first_step d f disk_now file_now families zero unmade one c.empty_current.ensures.run in
-    let second = second_step d f disk_now file_now families zero unmade one (alone two) c.empty_current.ensures.touches c.in_err-log.ensures.run first in
+    let second = second_step d f disk_now file_now families zero unmade one (alone two) c.empty_current.ensures.touches (disk_step d f disk_now file_now [] (λ n. n ≡ Manifest0) one two c.make_log.ensures.touches) in
     subst (λ (files : List g.row.F.Denot). Ran d f (IsNoneOrAll d zero families) (alone zero) (holding two files)) (sym (none_made c.from_residual.result c.from_residual.ensures.0)) second
 
 pub returns-in-Ok-make_empty-clause-moments : goal.returns-in-Ok-make_empty-clause-moments
@@ -66,16 +65,14 @@ returns-in-Ok-make_empty-clause-moments g c unmade =
     let three = c.make_empty.new.disk in
     let m = c.in_ok-log.log.file in
     let made = c.in_ok-log.ensures in
-    let first = first_step d f disk_now file_now families zero unmade one c.empty_current.ensures.run in
-    let second = second_step d f disk_now file_now families zero unmade one (holding two (m ∷ [])) c.empty_current.ensures.touches made.run first in
+    let second = second_step d f disk_now file_now families zero unmade one (holding two (m ∷ [])) c.empty_current.ensures.touches (take_step d f disk_now file_now [] (λ n. n ≡ Manifest0) one two m c.make_log.ensures.touches made.name) in
     let touched = early_names d zero one two c.empty_current.ensures.touches c.make_log.ensures.touches in
     let current : (image : Image) → d.may_leave two Current image → chosen_by image ≡ Manifest0 = λ image left. c.in-Ok-empty_current.ensures.durable unmade.told unmade.current image (c.make_log.ensures.touches.no_more Current image (λ is. cc) left) in
     let rest = made.at_rest (subst IsTrue (sym c.empty_current.ensures.touches.told) unmade.told) in
     let head = head_of families c.as_slice.result.now c.deref.result.now c.in-Ok.body.items c.requires c.as_slice.ensures c.in-Ok.ensures.text c.in-Ok.ensures.named c.deref.ensures.value in
     let fold = has_fold (f.seen m) c.deref.result.now families rest.logged.file head in
     let file : (image : Image) → f.may_leave m image → HasFold image (fold_of families) = λ image left. subst (λ (k : Image). HasFold k (fold_of families)) (sym (rest.durable image left)) fold in
-    let apart = λ (x : _) (held : IsHeld (m ∷ []) x). not_made f.name m x made.name held in
-    third_step d f disk_now file_now families zero unmade two m touched made.name current file (holding three (m ∷ [])) (c.make_empty.ensures.run (m ∷ []) apart) second
+    third_step d f disk_now file_now families zero unmade two m touched made.name current file (holding three (m ∷ [])) (disk_step d f disk_now file_now (m ∷ []) (λ n. n ≡ Made) two three c.make_empty.ensures.touches) second
 
 pub returns-in-Ok-make_empty-clause-durable : goal.returns-in-Ok-make_empty-clause-durable
 returns-in-Ok-make_empty-clause-durable g c unmade =
@@ -90,15 +87,13 @@ returns-in-Ok-make_empty-clause-durable g c unmade =
     let three = c.make_empty.new.disk in
     let m = c.in_ok-log.log.file in
     let made = c.in_ok-log.ensures in
-    let first = first_step d f disk_now file_now families zero unmade one c.empty_current.ensures.run in
-    let second = second_step d f disk_now file_now families zero unmade one (holding two (m ∷ [])) c.empty_current.ensures.touches made.run first in
+    let second = second_step d f disk_now file_now families zero unmade one (holding two (m ∷ [])) c.empty_current.ensures.touches (take_step d f disk_now file_now [] (λ n. n ≡ Manifest0) one two m c.make_log.ensures.touches made.name) in
     let touched = early_names d zero one two c.empty_current.ensures.touches c.make_log.ensures.touches in
     let current : (image : Image) → d.may_leave two Current image → chosen_by image ≡ Manifest0 = λ image left. c.in-Ok-empty_current.ensures.durable unmade.told unmade.current image (c.make_log.ensures.touches.no_more Current image (λ is. cc) left) in
     let rest = made.at_rest (subst IsTrue (sym c.empty_current.ensures.touches.told) unmade.told) in
     let head = head_of families c.as_slice.result.now c.deref.result.now c.in-Ok.body.items c.requires c.as_slice.ensures c.in-Ok.ensures.text c.in-Ok.ensures.named c.deref.ensures.value in
     let fold = has_fold (f.seen m) c.deref.result.now families rest.logged.file head in
     let file : (image : Image) → f.may_leave m image → HasFold image (fold_of families) = λ image left. subst (λ (k : Image). HasFold k (fold_of families)) (sym (rest.durable image left)) fold in
-    let apart = λ (x : _) (held : IsHeld (m ∷ []) x). not_made f.name m x made.name held in
     let told = subst IsTrue (sym touched.told) unmade.told in
     all_there d f disk_now file_now families zero unmade two m touched made.name current file three c.make_empty.ensures.touches (c.in-Ok-make_empty.ensures.durable told)
 
@@ -115,20 +110,17 @@ returns-clause-moments g c unmade =
     let three = c.make_empty.new.disk in
     let m = c.in_ok-log.log.file in
     let made = c.in_ok-log.ensures in
-    let first = first_step d f disk_now file_now families zero unmade one c.empty_current.ensures.run in
-    let second = second_step d f disk_now file_now families zero unmade one (holding two (m ∷ [])) c.empty_current.ensures.touches made.run first in
+    let second = second_step d f disk_now file_now families zero unmade one (holding two (m ∷ [])) c.empty_current.ensures.touches (take_step d f disk_now file_now [] (λ n. n ≡ Manifest0) one two m c.make_log.ensures.touches made.name) in
     let touched = early_names d zero one two c.empty_current.ensures.touches c.make_log.ensures.touches in
     let current : (image : Image) → d.may_leave two Current image → chosen_by image ≡ Manifest0 = λ image left. c.in-Ok-empty_current.ensures.durable unmade.told unmade.current image (c.make_log.ensures.touches.no_more Current image (λ is. cc) left) in
     let rest = made.at_rest (subst IsTrue (sym c.empty_current.ensures.touches.told) unmade.told) in
     let head = head_of families c.as_slice.result.now c.deref.result.now c.in-Ok.body.items c.requires c.as_slice.ensures c.in-Ok.ensures.text c.in-Ok.ensures.named c.deref.ensures.value in
     let fold = has_fold (f.seen m) c.deref.result.now families rest.logged.file head in
     let file : (image : Image) → f.may_leave m image → HasFold image (fold_of families) = λ image left. subst (λ (k : Image). HasFold k (fold_of families)) (sym (rest.durable image left)) fold in
-    let apart = λ (x : _) (held : IsHeld (m ∷ []) x). not_made f.name m x made.name held in
     let x = c.into_file.result in
     let r = c.retire.ensures in
     let new = c.retire.new.self in
     let same : x ≡ m = c.into_file.ensures in
-    let back = subst (λ (y : _). Touches d (λ n. n ≡ f.name y) three new) same (touches_one d _ (f.name x) three new (λ n free. free) r.others r.time r.told r.model) in
-    let crash = subst (λ (y : _). NoMore (f.may_leave y) (d.may_leave new (f.name y))) same r.crash in
+    let giving : Giving d f three new x = record { touches = touches_one d _ (f.name x) three new (λ n free. free) r.others r.time r.told r.model; stands = r.stands; crash = r.crash } in
     third_step d f disk_now file_now families zero unmade two m touched made.name current file (alone new)
-    (gives_back d f disk_now file_now families zero unmade two m touched made.name current file three new c.make_empty.ensures.touches back crash (c.make_empty.ensures.run (m ∷ []) apart)) second
+    (gives_back d f disk_now file_now families zero unmade two m touched made.name current file three new c.make_empty.ensures.touches (subst (Giving d f three new) same giving) (made.file_told ∙ sym c.make_log.ensures.touches.told ∙ sym c.make_empty.ensures.touches.told)) second

@@ -1,14 +1,14 @@
-use Rattle.std.proofs.Common.{◌≡◌, sym, ap, ◌∙◌, subst}
+use Rattle.std.proofs.Common.{◌≡◌, List, [], ◌∷◌, sym, ap, ◌∙◌, subst}
 use Rattle.std.specs.Prelude.{Some, IsTrue}
 use Rattle.udt_disk.specs.Crash.{Image}
 use Rattle.udt_disk.specs.Touches.{Touches}
 use Rattle.udt_disk.specs.declared.name.FileName.{FileName}
 use Rattle.udt_disk.specs.declared.name.FileName.TheVariants.{Current, Made}
-use Rattle.udt_disk.proofs.TouchLemmas.{touches_one, touches_then}
+use Rattle.udt_disk.specs.Moments.{OnlyReads, alone, holding}
+use Rattle.udt_disk.proofs.Moments.{only_then, stands_all, disk_step, open_step, read_step, look_step}
+use Rattle.udt_disk.proofs.TouchLemmas.{touches_one, touches_then, touches_none}
 use Rattle.gate_log.specs.Frames.{IsLog}
 use Rattle.manifest.specs.Folders.{chosen, chosen_by}
-use Rattle.manifest.specs.Moments.{OnlyReads}
-use Rattle.manifest.proofs.Calls.{looks_at_none, looks_and_gives, looks_then, reads_none, reads_file, touches_none}
 use Rattle.manifest.proofs.Files.{none_read}
 use Rattle.manifest.proofs.Makes.{read_names}
 use Rattle.manifest.proofs.Meanings.{made_there, refused_once, found_once}
@@ -23,9 +23,9 @@ returns-in_err-name-clause-reads g c =
     let zero = c.args.disk.now in
     let one = c.is_there.new.disk in
     let two = c.chosen.new.disk in
-    let look = looks_then d f disk_now file_now zero one two c.is_there.ensures.touches.told c.is_there.ensures.looks c.chosen.ensures.looks in
+    let look = only_then d f (λ n. ⊥) (alone zero) (alone one) (alone two) c.is_there.ensures.looks c.chosen.ensures.looks in
     let told_two : d.is_told two ≡ d.is_told zero = c.chosen.ensures.touches.told ∙ c.is_there.ensures.touches.told in
-    subst (OnlyReads d f zero two) (sym (none_read c.from_residual-in_err-name.result c.from_residual-in_err-name.ensures.0)) (reads_none d f disk_now file_now zero two look)
+    subst (λ (files : List g.row.F.Denot). OnlyReads d f (alone zero) (holding two files)) (sym (none_read c.from_residual-in_err-name.result c.from_residual-in_err-name.ensures.0)) look
 
 pub returns-in_err-file-clause-reads : goal.returns-in_err-file-clause-reads
 returns-in_err-file-clause-reads g c =
@@ -36,13 +36,13 @@ returns-in_err-file-clause-reads g c =
     let zero = c.args.disk.now in
     let one = c.is_there.new.disk in
     let two = c.chosen.new.disk in
-    let look = looks_then d f disk_now file_now zero one two c.is_there.ensures.touches.told c.is_there.ensures.looks c.chosen.ensures.looks in
+    let look = only_then d f (λ n. ⊥) (alone zero) (alone one) (alone two) c.is_there.ensures.looks c.chosen.ensures.looks in
     let told_two : d.is_told two ≡ d.is_told zero = c.chosen.ensures.touches.told ∙ c.is_there.ensures.touches.told in
     let three = c.open_file.new.self in
     let name = c.in_ok-name.name in
     let e = c.in_err-file.ensures in
-    let last = looks_at_none d f disk_now file_now two name three (touches_none d f _ name two three (λ n. tt) e.stays e.stays_crash e.others e.time e.told e.model) in
-    subst (OnlyReads d f zero three) (sym (none_read c.from_residual-in_err-file.result c.from_residual-in_err-file.ensures.0)) (reads_none d f disk_now file_now zero three (looks_then d f disk_now file_now zero two three told_two look last))
+    let last = disk_step d f disk_now file_now [] (λ n. ⊥) two three (touches_none d _ name two three (λ n. tt) e.stays e.stays_crash e.others e.time e.told e.model) in
+    subst (λ (files : List g.row.F.Denot). OnlyReads d f (alone zero) (holding three files)) (sym (none_read c.from_residual-in_err-file.result c.from_residual-in_err-file.ensures.0)) (only_then d f (λ n. ⊥) (alone zero) (alone two) (alone three) look last)
 
 pub returns-in_err-file-clause-touches : goal.returns-in_err-file-clause-touches
 returns-in_err-file-clause-touches g c =
@@ -53,7 +53,7 @@ returns-in_err-file-clause-touches g c =
     let zero = c.args.disk.now in
     let one = c.is_there.new.disk in
     let two = c.chosen.new.disk in
-    let look = looks_then d f disk_now file_now zero one two c.is_there.ensures.touches.told c.is_there.ensures.looks c.chosen.ensures.looks in
+    let look = only_then d f (λ n. ⊥) (alone zero) (alone one) (alone two) c.is_there.ensures.looks c.chosen.ensures.looks in
     let told_two : d.is_told two ≡ d.is_told zero = c.chosen.ensures.touches.told ∙ c.is_there.ensures.touches.told in
     let three = c.open_file.new.self in
     let name = c.in_ok-name.name in
@@ -70,13 +70,13 @@ returns-in_default-clause-reads g c =
     let zero = c.args.disk.now in
     let one = c.is_there.new.disk in
     let two = c.chosen.new.disk in
-    let look = looks_then d f disk_now file_now zero one two c.is_there.ensures.touches.told c.is_there.ensures.looks c.chosen.ensures.looks in
+    let look = only_then d f (λ n. ⊥) (alone zero) (alone one) (alone two) c.is_there.ensures.looks c.chosen.ensures.looks in
     let told_two : d.is_told two ≡ d.is_told zero = c.chosen.ensures.touches.told ∙ c.is_there.ensures.touches.told in
     let three = c.open_file.new.self in
     let name = c.in_ok-name.name in
     let e = rw c.in_default.is at c.in_ok-file.ensures in
-    let last = looks_at_none d f disk_now file_now two name three (touches_none d f _ name two three (λ n. tt) e.stays e.stays_crash e.others e.time e.told e.model) in
-    reads_none d f disk_now file_now zero three (looks_then d f disk_now file_now zero two three told_two look last)
+    let last = disk_step d f disk_now file_now [] (λ n. ⊥) two three (touches_none d _ name two three (λ n. tt) e.stays e.stays_crash e.others e.time e.told e.model) in
+    only_then d f (λ n. ⊥) (alone zero) (alone two) (alone three) look last
 
 pub returns-in_default-clause-touches : goal.returns-in_default-clause-touches
 returns-in_default-clause-touches g c =
@@ -87,7 +87,7 @@ returns-in_default-clause-touches g c =
     let zero = c.args.disk.now in
     let one = c.is_there.new.disk in
     let two = c.chosen.new.disk in
-    let look = looks_then d f disk_now file_now zero one two c.is_there.ensures.touches.told c.is_there.ensures.looks c.chosen.ensures.looks in
+    let look = only_then d f (λ n. ⊥) (alone zero) (alone one) (alone two) c.is_there.ensures.looks c.chosen.ensures.looks in
     let told_two : d.is_told two ≡ d.is_told zero = c.chosen.ensures.touches.told ∙ c.is_there.ensures.touches.told in
     let three = c.open_file.new.self in
     let name = c.in_ok-name.name in
@@ -104,7 +104,7 @@ returns-in-Ok-clause-only g c told m means =
     let zero = c.args.disk.now in
     let one = c.is_there.new.disk in
     let two = c.chosen.new.disk in
-    let look = looks_then d f disk_now file_now zero one two c.is_there.ensures.touches.told c.is_there.ensures.looks c.chosen.ensures.looks in
+    let look = only_then d f (λ n. ⊥) (alone zero) (alone one) (alone two) c.is_there.ensures.looks c.chosen.ensures.looks in
     let told_two : d.is_told two ≡ d.is_told zero = c.chosen.ensures.touches.told ∙ c.is_there.ensures.touches.told in
     let three = c.open_file.new.self in
     let name = c.in_ok-name.name in
@@ -113,8 +113,8 @@ returns-in-Ok-clause-only g c told m means =
     let made = made_there c.in_ok-is_there.field-0 (folder Made) c.if-not-branch.false (c.in_ok-is_there.ensures.there told) in
     let told_one = subst IsTrue (sym c.is_there.ensures.touches.told) told in
     let told_now = subst IsTrue (sym told_two) told in
-    let named : name ≡ chosen folder = c.in_ok-name.ensures.chosen told_one ∙ ap chosen_by (c.is_there.ensures.looks.stands told Current) in
-    let is : folder (chosen folder) ≡ Some (f.seen c.in-Some.file) = ap folder (sym named) ∙ sym (look.stands told name) ∙ e.stood told_now in
+    let named : name ≡ chosen folder = c.in_ok-name.ensures.chosen told_one ∙ ap chosen_by (stands_all d f zero one c.is_there.ensures.looks told Current) in
+    let is : folder (chosen folder) ≡ Some (f.seen c.in-Some.file) = ap folder (sym named) ∙ sym (stands_all d f zero two look told name) ∙ e.stood told_now in
     let told_file = subst IsTrue (sym (e.file_told ∙ told_two)) told in
     let shows = c.in-Ok.ensures.shows told_file in
     found_once folder (f.seen c.in-Some.file) c.in-Ok.fold made is (shows.0, subst (IsLog shows.0) c.in-Ok.ensures.same.seen shows.1.file, shows.2) m means
@@ -128,14 +128,17 @@ returns-in-Ok-clause-reads g c =
     let zero = c.args.disk.now in
     let one = c.is_there.new.disk in
     let two = c.chosen.new.disk in
-    let look = looks_then d f disk_now file_now zero one two c.is_there.ensures.touches.told c.is_there.ensures.looks c.chosen.ensures.looks in
+    let look = only_then d f (λ n. ⊥) (alone zero) (alone one) (alone two) c.is_there.ensures.looks c.chosen.ensures.looks in
     let told_two : d.is_told two ≡ d.is_told zero = c.chosen.ensures.touches.told ∙ c.is_there.ensures.touches.told in
     let three = c.open_file.new.self in
     let name = c.in_ok-name.name in
     let e = rw c.in-Some.is at c.in_ok-file.ensures in
-    reads_file d f disk_now file_now name zero two three c.in-Some.file c.in-Ok.log.file told_two look
-    (record { touches = touches_one d _ name two three (λ n apart. apart) e.others e.time e.told e.model; stood = e.stood; told = e.file_told; name = e.name; crash = e.crash })
-    c.in-Ok.ensures.same
+    let x = c.in-Some.file in
+    let y = c.in-Ok.log.file in
+    only_then d f (λ n. ⊥) (alone zero) (holding three (x ∷ [])) (holding three (y ∷ []))
+    (only_then d f (λ n. ⊥) (alone zero) (alone two) (holding three (x ∷ [])) look (open_step d f disk_now file_now [] name two three x
+    (record { touches = touches_one d _ name two three (λ n apart. apart) e.others e.time e.told e.model; stood = e.stood; told = e.file_told; name = e.name; crash = e.crash })))
+    (read_step d f disk_now file_now [] three x y c.in-Ok.ensures.same)
 
 pub returns-in-Ok-clause-touches : goal.returns-in-Ok-clause-touches
 returns-in-Ok-clause-touches g c =
@@ -146,7 +149,7 @@ returns-in-Ok-clause-touches g c =
     let zero = c.args.disk.now in
     let one = c.is_there.new.disk in
     let two = c.chosen.new.disk in
-    let look = looks_then d f disk_now file_now zero one two c.is_there.ensures.touches.told c.is_there.ensures.looks c.chosen.ensures.looks in
+    let look = only_then d f (λ n. ⊥) (alone zero) (alone one) (alone two) c.is_there.ensures.looks c.chosen.ensures.looks in
     let told_two : d.is_told two ≡ d.is_told zero = c.chosen.ensures.touches.told ∙ c.is_there.ensures.touches.told in
     let three = c.open_file.new.self in
     let name = c.in_ok-name.name in
@@ -163,7 +166,7 @@ returns-in-Err-clause-only g c told m means =
     let zero = c.args.disk.now in
     let one = c.is_there.new.disk in
     let two = c.chosen.new.disk in
-    let look = looks_then d f disk_now file_now zero one two c.is_there.ensures.touches.told c.is_there.ensures.looks c.chosen.ensures.looks in
+    let look = only_then d f (λ n. ⊥) (alone zero) (alone one) (alone two) c.is_there.ensures.looks c.chosen.ensures.looks in
     let told_two : d.is_told two ≡ d.is_told zero = c.chosen.ensures.touches.told ∙ c.is_there.ensures.touches.told in
     let three = c.open_file.new.self in
     let name = c.in_ok-name.name in
@@ -172,8 +175,8 @@ returns-in-Err-clause-only g c told m means =
     let made = made_there c.in_ok-is_there.field-0 (folder Made) c.if-not-branch.false (c.in_ok-is_there.ensures.there told) in
     let told_one = subst IsTrue (sym c.is_there.ensures.touches.told) told in
     let told_now = subst IsTrue (sym told_two) told in
-    let named : name ≡ chosen folder = c.in_ok-name.ensures.chosen told_one ∙ ap chosen_by (c.is_there.ensures.looks.stands told Current) in
-    let is : folder (chosen folder) ≡ Some (f.seen c.in-Some.file) = ap folder (sym named) ∙ sym (look.stands told name) ∙ e.stood told_now in
+    let named : name ≡ chosen folder = c.in_ok-name.ensures.chosen told_one ∙ ap chosen_by (stands_all d f zero one c.is_there.ensures.looks told Current) in
+    let is : folder (chosen folder) ≡ Some (f.seen c.in-Some.file) = ap folder (sym named) ∙ sym (stands_all d f zero two look told name) ∙ e.stood told_now in
     let told_file = subst IsTrue (sym (e.file_told ∙ told_two)) told in
     refused_once folder (f.seen c.in-Some.file) c.in-Err.fault made is (c.in-Err.ensures.refused told_file) m means
 
@@ -186,7 +189,7 @@ returns-in-Err-clause-reads g c =
     let zero = c.args.disk.now in
     let one = c.is_there.new.disk in
     let two = c.chosen.new.disk in
-    let look = looks_then d f disk_now file_now zero one two c.is_there.ensures.touches.told c.is_there.ensures.looks c.chosen.ensures.looks in
+    let look = only_then d f (λ n. ⊥) (alone zero) (alone one) (alone two) c.is_there.ensures.looks c.chosen.ensures.looks in
     let told_two : d.is_told two ≡ d.is_told zero = c.chosen.ensures.touches.told ∙ c.is_there.ensures.touches.told in
     let three = c.open_file.new.self in
     let name = c.in_ok-name.name in
@@ -194,11 +197,12 @@ returns-in-Err-clause-reads g c =
     let r = c.retire.ensures in
     let x = c.in-Some.file in
     let y = c.in-Err.file in
-    let last = looks_and_gives d f disk_now file_now two name three c.retire.new.self x y
+    let last = look_step d f disk_now file_now [] name two three c.retire.new.self x y
     (record { touches = touches_one d _ name two three (λ n apart. apart) e.others e.time e.told e.model; stood = e.stood; told = e.file_told; name = e.name; crash = e.crash })
     c.in-Err.ensures.same
-    (record { touches = touches_one d _ (f.name y) three c.retire.new.self (λ n apart. apart) r.others r.time r.told r.model; stands = r.stands; crash = r.crash }) in
-    reads_none d f disk_now file_now zero c.retire.new.self (looks_then d f disk_now file_now zero two c.retire.new.self told_two look last)
+    (record { touches = touches_one d _ (f.name y) three c.retire.new.self (λ n apart. apart) r.others r.time r.told r.model; stands = r.stands; crash = r.crash })
+    (λ z none. absurd none) in
+    only_then d f (λ n. ⊥) (alone zero) (alone two) (alone c.retire.new.self) look last
 
 pub returns-in-Err-clause-touches : goal.returns-in-Err-clause-touches
 returns-in-Err-clause-touches g c =
@@ -209,7 +213,7 @@ returns-in-Err-clause-touches g c =
     let zero = c.args.disk.now in
     let one = c.is_there.new.disk in
     let two = c.chosen.new.disk in
-    let look = looks_then d f disk_now file_now zero one two c.is_there.ensures.touches.told c.is_there.ensures.looks c.chosen.ensures.looks in
+    let look = only_then d f (λ n. ⊥) (alone zero) (alone one) (alone two) c.is_there.ensures.looks c.chosen.ensures.looks in
     let told_two : d.is_told two ≡ d.is_told zero = c.chosen.ensures.touches.told ∙ c.is_there.ensures.touches.told in
     let three = c.open_file.new.self in
     let name = c.in_ok-name.name in

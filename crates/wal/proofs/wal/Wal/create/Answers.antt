@@ -24,7 +24,7 @@ returns-in_default-clause-moments g c others free =
     let old = c.args.disk.now in
     let name = Log c.args.number in
     let told = c.in_default.ensures in
-    not_made d f disk_now file_now old others name (λ n. n ≡ name) (λ n is_free other is. other is) free c.create.new.self
+    not_made d f disk_now file_now old others name free c.create.new.self
     (touches_one d _ name old c.create.new.self (λ n other. tt) told.others told.time told.told told.model) told.failed_crash (λ image left. told.time.nothing_else (d.moment old) name image (omega arith) tt left)
 
 pub returns-in-Ok-create-clause-moments : goal.returns-in-Ok-create-clause-moments
@@ -36,7 +36,7 @@ returns-in-Ok-create-clause-moments g c others free =
     let old = c.args.disk.now in
     let name = Log c.args.number in
     let told = c.in-Ok.ensures in
-    is_made d f disk_now file_now old others name (λ n. n ≡ name) (λ n is_free other is. other is) free c.create.new.self c.in-Ok.file (gate.file_of c.in-Ok-create.log)
+    is_made d f disk_now file_now old others name free c.create.new.self c.in-Ok.file (gate.log_file c.in-Ok-create.log)
     (touches_one d _ name old c.create.new.self (λ n other. other) told.others told.time told.told told.model) told.name c.in-Ok-create.ensures.same.name told.crash c.in-Ok-create.ensures.moments
 
 pub returns-in-Err-clause-moments : goal.returns-in-Err-clause-moments
@@ -51,7 +51,7 @@ returns-in-Err-clause-moments g c others free =
     let file = c.in-Err.file in
     let back = touches_one d _ (f.name file) c.create.new.self c.retire.new.self (λ n other. other) c.retire.ensures.others c.retire.ensures.time c.retire.ensures.told c.retire.ensures.model in
     let named : f.name file ≡ name = c.in-Err.ensures.same.name ∙ told.name in
-    is_unmade d f disk_now file_now old others name (λ n. n ≡ name) (λ n is_free other is. other is) free c.create.new.self c.in-Ok.file file
+    is_unmade d f disk_now file_now old others name free c.create.new.self c.in-Ok.file file
     (touches_one d _ name old c.create.new.self (λ n other. other) told.others told.time told.told told.model) told.name c.in-Err.ensures.same.name told.crash c.in-Err.ensures.moments c.retire.new.self
     (touches_more d (λ n. n ≡ f.name file) (λ n. n ≡ name) c.create.new.self c.retire.new.self (λ n is. is ∙ named) back) c.retire.ensures.crash
 

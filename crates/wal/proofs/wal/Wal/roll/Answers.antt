@@ -1,15 +1,16 @@
-use Rattle.std.proofs.Common.{◌≡◌, ◌⊎◌, inl, inr, ⊎_elim, [], ◌∷◌, refl, sym, ap, ◌∙◌, arith, subst}
+use Rattle.std.proofs.Common.{◌≡◌, [], ◌∷◌, refl, sym, ap, ◌∙◌, arith, subst}
 use Rattle.std.specs.Prelude.{IsTrue}
 use Rattle.std.proofs.lemmas.List.{nil_from_length}
 use Rattle.udt_disk.specs.Crash.{Image, NoMore}
-use Rattle.udt_disk.specs.Joint.{Ran, IsHeld}
+use Rattle.udt_disk.specs.Joint.{Ran}
+use Rattle.udt_disk.specs.Moments.{holding}
 use Rattle.udt_disk.specs.declared.name.FileName.{FileName}
 use Rattle.udt_disk.specs.declared.name.FileName.TheVariants.{Log}
 use Rattle.udt_disk.proofs.TouchLemmas.{touches_one, touches_more}
 use Rattle.gate_log.specs.GateLog as gate
 use Rattle.gate_log.specs.declared.log.GateLog.{GateLog}
-use Rattle.wal.specs.Making.{IsWhileMade, joint}
-use Rattle.wal.specs.Wals.{file_of}
+use Rattle.wal.specs.Making.{IsWhileMade}
+use Rattle.wal.specs.Wals.{wal_file}
 use Rattle.wal.proofs.Making.{not_made, is_unmade, is_rolled}
 use Rattle.wal.proofs.WalLemmas.{shows_nothing, same_wal}
 use Rattle.wal.proofs.wal.Wal.roll.Goals as goal
@@ -22,9 +23,9 @@ returns-in_err-file-clause-moments g c others free apart =
     let file_now = λ (x : g.row.F.Denot) (image : Image) (left : f.left_since x (f.moment x) image). (g.met.F.DiskFile g.world.𝓛 g.world.𝓜 g.world.𝓡 ((λ s x. x), (λ x. x), (λ x. x), λ x. x)).only_now x image left in
     let old = c.args.disk.now in
     let name = Log c.args.number in
-    let held = file_of c.args.self.now in
+    let held = wal_file c.args.self.now in
     let told = c.in_err-file.ensures in
-    not_made d f disk_now file_now old (held ∷ others) name (λ n. n ≡ name) (λ n is_free other is. other is) free c.create.new.self
+    not_made d f disk_now file_now old (held ∷ others) name free c.create.new.self
     (touches_one d _ name old c.create.new.self (λ n other. tt) told.others told.time told.told told.model) told.failed_crash (λ image left. told.time.nothing_else (d.moment old) name image (omega arith) tt left)
 
 pub returns-in-Ok-clause-goes_on : goal.returns-in-Ok-clause-goes_on
@@ -39,18 +40,15 @@ returns-in-Ok-clause-moments g c others free apart =
     let file_now = λ (x : g.row.F.Denot) (image : Image) (left : f.left_since x (f.moment x) image). (g.met.F.DiskFile g.world.𝓛 g.world.𝓜 g.world.𝓡 ((λ s x. x), (λ x. x), (λ x. x), λ x. x)).only_now x image left in
     let old = c.args.disk.now in
     let name = Log c.args.number in
-    let held = file_of c.args.self.now in
-    let made = gate.file_of c.restart.new.self in
+    let held = wal_file c.args.self.now in
+    let made = gate.log_file c.restart.new.self in
     let told = c.in_ok-file.ensures in
-    let T = λ (n : FileName). (n ≡ name) ⊎ (n ≡ f.name held) in
     let given : c.in-Ok.old ≡ held = c.in-Ok.ensures.old in
     let back = touches_one d _ (f.name c.in-Ok.old) c.create.new.self c.retire.new.self (λ n other. other) c.retire.ensures.others c.retire.ensures.time c.retire.ensures.told c.retire.ensures.model in
-    let made_name : f.name made ≡ name = c.in-Ok.ensures.same.name ∙ told.name in
-    is_rolled d f disk_now file_now old (held ∷ others) name T (λ n is_free other. ⊎_elim other (λ is. is_free held (inl refl) is)) free c.create.new.self c.in_ok-file.file made
-    (touches_more d (λ n. n ≡ name) T old c.create.new.self (λ n is. inl is) (touches_one d _ name old c.create.new.self (λ n other. other) told.others told.time told.told told.model)) told.name c.in-Ok.ensures.same.name told.crash c.in-Ok.ensures.moments
-    others c.retire.new.self (λ x there. inr there)
-    (λ x among. ⊎_elim (λ is. inr (subst (λ (y : g.row.F.Denot). (z : g.row.F.Denot) → ((made ≡ z) ⊎ IsHeld others z) → f.name y ≡ f.name z → ⊥) is (λ z there same. ⊎_elim (λ here. free held (inl refl) (sym (same ∙ ap f.name (sym here) ∙ made_name))) (λ rest. apart z rest same) there), subst (λ (y : g.row.F.Denot). NoMore (f.may_leave y) (d.may_leave c.retire.new.self (f.name y))) (given ∙ is) c.retire.ensures.crash)) (λ there. inl there) among)
-    (touches_more d (λ n. n ≡ f.name c.in-Ok.old) T c.create.new.self c.retire.new.self (λ n is. inr (is ∙ ap f.name given)) back)
+    is_rolled d f disk_now file_now old held others name free c.create.new.self c.in_ok-file.file made
+    (touches_one d _ name old c.create.new.self (λ n other. other) told.others told.time told.told told.model) told.name c.in-Ok.ensures.same.name told.crash c.in-Ok.ensures.moments
+    c.retire.new.self apart (touches_more d (λ n. n ≡ f.name c.in-Ok.old) (λ n. n ≡ f.name held) c.create.new.self c.retire.new.self (λ n is. is ∙ ap f.name given) back)
+    (subst (λ (y : g.row.F.Denot). NoMore (f.may_leave y) (d.may_leave c.retire.new.self (f.name y))) given c.retire.ensures.crash)
 
 pub returns-in-Err-clause-err : goal.returns-in-Err-clause-err
 returns-in-Err-clause-err g c = same_wal g.F.DiskFile c.args.self.now c.restart.new.self c.in-Err.ensures.err _ _
@@ -63,12 +61,12 @@ returns-in-Err-clause-moments g c others free apart =
     let file_now = λ (x : g.row.F.Denot) (image : Image) (left : f.left_since x (f.moment x) image). (g.met.F.DiskFile g.world.𝓛 g.world.𝓜 g.world.𝓡 ((λ s x. x), (λ x. x), (λ x. x), λ x. x)).only_now x image left in
     let old = c.args.disk.now in
     let name = Log c.args.number in
-    let held = file_of c.args.self.now in
+    let held = wal_file c.args.self.now in
     let told = c.in_ok-file.ensures in
     let file = c.in-Err.file in
     let back = touches_one d _ (f.name file) c.create.new.self c.retire-in-Err.new.self (λ n other. other) c.retire-in-Err.ensures.others c.retire-in-Err.ensures.time c.retire-in-Err.ensures.told c.retire-in-Err.ensures.model in
     let named : f.name file ≡ name = c.in-Err.ensures.err_same.name ∙ told.name in
-    let ran = is_unmade d f disk_now file_now old (held ∷ others) name (λ n. n ≡ name) (λ n is_free other is. other is) free c.create.new.self c.in_ok-file.file file
+    let ran = is_unmade d f disk_now file_now old (held ∷ others) name free c.create.new.self c.in_ok-file.file file
     (touches_one d _ name old c.create.new.self (λ n other. other) told.others told.time told.told told.model) told.name c.in-Err.ensures.err_same.name told.crash c.in-Err.ensures.err_moments c.retire-in-Err.new.self
     (touches_more d (λ n. n ≡ f.name file) (λ n. n ≡ name) c.create.new.self c.retire-in-Err.new.self (λ n is. is ∙ named) back) c.retire-in-Err.ensures.crash in
-    subst (λ (l : GateLog g.row.F.Denot f). Ran d f (IsWhileMade d f (joint old (held ∷ others)) name) (joint old (held ∷ others)) (joint c.retire-in-Err.new.self (gate.file_of l ∷ others))) (sym c.in-Err.ensures.err) ran
+    subst (λ (l : GateLog g.row.F.Denot f). Ran d f (IsWhileMade d f (holding old (held ∷ others)) name) (holding old (held ∷ others)) (holding c.retire-in-Err.new.self (gate.log_file l ∷ others))) (sym c.in-Err.ensures.err) ran

@@ -7,7 +7,7 @@ pub returns-in_err-append-clause-moments : goal.returns-in_err-append-clause-mom
 returns-in_err-append-clause-moments g c bs ws holds =
     let wal = c.args.self.now in
     let some : 0 < length wal.waiting.items = some_wait wal.waiting c.is_empty.result c.is_empty.ensures c.if-is_empty.false in
-    adds_as g.F.DiskFile wal (gate.file_of c.append.new.self) c.deref.result.now bs ws c.deref.ensures.value holds some c.append.ensures.moments
+    adds_as g.F.DiskFile wal (gate.log_file c.append.new.self) c.deref.result.now bs ws c.deref.ensures.value holds some c.append.ensures.moments
 
 pub returns-clause-synced : goal.returns-clause-synced
 returns-clause-synced g c bs ws shown =
@@ -30,7 +30,7 @@ pub returns-clause-moments : goal.returns-clause-moments
 returns-clause-moments g c bs ws holds =
     let wal = c.args.self.now in
     let some : 0 < length wal.waiting.items = some_wait wal.waiting c.is_empty.result c.is_empty.ensures c.if-is_empty.false in
-    adds_as g.F.DiskFile wal (gate.file_of c.append.new.self) c.deref.result.now bs ws c.deref.ensures.value holds some c.append.ensures.moments
+    adds_as g.F.DiskFile wal (gate.log_file c.append.new.self) c.deref.result.now bs ws c.deref.ensures.value holds some c.append.ensures.moments
 
 pub returns-clause-goes_on : goal.returns-clause-goes_on
 returns-clause-goes_on g c first next =

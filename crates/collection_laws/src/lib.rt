@@ -1,0 +1,2 @@
+//! What a collection keeps, plainly: the definition computed, and the laws of the stored order that it rests on (`proofs/`).
+#![tactic(auto)]

@@ -1,0 +1,4 @@
+pub mod Tables
+pub mod Sound
+pub mod Lists
+pub mod Laws

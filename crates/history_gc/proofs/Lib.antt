@@ -1,0 +1,4 @@
+pub mod Kept
+pub mod Spent
+pub mod Steps
+pub mod Queues

@@ -1,0 +1,4 @@
+pub mod Pushed
+pub mod Streaming
+pub mod States
+pub mod Collecting

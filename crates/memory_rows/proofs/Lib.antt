@@ -1,0 +1,2 @@
+pub mod Committed
+mod Ordered

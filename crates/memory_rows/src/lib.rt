@@ -1,0 +1,5 @@
+//! Tests of the crates over memory, by their public calls.
+#![tactic(auto)]
+
+#[cfg(test)]
+mod tests;

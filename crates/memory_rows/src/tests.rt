@@ -1,0 +1,10 @@
+//! Tests of the crates over memory, one module each.
+
+mod cursors;
+mod gate;
+mod keys;
+mod lanes;
+mod memtables;
+mod model;
+mod runs;
+mod versions;

@@ -1,0 +1,3 @@
+pub mod Bests
+pub mod Doubling
+pub mod Sums

@@ -1,0 +1,4 @@
+pub mod Slices
+pub mod Sides
+pub mod Cuts
+pub mod Shows

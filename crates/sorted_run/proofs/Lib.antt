@@ -1,0 +1,4 @@
+pub mod Finds
+pub mod Keys
+pub mod Lookups
+pub mod Sorting
