@@ -7,6 +7,7 @@ ghost use Rattle.data_block.specs.Written.{HasWritten};
 
 use bytes::Bytes;
 use data_block::{Block, BlockCursor, BlockFault, BlockWriter};
+use merge_cursor::Cursor;
 use std::alloc::Global;
 use std::process::Abort;
 use std::test::Fail;
