@@ -1,5 +1,6 @@
 //! Tests of the crates over memory, one module each.
 
+mod collecting;
 mod cursors;
 mod gate;
 mod keys;
@@ -7,4 +8,6 @@ mod lanes;
 mod memtables;
 mod model;
 mod runs;
+mod snapshots;
+mod stripping;
 mod versions;
