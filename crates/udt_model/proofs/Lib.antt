@@ -5,6 +5,7 @@ pub mod JobRows
 pub mod Laws
 pub mod CrashRows
 pub mod Limits
+pub mod RefusalRows
 pub mod StandRows
 pub mod EntryRows
 pub mod RunningRows
