@@ -1,7 +1,7 @@
 -- The records of a log file: which values are allowed, and the bytes that spell them. Numbers are little-endian.
 use Rattle.std.specs.Prelude.{ℕ, ◌+◌, ◌^◌, ◌<◌, ◌≤◌, List, [], ◌∷◌, ◌++◌, length, All, ⊤}
 use Rattle.std.specs.List.{flat_map}
-use Rattle.wal.specs.Numbers.{number_bytes}
+use Rattle.ts_key.specs.Numbers.{number_bytes}
 use Rattle.ts_key.specs.Batches.{IsStamped}
 use Rattle.ts_key.specs.declared.batch.WriteOp.{WriteOp}
 use Rattle.ts_key.specs.declared.version.Op.{Op}
