@@ -1,7 +1,7 @@
 -- Light numbers leave what a commit shows.
 use Rattle.std.proofs.Common.{◌≡◌, ◌∙◌, ℕ, Bool, true, false, List, [], ◌∷◌, ◌++◌, ap, sym, append-nil, append_assoc}
 use Rattle.sv_gate.specs.Histories.{AreLight, IsLater}
-use Rattle.memory_rows.specs.GateRows.{needs_commit, committed, committed_light}
+use Rattle.gate_rows.specs.GateRows.{needs_commit, committed, committed_light}
 
 abbrev pub is_light : ℕ → Type 0
 is_light x = needs_commit x ≡ false

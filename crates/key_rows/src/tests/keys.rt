@@ -16,7 +16,7 @@ fn keys(rt: HostRuntime) -> Result<(), Fail> {
     for len in [0, 1, KEY_LIMIT] {
         let bytes = vec![in alloc; 0xff; len]?;
         let key = Key::of(alloc, &bytes)?;
-        assert_eq!(rt; key.copy()?.bytes(), bytes.as_slice(), "at {len}");
+        assert_eq!(rt; key.copy()?.bytes(), bytes.as_slice());
     }
     let long = vec![in alloc; 0u8; 1025]?;
     assert_eq!(rt;
@@ -32,7 +32,7 @@ fn values(rt: HostRuntime) -> Result<(), Fail> {
     for len in [0, 1, VALUE_LIMIT] {
         let bytes = vec![in alloc; 0xff; len]?;
         let value = Value::of(alloc, &bytes)?;
-        assert_eq!(rt; value.copy()?.bytes(), bytes.as_slice(), "at {len}");
+        assert_eq!(rt; value.copy()?.bytes(), bytes.as_slice());
     }
     let long = vec![in alloc; 0u8; 65537]?;
     assert_eq!(rt;
@@ -47,7 +47,7 @@ fn names(rt: HostRuntime) -> Result<(), Fail> {
     let alloc = rt.alloc();
     let longest = vec![in alloc; b'z'; NAME_LIMIT]?;
     for bytes in [b"a".as_slice(), b"_", b"default_09", longest.as_slice()] {
-        assert!(rt; is_name(bytes), "{bytes:?}");
+        assert!(rt; is_name(bytes));
         assert_eq!(rt; Name::of(alloc, bytes)?.copy()?.bytes(), bytes);
     }
     let long = vec![in alloc; b'z'; 33]?;
@@ -62,12 +62,8 @@ fn names(rt: HostRuntime) -> Result<(), Fail> {
         b":",
         long.as_slice(),
     ] {
-        assert!(rt; !is_name(bytes), "{bytes:?}");
-        assert_eq!(rt;
-            Name::of(alloc, bytes).err(),
-            Some(NameFault::Bad),
-            "{bytes:?}"
-        );
+        assert!(rt; !is_name(bytes));
+        assert_eq!(rt; Name::of(alloc, bytes).err(), Some(NameFault::Bad));
     }
     Ok(())
 }
@@ -170,7 +166,7 @@ fn versions_stand_by_key_then_the_larger_timestamp_then_the_larger_sequence(
     ];
     for (i, a) in in_order.iter().enumerate() {
         for (j, b) in in_order.iter().enumerate() {
-            assert_eq!(rt; compare(a, b), i.cmp(&j), "{i} and {j}");
+            assert_eq!(rt; compare(a, b), i.cmp(&j));
         }
     }
     Ok(())

@@ -2,7 +2,7 @@
 //! those from `COMMITTED` on.
 ghost use Rattle.std.specs.Prelude.{◌≡◌, ℕ, ◌+◌, ◌<◌, ◌≤◌, ◌^◌, true, false, [], ◌∷◌, ◌++◌, All, IfSome, length, slice_index_or, vec_len, vec_capacity};
 ghost use Rattle.sv_gate.specs.Gates.{origin, known, own, seen, weight_of, IsReady};
-ghost use Rattle.memory_rows.specs.GateRows.{needs_commit};
+ghost use Rattle.gate_rows.specs.GateRows.{needs_commit};
 
 use std::alloc::Global;
 use std::process::Abort;
@@ -32,7 +32,7 @@ struct Commit {
 impl Shown<Commit> for Front {
     ghost use Rattle.std.specs.Prelude.{◌≡◌, ℕ, false, ◌++◌, None};
     ghost use Rattle.std.proofs.Common.{ap, ◌∙◌, sym};
-    ghost use Rattle.memory_rows.specs.GateRows.{needs_commit, committed, committed_light};
+    ghost use Rattle.gate_rows.specs.GateRows.{needs_commit, committed, committed_light};
 
     type Entry = u64;
 

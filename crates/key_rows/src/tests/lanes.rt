@@ -62,11 +62,7 @@ fn the_first_at_most_of_every_length(rt: HostRuntime) -> Result<(), Fail> {
         for low in 0..71 {
             let ts = numbers(alloc, len, low)?;
             for t in 4..7 {
-                assert_eq!(rt;
-                    first_at_most(&ts, t),
-                    plain_first(&ts, t),
-                    "{len} {low} {t}"
-                );
+                assert_eq!(rt; first_at_most(&ts, t), plain_first(&ts, t));
             }
         }
     }

@@ -1,7 +1,7 @@
 use Rattle.std.proofs.Common.{◌∙◌, ℕ, List, [], ◌∷◌, ◌++◌, ap, sym}
-use Rattle.memory_rows.specs.GateRows.{committed, committed_heavy}
-use Rattle.memory_rows.proofs.Committed.{committed_later}
-use Rattle.memory_rows.proofs.tests.gate.add_committed.Goals as goal
+use Rattle.gate_rows.specs.GateRows.{committed, committed_heavy}
+use Rattle.gate_rows.proofs.Committed.{committed_later}
+use Rattle.gate_rows.proofs.tests.gate.add_committed.Goals as goal
 
 pub give_commit-requires-clause-shown : goal.give_commit-requires-clause-shown
 give_commit-requires-clause-shown g c =

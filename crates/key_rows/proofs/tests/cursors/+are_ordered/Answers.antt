@@ -4,8 +4,8 @@ use Rattle.std.proofs.lemmas.Bool.{OnTrue_at, OnTrue_from}
 use Rattle.ts_key.specs.Order.{sort_cmp, is_before}
 use Rattle.ts_key.specs.Items.{item_of, items_of}
 use Rattle.ts_key.specs.Lists.{IsOrdered}
-use Rattle.memory_rows.proofs.Ordered.{ordered_front}
-use Rattle.memory_rows.proofs.tests.cursors.+are_ordered.Goals as goal
+use Rattle.key_rows.proofs.Ordered.{ordered_front}
+use Rattle.key_rows.proofs.tests.cursors.+are_ordered.Goals as goal
 
 pub returns-then-not-is_lt : goal.returns-then-not-is_lt
 returns-then-not-is_lt t c =

@@ -27,12 +27,12 @@ fn are_ordered(versions: &[Version]) -> bool
     }
 }
 
-/// Puts of the keys 0 to `len` - 1, all at a timestamp.
-fn run(alloc: Global, len: u8, ts: u64) -> Result<Vec<Version>, Fail> {
+/// Puts of the keys 0 to `len` - 1 of a family, all at a timestamp.
+fn run_of(alloc: Global, family: Family, len: u8, ts: u64) -> Result<Vec<Version>, Fail> {
     let mut versions = Vec::new(alloc);
     for key in 0..len {
         versions.push(Version {
-            family: Family(0),
+            family,
             key: Key::of(alloc, &[key])?,
             ts: Ts(ts),
             seq: Seq(1),
@@ -40,6 +40,11 @@ fn run(alloc: Global, len: u8, ts: u64) -> Result<Vec<Version>, Fail> {
         })?;
     }
     Ok(versions)
+}
+
+/// The same of family 0.
+fn run(alloc: Global, len: u8, ts: u64) -> Result<Vec<Version>, Fail> {
+    run_of(alloc, Family(0), len, ts)
 }
 
 /// Runs at the timestamps 0 to `count` - 1.
@@ -93,12 +98,12 @@ fn merges_walk_up(rt: HostRuntime) -> Result<(), Fail> {
         let runs = runs(alloc, count, 4)?;
         let mut merge = merge(alloc, &runs)?;
         for wanted in rows(alloc, count, 4)? {
-            assert_eq!(rt; row(&merge), Some(wanted), "of {count}");
+            assert_eq!(rt; row(&merge), Some(wanted));
             merge.next();
         }
-        assert_eq!(rt; row(&merge), None, "of {count}");
+        assert_eq!(rt; row(&merge), None);
         merge.next();
-        assert_eq!(rt; row(&merge), None, "of {count}");
+        assert_eq!(rt; row(&merge), None);
     }
     Ok(())
 }
@@ -112,10 +117,10 @@ fn merges_walk_down(rt: HostRuntime) -> Result<(), Fail> {
         merge.seek_end();
         for wanted in rows(alloc, count, 4)?.iter().rev() {
             merge.prev();
-            assert_eq!(rt; row(&merge), Some(*wanted), "of {count}");
+            assert_eq!(rt; row(&merge), Some(*wanted));
         }
         merge.prev();
-        assert_eq!(rt; row(&merge), None, "of {count}");
+        assert_eq!(rt; row(&merge), None);
         merge.prev();
         merge.next();
         assert_eq!(rt; row(&merge), rows(alloc, count, 4)?.first().copied());
@@ -132,10 +137,10 @@ fn merges_walk_back_and_forth(rt: HostRuntime) -> Result<(), Fail> {
         for wanted in rows(alloc, count, 4)? {
             merge.next();
             merge.prev();
-            assert_eq!(rt; row(&merge), Some(wanted), "of {count}");
+            assert_eq!(rt; row(&merge), Some(wanted));
             merge.prev();
             merge.next();
-            assert_eq!(rt; row(&merge), Some(wanted), "of {count}");
+            assert_eq!(rt; row(&merge), Some(wanted));
             merge.next();
         }
     }
@@ -164,20 +169,41 @@ fn seeks_come_to_the_first_that_is_not_before(rt: HostRuntime) -> Result<(), Fai
     Ok(())
 }
 
+/// The family of the version where a merge stands.
+fn family_shown(merge: &Merge<SliceCursor<'_>>) -> Option<Family> {
+    let child = merge.child()?;
+    let version = child.version()?;
+    Some(version.family)
+}
+
 #[test]
 fn of_two_equal_versions_the_earlier_cursor_has_the_first(rt: HostRuntime) -> Result<(), Fail> {
     let alloc = rt.alloc();
     let mut runs = Vec::new(alloc);
-    runs.push(run(alloc, 1, 7)?)?;
-    runs.push(run(alloc, 2, 7)?)?;
+    runs.push(run_of(alloc, Family(1), 1, 7)?)?;
+    runs.push(run_of(alloc, Family(2), 2, 7)?)?;
     let mut merge = merge(alloc, &runs)?;
-    for key in [0, 0, 1] {
-        assert_eq!(rt; row(&merge), Some((key, 7)));
-        let child = merge.child().ok_or("no cursor")?;
-        assert!(rt; child.version().is_some());
-        assert_eq!(rt; row(child), Some((key, 7)));
-        merge.next();
-    }
+    assert_eq!(rt;
+        (row(&merge), family_shown(&merge)),
+        (Some((0, 7)), Some(Family(1)))
+    );
+    merge.next();
+    assert_eq!(rt;
+        (row(&merge), family_shown(&merge)),
+        (Some((0, 7)), Some(Family(2)))
+    );
+    merge.next();
+    assert_eq!(rt;
+        (row(&merge), family_shown(&merge)),
+        (Some((1, 7)), Some(Family(2)))
+    );
+    merge.prev();
+    merge.prev();
+    assert_eq!(rt;
+        (row(&merge), family_shown(&merge)),
+        (Some((0, 7)), Some(Family(1)))
+    );
+    merge.prev();
     assert!(rt; merge.child().is_none());
     Ok(())
 }
