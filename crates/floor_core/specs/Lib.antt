@@ -1,3 +1,4 @@
 pub mod Cores
 pub mod Machine
+pub mod Steps
 pub mod Runs

@@ -28,7 +28,7 @@ use Rattle.floor_core.specs.Cores.{CoreState, with_live_numbers}
 -- the snapshot is registered, where one is given
 abbrev pub is_there : State → Option ℕ → Bool
 is_there m None = true
-is_there m (Some event) = is_registered m event
+is_there m (Some event) = is_some (find (λ s. s.event == event) m.snaps)
 
 -- the view of the pin of this number
 abbrev pub pin_of : CoreState → ℕ → Option View
@@ -126,10 +126,14 @@ abbrev pub pinned_too : CoreState → CoreEvent → List View
 pinned_too c Pin = c.pins ++ view_now c.store (c.events + 1) ∷ []
 pinned_too c event = c.pins
 
--- the core behind an event that isn't refused
-abbrev pub advanced : CoreState → CoreEvent → CoreState
-advanced c event = record { store = with_live_numbers (moved c.store (c.events + 1) event); pins = pinned_too c event; events = c.events + 1 }
+-- the store behind an event, where its number is the next one
+abbrev pub store_behind : CoreState → CoreEvent → State
+store_behind c event = if is_taken c event then with_live_numbers (moved c.store (c.events + 1) event) else c.store
+
+-- the core behind an event that isn't counted yet
+abbrev pub turned : CoreState → CoreEvent → CoreState
+turned c event = record { store = store_behind c event; pins = pinned_too c event; events = c.events }
 
 -- the core behind an event; behind a refused one only the count of events differs
 abbrev pub behind_event : CoreState → CoreEvent → CoreState
-behind_event c event = if is_taken c event then advanced c event else record c { events = c.events + 1 }
+behind_event c event = record (turned c event) { events = c.events + 1 }

@@ -2,7 +2,10 @@
 #![tactic(auto)]
 
 mod event;
+mod lists;
+mod machine;
 mod parts;
 
 pub use event::{CoreEvent, CoreReply};
+pub use machine::Core;
 pub use udt_model::{Piece, Row};

@@ -1,4 +1,6 @@
 //! Parts of the core's state.
+ghost use Rattle.std.specs.Prelude.{◌≡◌, ◌==◌, not, filter};
+ghost use Rattle.udt_model.specs.State.{changed_at, with_floor};
 
 use std::marker::Model;
 use ts_key::{Family, Form, Seq, Ts, Version};
@@ -108,4 +110,22 @@ impl Model for CorePin {
     ghost Value = { View };
 
     ghost view = { λ v. record { number = v.number; last = v.last; floors = v.floors.items } };
+}
+
+/// Sets the floor of a family, where there is one of this number.
+pub(crate) fn set_floor(families: &mut Vec<CoreFamily>, family: Family, floor: Ts)
+    ensures { families.new.items ≡ changed_at family.0 (with_floor floor) families.old.items }
+{
+    let place = family.0 as usize;
+    if place < families.len() {
+        let f = &mut families[place];
+        f.floor = floor;
+    }
+}
+
+/// Takes the snapshots of this number out.
+pub(crate) fn forget(snaps: &mut Vec<CoreSnap>, id: u64)
+    ensures { snaps.new.items ≡ filter (λ s. not (s.event == id)) snaps.old.items }
+{
+    snaps.retain(|s| s.event != id);
 }
