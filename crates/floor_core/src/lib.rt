@@ -2,10 +2,12 @@
 #![tactic(auto)]
 
 mod event;
+mod laws;
 mod lists;
 mod machine;
 mod parts;
 
 pub use event::{CoreEvent, CoreReply};
+pub use laws::{core_is_safe, core_refuses_exactly};
 pub use machine::Core;
 pub use udt_model::{Piece, Row};

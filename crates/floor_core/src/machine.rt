@@ -218,7 +218,10 @@ impl Core {
         requires { length ops.now ≤ 64 }
         ensures { IfOk result (λ found. found ≡ judged self.now ops.now) }
     {
-        if self.has_unknown(ops) || self.halted.is_some() {
+        if self.has_unknown(ops) {
+            return Ok(None);
+        }
+        if self.halted.is_some() {
             return Ok(None);
         }
         if self.last.0 + ops.len() as u64 > LAST_SEQUENCE {
@@ -363,7 +366,10 @@ impl Core {
         let Some(f) = self.family(family) else {
             return Ok(None);
         };
-        if self.halted.is_some() || self.flush.is_some() {
+        if self.halted.is_some() {
+            return Ok(None);
+        }
+        if self.flush.is_some() {
             return Ok(None);
         }
         let alloc = *self.versions.allocator();

@@ -1,0 +1,7 @@
+pub mod Sound
+pub mod Legal
+pub mod Pins
+pub mod CoreRows
+pub mod Admitting
+pub mod Judging
+pub mod Refusing
