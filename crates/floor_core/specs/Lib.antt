@@ -1,4 +1,3 @@
 pub mod Cores
 pub mod Machine
-pub mod Steps
 pub mod Runs

@@ -1,13 +1,10 @@
-//! The core of the store: a machine over every list of events, on plain lists.
+//! The core of the store: the machine of all its events over lists, in definitions (`specs/`), and its laws over every list
+//! of events.
 #![tactic(auto)]
 
 mod event;
 mod laws;
-mod lists;
-mod machine;
-mod parts;
 
 pub use event::{CoreEvent, CoreReply};
 pub use laws::{core_is_safe, core_refuses_exactly};
-pub use machine::Core;
 pub use udt_model::{Piece, Row};
