@@ -6,6 +6,7 @@ ghost use Rattle.ts_key.specs.StoredKeys.{IsStamp, IsSequence};
 
 use bytes::Bytes;
 use data_block::{Block, BlockFault, BlockWriter};
+use merge_cursor::Cursor;
 use std::alloc::Global;
 use std::test::Fail;
 use ts_key::{Family, Form, Key, Op, SEQUENCE_LIMIT, STAMP_LIMIT, Seq, Ts, Value, Version};

@@ -74,7 +74,8 @@ fn append(
     requires there { region.now ≡ slice_range image.now from (from + length region.now) }
     requires inside { from + length region.now ≤ length image.now }
     ensures within { All (IsWithin keys.new.items image.now) entries.new.items }
-    ensures items { OnOk result (items_at keys.new.items image.now entries.new.items ≡ items_at keys.old.items image.now entries.old.items ++ items_in region.now x.now) }
+    ensures items { OnOk result (items_at keys.new.items image.now entries.new.items
+        ≡ items_at keys.old.items image.now entries.old.items ++ items_in region.now x.now) }
 {
     let base = keys.len();
     keys.extend_from_slice(&x.keys)?;
