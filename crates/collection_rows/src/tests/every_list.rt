@@ -87,24 +87,37 @@ fn agree_for_floors(alloc: Global, code: u64, deeper: &[KeySpan]) -> Result<bool
     Ok(agree_so_far)
 }
 
+/// A span of keys around the versions' key.
+fn around(alloc: Global) -> Result<KeySpan, Fail> {
+    Ok(KeySpan {
+        low: Key::of(alloc, b"a")?,
+        high: Key::of(alloc, b"b")?,
+    })
+}
+
 #[test]
-fn every_short_list_with_nothing_deeper(rt: HostRuntime) -> Result<(), Fail> {
-    for code in 0..2401 {
+fn every_list_up_to_three_with_nothing_deeper(rt: HostRuntime) -> Result<(), Fail> {
+    for code in 0..343 {
         assert!(rt; agree_for_floors(rt.alloc(), code, &[])?);
     }
     Ok(())
 }
 
 #[test]
-fn every_short_list_over_a_deeper_span(rt: HostRuntime) -> Result<(), Fail> {
-    let alloc = rt.alloc();
-    let span = KeySpan {
-        low: Key::of(alloc, b"a")?,
-        high: Key::of(alloc, b"b")?,
-    };
-    let deeper = [span];
-    for code in 0..2401 {
-        assert!(rt; agree_for_floors(alloc, code, &deeper)?);
+fn every_list_up_to_three_over_a_deeper_span(rt: HostRuntime) -> Result<(), Fail> {
+    let deeper = [around(rt.alloc())?];
+    for code in 0..343 {
+        assert!(rt; agree_for_floors(rt.alloc(), code, &deeper)?);
+    }
+    Ok(())
+}
+
+#[test]
+fn each_sixteenth_list_of_four(rt: HostRuntime) -> Result<(), Fail> {
+    let deeper = [around(rt.alloc())?];
+    for i in 0..128 {
+        assert!(rt; agree_for_floors(rt.alloc(), 343 + 16 * i, &[])?);
+        assert!(rt; agree_for_floors(rt.alloc(), 343 + 16 * i, &deeper)?);
     }
     Ok(())
 }

@@ -1,0 +1,3 @@
+//! One module for each thing under test.
+
+mod counted;
