@@ -22,7 +22,7 @@ returns-clause-below c =
     let n = c.args.guess in
     let below : Version → Type 0 = λ (v : Version). is_below c.args.key.now v ≡ true in
     let front : AllWithin below (take n vs) 0 (length (take n vs)) =
-      subst (λ (l : List Version). AllWithin below l 0 (length l)) c.split_at.ensures.front (c.ends_below.ensures c.if-not-ends_below.false) in
+    subst (λ (l : List Version). AllWithin below l 0 (length l)) c.split_at.ensures.front (c.ends_below.ensures c.if-not-ends_below.false) in
     within-take below vs n (omega arith) front
 
 pub returns-clause-from : goal.returns-clause-from
@@ -31,5 +31,5 @@ returns-clause-from c =
     let n = c.args.guess in
     let above : Version → Type 0 = λ (v : Version). is_below c.args.key.now v ≡ false in
     let back : AllWithin above (drop n vs) 0 (length (drop n vs)) =
-      subst (λ (l : List Version). AllWithin above l 0 (length l)) c.split_at.ensures.back (c.starts_from-2.ensures c.if-not-starts_from.false) in
+    subst (λ (l : List Version). AllWithin above l 0 (length l)) c.split_at.ensures.back (c.starts_from-2.ensures c.if-not-starts_from.false) in
     within-back above vs n back

@@ -9,5 +9,5 @@ returns-in-Some c = λ e.
     let key = c.args.key.now in
     let v = c.in-Some.v.now in
     let least : is_ge (slice_cmp nat_cmp v.key key) ≡ true =
-      sym (c.is_ge.ensures ∙ ap is_ge (c.cmp.ensures ∙ ap (λ (k : List ℕ). slice_cmp nat_cmp k key) c.bytes.ensures.bytes)) ∙ e in
+    sym (c.is_ge.ensures ∙ ap is_ge (c.cmp.ensures ∙ ap (λ (k : List ℕ). slice_cmp nat_cmp k key) c.bytes.ensures.bytes)) ∙ e in
     none_below key c.args.versions.now v c.requires c.in-Some.ensures.value least
