@@ -1,3 +1,0 @@
-//! One module for each thing under test.
-
-mod counted;
