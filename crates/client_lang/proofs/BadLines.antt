@@ -10,22 +10,22 @@ use Rattle.client_lang.specs.declared.grammar.lines.ReadFault.TheVariants.{BadLi
 use Rattle.client_lang.specs.Faults.{IsReadFault, Refuses}
 use Rattle.client_lang.specs.Print.{IsBuiltCommand}
 use Rattle.client_lang.proofs.ReadLines.{all_built, keeps_last, same_file}
-use Rattle.client_lang.specs.Grammar.{IsLine, AreLines, AreCommands, IsBadLine, IsTooMany, IsFile, is_kept, lines_of}
+use Rattle.client_lang.specs.Grammar.{IsLine, AreLines, AreCommands, IsBadLine, IsTooMany, IsFile, wants_command, lines_of}
 
 -- the line is a command
 abbrev IsSpelled : List ℕ → Type 0
 IsSpelled line = (command : Command) × IsLine line command
 
-kept_first : (l : List ℕ) (ls : List (List ℕ)) (commands : List Command) → is_kept l ≡ true → AreLines (l ∷ ls) commands → IsSpelled l × ((es : List Command) × AreLines ls es)
+kept_first : (l : List ℕ) (ls : List (List ℕ)) (commands : List Command) → wants_command l ≡ true → AreLines (l ∷ ls) commands → IsSpelled l × ((es : List Command) × AreLines ls es)
 kept_first l ls [] k h = absurd (rw k at h)
 kept_first l ls (e ∷ es) k h = let p = rw k at h in ((e, p.0), (es, p.1))
 
 -- of lines with commands, each one that is kept is a command
-is_spelled : (lines : List (List ℕ)) (commands : List Command) (i : ℕ) → AreLines lines commands → i < length lines → is_kept (get_or lines i []) ≡ true → IsSpelled (get_or lines i [])
+is_spelled : (lines : List (List ℕ)) (commands : List Command) (i : ℕ) → AreLines lines commands → i < length lines → wants_command (get_or lines i []) ≡ true → IsSpelled (get_or lines i [])
 is_spelled [] commands i h lt kept = absurd (omega arith)
 is_spelled (l ∷ ls) commands zero h lt kept = (kept_first l ls commands kept h).0
 is_spelled (l ∷ ls) commands (suc i) h lt kept =
-    elim (cases_Bool (is_kept l)) [
+    elim (cases_Bool (wants_command l)) [
       | inl k ↦ (let p = kept_first l ls commands k h in is_spelled ls p.1.0 i p.1.1 (omega arith) kept)
       | inr k ↦ is_spelled ls commands i (rw k at h) (omega arith) kept
     ]
@@ -35,12 +35,12 @@ front_commands : (k : ℕ) (lines : List (List ℕ)) (commands : List Command) �
 front_commands zero lines commands h = ([], tt, omega arith)
 front_commands (suc k) [] commands h = (commands, h, omega arith)
 front_commands (suc k) (l ∷ ls) [] h =
-    elim (cases_Bool (is_kept l)) [
+    elim (cases_Bool (wants_command l)) [
       | inl e ↦ absurd (rw e at h)
       | inr e ↦ (let p = front_commands k ls [] (rw e at h) in (p.0, rw e p.1, p.2))
     ]
 front_commands (suc k) (l ∷ ls) (c ∷ cs) h =
-    elim (cases_Bool (is_kept l)) [
+    elim (cases_Bool (wants_command l)) [
       | inl e ↦ (let q = rw e at h in let p = front_commands k ls cs q.1 in (c ∷ p.0, rw e (q.0, p.1), omega (arith, p.2)))
       | inr e ↦ (let p = front_commands k ls (c ∷ cs) (rw e at h) in (p.0, rw e p.1, p.2))
     ]
@@ -68,14 +68,14 @@ many_ends lines n t =
     let lt : n - 1 < length lines = omega (arith, t.place.0, t.place.1) in
     let step : n - 1 + 1 ≡ n = omega (arith, t.place.0) in
     let whole : take n lines ≡ take (n - 1) lines ++ get_or lines (n - 1) [] ∷ [] = ap (λ (k : ℕ). take k lines) (sym step) ∙ take_more lines (n - 1) [] lt in
-    let kept : filter is_kept (take n lines) ≡ filter is_kept (take (n - 1) lines) ++ get_or lines (n - 1) [] ∷ [] = ap (filter is_kept) whole ∙ keeps_last (take (n - 1) lines) (get_or lines (n - 1) []) t.kept in
+    let kept : filter wants_command (take n lines) ≡ filter wants_command (take (n - 1) lines) ++ get_or lines (n - 1) [] ∷ [] = ap (filter wants_command) whole ∙ keeps_last (take (n - 1) lines) (get_or lines (n - 1) []) t.kept in
     record {
       counted = t.place.0;
       before = (t.before.0, t.before.1);
       none = λ commands h.
-          let all = AllZip-long IsLine (filter is_kept (take n lines)) commands h.lines_are in
-          let front = AllZip-long IsLine (filter is_kept (take (n - 1) lines)) t.before.0 t.before.1.lines_are in
-          let size = ap length kept ∙ length_push (filter is_kept (take (n - 1) lines)) (get_or lines (n - 1) []) in
+          let all = AllZip-long IsLine (filter wants_command (take n lines)) commands h.lines_are in
+          let front = AllZip-long IsLine (filter wants_command (take (n - 1) lines)) t.before.0 t.before.1.lines_are in
+          let size = ap length kept ∙ length_push (filter wants_command (take (n - 1) lines)) (get_or lines (n - 1) []) in
           let full = t.before.2 in
           let few = h.few in
           omega arith;

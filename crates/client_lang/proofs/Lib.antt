@@ -2,10 +2,14 @@ pub mod Pushing
 pub mod Texts
 pub mod ReadWords
 pub mod Operations
-pub mod ReadCommands
+pub mod OneOperation
+pub mod OneEvent
+pub mod Tails
 pub mod ReadWrites
 pub mod ReadLines
 pub mod BadLines
 pub mod Stamped
 pub mod Spelling
-pub mod Injective
+pub mod EventsByWords
+pub mod RepliesByWords
+pub mod LinesByText

@@ -151,8 +151,8 @@ at_more R words rest os sync e b =
 abbrev pub Same : List NamedOp → List NamedOp → Bool → Bool → Type 0
 Same xs ys a b = (xs ≡ ys) × (a ≡ b)
 
-cons_same : (x y : NamedOp) (xs ys : List NamedOp) → x ≡ y → xs ≡ ys → x ∷ xs ≡ y ∷ ys
-cons_same x y xs ys p q = rw (p, q) refl
+cons_same_op : (x y : NamedOp) (xs ys : List NamedOp) → x ≡ y → xs ≡ ys → x ∷ xs ≡ y ∷ ys
+cons_same_op x y xs ys p q = rw (p, q) refl
 
 head_of : (x y : NamedOp) (xs ys : List NamedOp) → x ∷ xs ≡ y ∷ ys → x ≡ y
 head_of x y xs ys e = ap (λ (os : List NamedOp). get_or os 0 x) e
@@ -171,13 +171,13 @@ ops_once R clear words (x ∷ xs) ys a b p q =
     elim (behind_cases R (drop n words) xs a behind) [
       | inl here ↦
           let other = at_end R (drop n words) g.more b here.0 g.behind in
-          (cons_same x g.op xs g.more same (here.1 ∙ sym other.1) ∙ sym g.os_are, here.2 ∙ sym other.2)
+          (cons_same_op x g.op xs g.more same (here.1 ∙ sym other.1) ∙ sym g.os_are, here.2 ∙ sym other.2)
       | inr (inl last) ↦
           let other = at_sync R (drop n words) g.more b last.0 g.behind in
-          (cons_same x g.op xs g.more same (last.1 ∙ sym other.1) ∙ sym g.os_are, last.2 ∙ sym other.2)
+          (cons_same_op x g.op xs g.more same (last.1 ∙ sym other.1) ∙ sym g.os_are, last.2 ∙ sym other.2)
       | inr (inr more) ↦
           let rest = ops_once R clear more.rest xs g.more a b more.ops (at_more R (drop n words) more.rest g.more b more.words_are g.behind) in
-          (cons_same x g.op xs g.more same rest.0 ∙ sym g.os_are, rest.1)
+          (cons_same_op x g.op xs g.more same rest.0 ∙ sym g.os_are, rest.1)
     ]
 
 -- ---- how many words

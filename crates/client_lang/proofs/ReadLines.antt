@@ -11,8 +11,9 @@ use Rattle.udt_model.specs.declared.event.Event.{Event}
 use Rattle.client_lang.specs.declared.command.Command.{Command}
 use Rattle.client_lang.specs.declared.command.Command.TheVariants.{Line}
 use Rattle.client_lang.specs.Print.{IsBuiltCommand}
-use Rattle.client_lang.specs.Grammar.{IsEvent, IsLine, AreLines, AreCommands, IsFile, IsBadLine, IsTooMany, is_kept, words_of, lines_of, without_empty_end, command_limit, file_limit}
-use Rattle.client_lang.proofs.ReadCommands.{is_built, same_command}
+use Rattle.client_lang.specs.Grammar.{IsEvent, IsLine, AreLines, AreCommands, IsFile, IsBadLine, IsTooMany, wants_command, words_of, lines_of, without_empty_end, command_limit}
+use Rattle.client_lang.proofs.OneEvent.{is_built, same_command}
+use Rattle.client_lang.specs.declared.grammar.lines.TheConstants.{FILE_LIMIT}
 
 -- the parts of a file between line feeds
 abbrev pub parts_of : List ℕ → List (List ℕ)
@@ -30,32 +31,32 @@ AllZip-push R [] (b ∷ ys) x y h p = absurd h
 AllZip-push R (a ∷ xs) [] x y h p = absurd h
 AllZip-push R (a ∷ xs) (b ∷ ys) x y h p = (h.0, AllZip-push R xs ys x y h.1 p)
 
-pub keeps_last : (lines : List (List ℕ)) (line : List ℕ) → is_kept line ≡ true → filter is_kept (lines ++ line ∷ []) ≡ filter is_kept lines ++ line ∷ []
+pub keeps_last : (lines : List (List ℕ)) (line : List ℕ) → wants_command line ≡ true → filter wants_command (lines ++ line ∷ []) ≡ filter wants_command lines ++ line ∷ []
 keeps_last [] line e = rw e refl
 keeps_last (l ∷ ls) line e =
-    elim (cases_Bool (is_kept l)) [
+    elim (cases_Bool (wants_command l)) [
       | inl k ↦ rw (k, keeps_last ls line e) refl
       | inr k ↦ rw (k, keeps_last ls line e) refl
     ]
 
-skips_last : (lines : List (List ℕ)) (line : List ℕ) → is_kept line ≡ false → filter is_kept (lines ++ line ∷ []) ≡ filter is_kept lines
+skips_last : (lines : List (List ℕ)) (line : List ℕ) → wants_command line ≡ false → filter wants_command (lines ++ line ∷ []) ≡ filter wants_command lines
 skips_last [] line e = rw e refl
 skips_last (l ∷ ls) line e =
-    elim (cases_Bool (is_kept l)) [
+    elim (cases_Bool (wants_command l)) [
       | inl k ↦ rw (k, skips_last ls line e) refl
       | inr k ↦ rw (k, skips_last ls line e) refl
     ]
 
 -- a line that is a command
-pub read_more : (lines : List (List ℕ)) (i : ℕ) (line : List ℕ) (commands : List Command) (command : Command) → i < length lines → line ≡ get_or lines i [] → ReadSoFar lines i commands → is_kept line ≡ true
+pub read_more : (lines : List (List ℕ)) (i : ℕ) (line : List ℕ) (commands : List Command) (command : Command) → i < length lines → line ≡ get_or lines i [] → ReadSoFar lines i commands → wants_command line ≡ true
     → IsLine line command → length commands < command_limit → ReadSoFar lines (i + 1) (commands ++ command ∷ [])
 read_more lines i line commands command lt at h kept p room = record {
-  lines_are = rw (take_more lines i [] lt, ← at, keeps_last (take i lines) line kept) (AllZip-push IsLine (filter is_kept (take i lines)) commands line command h.lines_are p);
+  lines_are = rw (take_more lines i [] lt, ← at, keeps_last (take i lines) line kept) (AllZip-push IsLine (filter wants_command (take i lines)) commands line command h.lines_are p);
   few = let size = length_push commands command in omega arith;
 }
 
 -- a line that is skipped
-pub read_skip : (lines : List (List ℕ)) (i : ℕ) (line : List ℕ) (commands : List Command) → i < length lines → line ≡ get_or lines i [] → ReadSoFar lines i commands → is_kept line ≡ false → ReadSoFar lines (i + 1) commands
+pub read_skip : (lines : List (List ℕ)) (i : ℕ) (line : List ℕ) (commands : List Command) → i < length lines → line ≡ get_or lines i [] → ReadSoFar lines i commands → wants_command line ≡ false → ReadSoFar lines (i + 1) commands
 read_skip lines i line commands lt at h skipped = record {
   lines_are = rw (take_more lines i [] lt, ← at, skips_last (take i lines) line skipped) h.lines_are;
   few = h.few;
@@ -92,17 +93,17 @@ one_line : (b : ℕ) (line : List ℕ) → without_empty_end ((b ∷ line) ∷ [
 one_line b line = rw (isn't_empty b line) refl
 
 -- an empty part at the end is skipped
-kept_parts : (parts : List (List ℕ)) → filter is_kept (without_empty_end parts) ≡ filter is_kept parts
+kept_parts : (parts : List (List ℕ)) → filter wants_command (without_empty_end parts) ≡ filter wants_command parts
 kept_parts [] = refl
 kept_parts ([] ∷ []) = refl
-kept_parts ((b ∷ line) ∷ []) = ap (filter is_kept) (one_line b line)
+kept_parts ((b ∷ line) ∷ []) = ap (filter wants_command) (one_line b line)
 kept_parts (l ∷ next ∷ parts) =
-    elim (cases_Bool (is_kept l)) [
+    elim (cases_Bool (wants_command l)) [
       | inl k ↦ rw (k, kept_parts (next ∷ parts)) refl
       | inr k ↦ rw (k, kept_parts (next ∷ parts)) refl
     ]
 
-pub is_file : (bytes : List ℕ) (commands : List Command) → length bytes ≤ file_limit → AreCommands (parts_of bytes) commands → IsFile bytes commands
+pub is_file : (bytes : List ℕ) (commands : List Command) → length bytes ≤ FILE_LIMIT → AreCommands (parts_of bytes) commands → IsFile bytes commands
 is_file bytes commands short h = record {
   short = short;
   lines = subst (λ (kept : List (List ℕ)). AllZip IsLine kept commands) (sym (kept_parts (parts_of bytes))) h.lines_are;
@@ -115,7 +116,7 @@ record IsSamePlace (parts : List (List ℕ)) (i : ℕ) : Type 0 where
   before : take i (without_empty_end parts) ≡ take i parts
   here : get_or (without_empty_end parts) i [] ≡ get_or parts i []
 
-same_place : (parts : List (List ℕ)) (i : ℕ) → i < length parts → is_kept (get_or parts i []) ≡ true → IsSamePlace parts i
+same_place : (parts : List (List ℕ)) (i : ℕ) → i < length parts → wants_command (get_or parts i []) ≡ true → IsSamePlace parts i
 same_place [] i lt kept = absurd (omega arith)
 same_place ([] ∷ []) zero lt kept = cc kept
 same_place ((b ∷ line) ∷ []) zero lt kept = let e = one_line b line in record { within = rw e lt; before = refl; here = rw e refl }
@@ -125,7 +126,7 @@ same_place (l ∷ next ∷ parts) (suc i) lt kept =
     let h = same_place (next ∷ parts) i (omega arith) kept in
     record { within = omega (arith, h.within); before = ap (λ (ls : List (List ℕ)). l ∷ ls) h.before; here = h.here }
 
-pub is_bad_line : (bytes line : List ℕ) (i : ℕ) (commands : List Command) → i < length (parts_of bytes) → line ≡ get_or (parts_of bytes) i [] → ReadSoFar (parts_of bytes) i commands → is_kept line ≡ true
+pub is_bad_line : (bytes line : List ℕ) (i : ℕ) (commands : List Command) → i < length (parts_of bytes) → line ≡ get_or (parts_of bytes) i [] → ReadSoFar (parts_of bytes) i commands → wants_command line ≡ true
     → ((command : Command) → IsLine line command → ⊥) → IsBadLine (lines_of bytes) (i + 1)
 is_bad_line bytes line i commands lt at h kept bad =
     let e : i + 1 - 1 ≡ i = omega arith in
@@ -142,7 +143,7 @@ is_bad_line bytes line i commands lt at h kept bad =
 pub no_line : (line : List ℕ) → ((event : Event) → IsEvent (words_of line) event → ⊥) → (command : Command) → IsLine line command → ⊥
 no_line line none (Line event) p = none event p
 
-pub is_too_many : (bytes line : List ℕ) (i : ℕ) (commands : List Command) (command : Command) → i < length (parts_of bytes) → line ≡ get_or (parts_of bytes) i [] → ReadSoFar (parts_of bytes) i commands → is_kept line ≡ true
+pub is_too_many : (bytes line : List ℕ) (i : ℕ) (commands : List Command) (command : Command) → i < length (parts_of bytes) → line ≡ get_or (parts_of bytes) i [] → ReadSoFar (parts_of bytes) i commands → wants_command line ≡ true
     → IsLine line command → length commands ≡ command_limit → IsTooMany (lines_of bytes) (i + 1)
 is_too_many bytes line i commands command lt at h kept p full =
     let e : i + 1 - 1 ≡ i = omega arith in
@@ -168,12 +169,12 @@ AllZip-once R once (x ∷ xs) (y ∷ ys) (z ∷ zs) p q =
     let es = AllZip-once R once xs ys zs p.1 q.1 in
     rw (e, es) refl
 
-pub same_lines : (lines : List (List ℕ)) (a b : List Command) → AreLines lines a → AreLines lines b → a ≡ b
-same_lines lines a b p q = AllZip-once IsLine (λ line x y. same_command (words_of line) x y) (filter is_kept lines) a b p q
+pub same_commands : (lines : List (List ℕ)) (a b : List Command) → AreLines lines a → AreLines lines b → a ≡ b
+same_commands lines a b p q = AllZip-once IsLine (λ line x y. same_command (words_of line) x y) (filter wants_command lines) a b p q
 
 -- a file spells one list of commands
 pub same_file : (bytes : List ℕ) (a b : List Command) → IsFile bytes a → IsFile bytes b → a ≡ b
-same_file bytes a b p q = same_lines (lines_of bytes) a b p.lines q.lines
+same_file bytes a b p q = same_commands (lines_of bytes) a b p.lines q.lines
 
 built_at : (lines : List (List ℕ)) (commands : List Command) → AllZip IsLine lines commands → All IsBuiltCommand commands
 built_at [] [] h = All-nil IsBuiltCommand
@@ -183,4 +184,4 @@ built_at (l ∷ lines) (c ∷ commands) h = All-cons IsBuiltCommand c commands (
 
 -- the commands of a file are built
 pub all_built : (bytes : List ℕ) (commands : List Command) → IsFile bytes commands → All IsBuiltCommand commands
-all_built bytes commands h = built_at (filter is_kept (lines_of bytes)) commands h.lines
+all_built bytes commands h = built_at (filter wants_command (lines_of bytes)) commands h.lines

@@ -7,12 +7,13 @@ use Rattle.udt_model.specs.declared.event.NamedOp.{NamedOp}
 use Rattle.udt_model.specs.declared.event.Event.TheVariants.{Write}
 use Rattle.client_lang.specs.Grammar.{IsOp}
 use Rattle.client_lang.specs.Readers.{IsWriteEvent, op_length}
-use Rattle.client_lang.specs.Readers.{IsStep, IsTail}
+use Rattle.client_lang.specs.Readers.{IsFirstOp, IsTail}
 use Rattle.client_lang.specs.declared.grammar.commands.Step.{Step}
 use Rattle.client_lang.specs.declared.grammar.commands.Tail.{Tail}
 use Rattle.client_lang.specs.declared.grammar.commands.Tail.TheVariants as tails
 use Rattle.client_lang.proofs.Operations.{Ops, Behind, ops_first, ops_from, end_behind, sync_behind, more_behind, at_more, behind_cases}
-use Rattle.client_lang.proofs.ReadCommands.{op_clear, ops_of, write_of, write_cases}
+use Rattle.client_lang.proofs.OneOperation.{op_clear}
+use Rattle.client_lang.proofs.OneEvent.{ops_of, write_of, write_cases}
 
 -- what is left of the words, where the operations done were read
 pub record Left (words : List (List ℕ)) (done : List NamedOp) (rest : List (List ℕ)) : Type 0 where
@@ -98,14 +99,14 @@ front_is now ws front n e f = ap (map now) f ∙ map-take now n ws ∙ ap (λ (k
 behind_is : {W : Type 0} (now : W → List ℕ) (ws behind : List W) (n : ℕ) → n ≡ op_length (map now ws) → behind ≡ drop n ws → map now behind ≡ behind_of (map now ws)
 behind_is now ws behind n e b = ap (map now) b ∙ map-drop now n ws ∙ ap (λ (k : ℕ). drop k (map now ws)) e
 
-pub step_none : {W : Type 0} (now : W → List ℕ) (ws front : List W) (n : ℕ) → n ≡ op_length (map now ws) → front ≡ take n ws → ((o : NamedOp) → IsOp (map now front) o → ⊥) → (s : Step) → IsStep (map now ws) s → ⊥
+pub step_none : {W : Type 0} (now : W → List ℕ) (ws front : List W) (n : ℕ) → n ≡ op_length (map now ws) → front ≡ take n ws → ((o : NamedOp) → IsOp (map now front) o → ⊥) → (s : Step) → IsFirstOp (map now ws) s → ⊥
 step_none now ws front n e f none s h = none s.op (subst (λ (x : List (List ℕ)). IsOp x s.op) (sym (front_is now ws front n e f)) h.op_is)
 
-pub step_no_tail : {W : Type 0} (now : W → List ℕ) (ws behind : List W) (n : ℕ) → n ≡ op_length (map now ws) → behind ≡ drop n ws → ((t : Tail) → IsTail (map now behind) t → ⊥) → (s : Step) → IsStep (map now ws) s → ⊥
+pub step_no_tail : {W : Type 0} (now : W → List ℕ) (ws behind : List W) (n : ℕ) → n ≡ op_length (map now ws) → behind ≡ drop n ws → ((t : Tail) → IsTail (map now behind) t → ⊥) → (s : Step) → IsFirstOp (map now ws) s → ⊥
 step_no_tail now ws behind n e b none s h = none s.tail (subst (λ (x : List (List ℕ)). IsTail x s.tail) (sym (behind_is now ws behind n e b)) h.tail_is)
 
 pub step_some : {W : Type 0} (now : W → List ℕ) (ws front behind : List W) (n : ℕ) (o : NamedOp) (t : Tail) → n ≡ op_length (map now ws) → front ≡ take n ws → behind ≡ drop n ws → IsOp (map now front) o → IsTail (map now behind) t
-    → IsStep (map now ws) (record { op = o; length = n; tail = t })
+    → IsFirstOp (map now ws) (record { op = o; length = n; tail = t })
 step_some now ws front behind n o t e f b p q = record {
   length_is = e;
   op_is = subst (λ (x : List (List ℕ)). IsOp x o) (front_is now ws front n e f) p;
@@ -117,14 +118,14 @@ step_some now ws front behind n o t e f b p q = record {
 rest_is : {W : Type 0} (now : W → List ℕ) (ws rest : List W) (at : ℕ) → rest ≡ drop at ws → map now rest ≡ drop at (map now ws)
 rest_is now ws rest at e = ap (map now) e ∙ map-drop now at ws
 
-step_at : {W : Type 0} (now : W → List ℕ) (ws rest : List W) (at : ℕ) (s : Step) → rest ≡ drop at ws → IsStep (map now rest) s → IsStep (drop at (map now ws)) s
-step_at now ws rest at s e h = subst (λ (x : List (List ℕ)). IsStep x s) (rest_is now ws rest at e) h
+step_at : {W : Type 0} (now : W → List ℕ) (ws rest : List W) (at : ℕ) (s : Step) → rest ≡ drop at ws → IsFirstOp (map now rest) s → IsFirstOp (drop at (map now ws)) s
+step_at now ws rest at s e h = subst (λ (x : List (List ℕ)). IsFirstOp x s) (rest_is now ws rest at e) h
 
 -- so far all words but the rest were read
 abbrev pub LeftAt : {W : Type 0} → (W → List ℕ) → List W → List NamedOp → ℕ → Type 0
 LeftAt now ws done at = Left (map now ws) done (drop at (map now ws))
 
-go_on : (words : List (List ℕ)) (done : List NamedOp) (at : ℕ) (s : Step) → Left words done (drop at words) → IsStep (drop at words) s → s.tail ≡ tails.More
+go_on : (words : List (List ℕ)) (done : List NamedOp) (at : ℕ) (s : Step) → Left words done (drop at words) → IsFirstOp (drop at words) s → s.tail ≡ tails.More
     → Left words (done ++ s.op ∷ []) (drop (at + (s.length + 1)) words) × (at + (s.length + 1) ≤ length words)
 go_on words done at s l h more =
     let t : IsTail (behind_of (drop at words)) tails.More = subst (λ (x : Tail). IsTail (behind_of (drop at words)) x) more h.tail_is in
@@ -138,17 +139,17 @@ go_on words done at s l h more =
       omega arith,
     )
 
-pub left_step : {W : Type 0} (now : W → List ℕ) (ws rest : List W) (done : List NamedOp) (at : ℕ) (s : Step) → rest ≡ drop at ws → LeftAt now ws done at → IsStep (map now rest) s → s.tail ≡ tails.More
+pub left_step : {W : Type 0} (now : W → List ℕ) (ws rest : List W) (done : List NamedOp) (at : ℕ) (s : Step) → rest ≡ drop at ws → LeftAt now ws done at → IsFirstOp (map now rest) s → s.tail ≡ tails.More
     → LeftAt now ws (done ++ s.op ∷ []) (at + (s.length + 1)) × (at + (s.length + 1) ≤ length (map now ws))
 left_step now ws rest done at s e l h more = go_on (map now ws) done at s l (step_at now ws rest at s e h) more
 
-pub left_end : {W : Type 0} (now : W → List ℕ) (ws rest : List W) (done : List NamedOp) (at : ℕ) (s : Step) → rest ≡ drop at ws → LeftAt now ws done at → IsStep (map now rest) s → s.tail ≡ tails.End → length done < 64
+pub left_end : {W : Type 0} (now : W → List ℕ) (ws rest : List W) (done : List NamedOp) (at : ℕ) (s : Step) → rest ≡ drop at ws → LeftAt now ws done at → IsFirstOp (map now rest) s → s.tail ≡ tails.End → length done < 64
     → IsWriteEvent (map now ws) (Write (done ++ s.op ∷ []) false)
 left_end now ws rest done at s e l h last few =
     let p = step_at now ws rest at s e h in
     done_end (map now ws) done (drop at (map now ws)) s.op few l p.op_is (subst (λ (x : Tail). IsTail (behind_of (drop at (map now ws))) x) last p.tail_is)
 
-pub left_sync : {W : Type 0} (now : W → List ℕ) (ws rest : List W) (done : List NamedOp) (at : ℕ) (s : Step) → rest ≡ drop at ws → LeftAt now ws done at → IsStep (map now rest) s → s.tail ≡ tails.Sync → length done < 64
+pub left_sync : {W : Type 0} (now : W → List ℕ) (ws rest : List W) (done : List NamedOp) (at : ℕ) (s : Step) → rest ≡ drop at ws → LeftAt now ws done at → IsFirstOp (map now rest) s → s.tail ≡ tails.Sync → length done < 64
     → IsWriteEvent (map now ws) (Write (done ++ s.op ∷ []) true)
 left_sync now ws rest done at s e l h last few =
     let p = step_at now ws rest at s e h in
@@ -163,7 +164,7 @@ tail_found R words os sync b =
     ]
 
 -- the words left have no step
-pub left_none : {W : Type 0} (now : W → List ℕ) (ws rest : List W) (done : List NamedOp) (at : ℕ) → rest ≡ drop at ws → LeftAt now ws done at → ((s : Step) → IsStep (map now rest) s → ⊥) → (event : Event) → IsWriteEvent (map now ws) event → ⊥
+pub left_none : {W : Type 0} (now : W → List ℕ) (ws rest : List W) (done : List NamedOp) (at : ℕ) → rest ≡ drop at ws → LeftAt now ws done at → ((s : Step) → IsFirstOp (map now rest) s → ⊥) → (event : Event) → IsWriteEvent (map now ws) event → ⊥
 left_none now ws rest done at e l none event h =
     let w = write_cases (map now ws) event h in
     let here = l.on w.os w.sync (ops_of (map now ws) w.os w.sync w.write) in
@@ -171,5 +172,5 @@ left_none now ws rest done at e l none event h =
     let f = ops_first IsOp op_clear words here.0 w.sync here.2 in
     let t = tail_found IsOp (behind_of words) f.more w.sync f.behind in
     let s : Step = record { op = f.op; length = op_length words; tail = t.0 } in
-    let is : IsStep words s = record { length_is = refl; op_is = f.op_is; tail_is = t.1 } in
-    none s (subst (λ (x : List (List ℕ)). IsStep x s) (sym (rest_is now ws rest at e)) is)
+    let is : IsFirstOp words s = record { length_is = refl; op_is = f.op_is; tail_is = t.1 } in
+    none s (subst (λ (x : List (List ℕ)). IsFirstOp x s) (sym (rest_is now ws rest at e)) is)

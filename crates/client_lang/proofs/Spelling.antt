@@ -26,8 +26,8 @@ and_true false b e = absurd (cc e)
 pub both_true : (a b : Bool) → a ≡ true → b ≡ true → (a && b) ≡ true
 both_true a b p q = rw (p, q) refl
 
-not_both : (a b : Bool) → a ≡ b → a ≡ true → b ≡ false → ⊥
-not_both a b e p q = false≢true (sym q ∙ sym e ∙ p)
+not_true_and_false : (a b : Bool) → a ≡ b → a ≡ true → b ≡ false → ⊥
+not_true_and_false a b e p q = false≢true (sym q ∙ sym e ∙ p)
 
 cons_same : {X : Type 0} (x y : X) (xs ys : List X) → x ≡ y → xs ≡ ys → x ∷ xs ≡ y ∷ ys
 cons_same x y xs ys p q = rw (p, q) refl
@@ -37,10 +37,10 @@ pub cut_once : {X : Type 0} (p : X → Bool) (u v us vs : List X) (c d : X) → 
 cut_once p [] [] us vs c d a b first second e = (refl, ap (drop 1) e)
 cut_once {X} p [] (y ∷ v) us vs c d a b first second e =
     let same : c ≡ y = ap (λ (xs : List X). get_or xs 0 c) e in
-    absurd (not_both (p y) (p c) (ap p (sym same)) (and_true (p y) (list_all p v) b).0 first)
+    absurd (not_true_and_false (p y) (p c) (ap p (sym same)) (and_true (p y) (list_all p v) b).0 first)
 cut_once {X} p (x ∷ u) [] us vs c d a b first second e =
     let same : x ≡ d = ap (λ (xs : List X). get_or xs 0 x) e in
-    absurd (not_both (p x) (p d) (ap p same) (and_true (p x) (list_all p u) a).0 second)
+    absurd (not_true_and_false (p x) (p d) (ap p same) (and_true (p x) (list_all p u) a).0 second)
 cut_once {X} p (x ∷ u) (y ∷ v) us vs c d a b first second e =
     let same : x ≡ y = ap (λ (xs : List X). get_or xs 0 x) e in
     let rest = cut_once p u v us vs c d (and_true (p x) (list_all p u) a).1 (and_true (p y) (list_all p v) b).1 first second (ap (drop 1) e) in

@@ -3,6 +3,7 @@ use Rattle.std.specs.Prelude.{◌≡◌, ◌⊎◌, ℕ, ◌-◌, ◌^◌, ◌<�
 use Rattle.std.specs.List.{slice_split, join_by, AllZip}
 use Rattle.std.specs.Fmt.{decimal}
 use Rattle.hex.specs.Hex.{IsBytes}
+use Rattle.ts_key.specs.declared.limits.TheConstants.{BATCH_LIMIT, KEY_LIMIT, STAMP_LIMIT, VALUE_LIMIT}
 use Rattle.ts_key.specs.Names.{is_name}
 use Rattle.ts_key.specs.declared.version.Op.{Op}
 use Rattle.ts_key.specs.declared.version.Op.TheVariants as ops
@@ -11,6 +12,7 @@ use Rattle.udt_model.specs.declared.event.Event.{Event}
 use Rattle.udt_model.specs.declared.event.Event.TheVariants.{Write, Get, Sync}
 use Rattle.client_lang.specs.declared.command.Command.{Command}
 use Rattle.client_lang.specs.declared.command.Command.TheVariants as commands
+use Rattle.client_lang.specs.declared.grammar.lines.TheConstants.{COMMAND_LIMIT, FILE_LIMIT}
 use Rattle.client_lang.specs.Print.{is_plain, hex_word, sync_words}
 
 -- ---- lines and words
@@ -55,7 +57,7 @@ IsByteWord most word bytes = (IsPlainWord word bytes ⊎ IsHexWord word bytes) �
 
 -- the words of an operation at three words: `put` and the word of its value behind them, or `del`
 abbrev pub IsOpAt : List (List ℕ) → List ℕ → List ℕ → List ℕ → Op → Type 0
-IsOpAt words family key number (ops.Put value) = (word : List ℕ) × (words ≡ codes "put" ∷ family ∷ key ∷ number ∷ word ∷ []) × IsByteWord 65536 word value
+IsOpAt words family key number (ops.Put value) = (word : List ℕ) × (words ≡ codes "put" ∷ family ∷ key ∷ number ∷ word ∷ []) × IsByteWord VALUE_LIMIT word value
 IsOpAt words family key number ops.Del = words ≡ codes "del" ∷ family ∷ key ∷ number ∷ []
 
 -- put F K T V, or del F K T
@@ -65,21 +67,21 @@ pub record IsOp (words : List (List ℕ)) (o : NamedOp) : Type 0 where
   pub number : List ℕ
   pub words_are : IsOpAt words family key number o.op
   pub family_is : IsName family o.family
-  pub key_is : IsByteWord 1024 key o.key
+  pub key_is : IsByteWord KEY_LIMIT key o.key
   pub number_is : IsNumber number o.ts.0
-  pub below_last : o.ts.0 < 2 ^ 64 - 1
+  pub stamp : o.ts.0 ≤ STAMP_LIMIT
 
 -- the words of several operations, with the word ; between them
 abbrev pub with_semicolons : List (List (List ℕ)) → List (List ℕ)
 with_semicolons parts = join_by (λ part. part) (codes ";" ∷ []) parts
 
--- 1 to 64 operations with the word ; between them, then the word sync where it is asked for
+-- one or more operations, but not too many, with the word ; between them, then the word sync where it is asked for
 pub record IsWrite (words : List (List ℕ)) (os : List NamedOp) (sync : Bool) : Type 0 where
   pub parts : List (List (List ℕ))
   pub words_are : words ≡ with_semicolons parts ++ sync_words sync
   pub parts_are : AllZip IsOp parts os
   pub some : 0 < length os
-  pub few : length os ≤ 64
+  pub few : length os ≤ BATCH_LIMIT
 
 -- get F K T
 pub record IsGet (words : List (List ℕ)) (name bytes : List ℕ) (t : ℕ) : Type 0 where
@@ -88,7 +90,7 @@ pub record IsGet (words : List (List ℕ)) (name bytes : List ℕ) (t : ℕ) : T
   pub number : List ℕ
   pub words_are : words ≡ codes "get" ∷ family ∷ key ∷ number ∷ []
   pub family_is : IsName family name
-  pub key_is : IsByteWord 1024 key bytes
+  pub key_is : IsByteWord KEY_LIMIT key bytes
   pub number_is : IsNumber number t
 
 -- these words ask for this event
@@ -107,26 +109,22 @@ IsLine line command = IsCommand (words_of line) command
 
 -- ---- files
 
--- a command file has at most so many bytes
-abbrev pub file_limit : ℕ
-file_limit = 8388608
-
--- and at most so many commands
+-- a command file has at most so many commands
 abbrev pub command_limit : ℕ
-command_limit = 100000
+command_limit = COMMAND_LIMIT
 
--- the line isn't skipped: it is neither empty nor a comment
-abbrev pub is_kept : List ℕ → Bool
-is_kept [] = false
-is_kept (b ∷ line) = not (b == 35)
+-- the line wants a command: it is neither empty nor a comment, which are skipped
+abbrev pub wants_command : List ℕ → Bool
+wants_command [] = false
+wants_command (b ∷ line) = not (b == 35)
 
--- the lines that aren't skipped are these commands, one by one
+-- the lines that want a command are these commands, one by one
 abbrev pub AreLines : List (List ℕ) → List Command → Type 0
-AreLines lines commands = AllZip IsLine (filter is_kept lines) commands
+AreLines lines commands = AllZip IsLine (filter wants_command lines) commands
 
 -- the file has these commands
 pub record IsFile (bytes : List ℕ) (commands : List Command) : Type 0 where
-  pub short : length bytes ≤ file_limit
+  pub short : length bytes ≤ FILE_LIMIT
   pub lines : AreLines (lines_of bytes) commands
   pub few : length commands ≤ command_limit
 
@@ -141,14 +139,14 @@ pub record AreCommands (lines : List (List ℕ)) (commands : List Command) : Typ
 pub record IsBadLine (lines : List (List ℕ)) (n : ℕ) : Type 0 where
   pub place : (0 < n) × (n ≤ length lines)
   pub before : (commands : List Command) × AreCommands (take (n - 1) lines) commands
-  pub kept : is_kept (slice_index_or lines (n - 1) []) ≡ true
+  pub kept : wants_command (slice_index_or lines (n - 1) []) ≡ true
   pub bad : (command : Command) → IsLine (slice_index_or lines (n - 1) []) command → ⊥
 
 -- the n-th line, counted from 1, is a command behind as many as a file may have
 pub record IsTooMany (lines : List (List ℕ)) (n : ℕ) : Type 0 where
   pub place : (0 < n) × (n ≤ length lines)
   pub before : (commands : List Command) × AreCommands (take (n - 1) lines) commands × (length commands ≡ command_limit)
-  pub kept : is_kept (slice_index_or lines (n - 1) []) ≡ true
+  pub kept : wants_command (slice_index_or lines (n - 1) []) ≡ true
   pub more : (command : Command) × IsLine (slice_index_or lines (n - 1) []) command
 
 -- ---- readers

@@ -3,6 +3,7 @@ use Rattle.std.specs.Prelude.{ℕ, ◌<◌, ◌≤◌, Bool, true, false, ◌==�
 use Rattle.std.specs.List.{join_by, join_with_byte, flat_map, list_all}
 use Rattle.std.specs.Fmt.{decimal}
 use Rattle.hex.specs.Hex.{encode_lower}
+use Rattle.ts_key.specs.declared.limits.TheConstants.{BATCH_LIMIT}
 use Rattle.ts_key.specs.Names.{is_between, is_name_byte}
 use Rattle.ts_key.specs.declared.version.Op.{Op}
 use Rattle.ts_key.specs.declared.version.Op.TheVariants as ops
@@ -76,9 +77,9 @@ ops_words os = join_by op_words (codes ";" ∷ []) os
 abbrev pub write_words : List NamedOp → Bool → List (List ℕ)
 write_words os sync = ops_words os ++ sync_words sync
 
--- The event is one whose command is built so far: a write of 1 to 64 operations, a get without a snapshot, or a sync.
+-- The event is one whose command is built so far: a write of one or more operations, a get without a snapshot, or a sync.
 abbrev pub IsBuilt : Event → Type 0
-IsBuilt (Write os sync) = (0 < length os) × (length os ≤ 64)
+IsBuilt (Write os sync) = (0 < length os) × (length os ≤ BATCH_LIMIT)
 IsBuilt (Get family key t None) = Unit {0}
 IsBuilt Sync = Unit {0}
 IsBuilt event = ⊥

@@ -1,6 +1,7 @@
 -- The parts of commands that readers look for.
 use Rattle.std.specs.Prelude.{◌≡◌, ℕ, Bool, IsTrue, List, [], ◌∷◌, length, take, drop, min, codes, if◌then◌else◌}
 use Rattle.std.specs.Str.{bytes_eq}
+use Rattle.ts_key.specs.declared.limits.TheConstants.{KEY_LIMIT}
 use Rattle.ts_key.specs.declared.version.Op.{Op}
 use Rattle.udt_model.specs.declared.event.Event.{Event}
 use Rattle.udt_model.specs.declared.event.Event.TheVariants.{Write}
@@ -14,7 +15,7 @@ use Rattle.client_lang.specs.Grammar.{IsName, IsNumber, IsByteWord, IsOp, IsWrit
 -- the words F K T are this target
 pub record IsTarget (family key number : List ℕ) (p : Target) : Type 0 where
   pub family_is : IsName family p.family
-  pub key_is : IsByteWord 1024 key p.key
+  pub key_is : IsByteWord KEY_LIMIT key p.key
   pub number_is : IsNumber number p.ts.0
 
 -- the operation at a target
@@ -39,7 +40,7 @@ IsTailAt word is_last tails.Sync = (word ≡ codes "sync") × IsTrue is_last
 IsTailAt word is_last tails.More = word ≡ codes ";"
 
 -- the first operation of the words, how many words it has, and what is behind it
-pub record IsStep (words : List (List ℕ)) (s : Step) : Type 0 where
+pub record IsFirstOp (words : List (List ℕ)) (s : Step) : Type 0 where
   pub length_is : s.length ≡ op_length words
   pub op_is : IsOp (take (op_length words) words) s.op
   pub tail_is : IsTail (drop (op_length words) words) s.tail

@@ -1,5 +1,6 @@
 -- Commands whose timestamps are a version's.
-use Rattle.std.specs.Prelude.{◌-◌, ◌^◌, ◌≤◌, All}
+use Rattle.std.specs.Prelude.{◌≤◌, All}
+use Rattle.ts_key.specs.declared.limits.TheConstants.{STAMP_LIMIT}
 use Rattle.udt_model.specs.declared.event.Event.{Event}
 use Rattle.udt_model.specs.declared.event.Event.TheVariants.{Write}
 use Rattle.client_lang.specs.declared.command.Command.{Command}
@@ -7,7 +8,7 @@ use Rattle.client_lang.specs.declared.command.Command.TheVariants as commands
 
 -- no operation of a write has the greatest number for its timestamp
 abbrev pub IsStampedEvent : Event → Type 0
-IsStampedEvent (Write os sync) = All (λ o. o.ts.0 ≤ 2 ^ 64 - 2) os
+IsStampedEvent (Write os sync) = All (λ o. o.ts.0 ≤ STAMP_LIMIT) os
 IsStampedEvent event = Unit {0}
 
 abbrev pub IsStampedCommand : Command → Type 0

@@ -11,15 +11,16 @@ use Rattle.udt_disk.specs.Crash.{Image}
 use Rattle.gate_log.specs.Frames as frames
 use Rattle.ts_key.specs.Batches.{IsBatch}
 use Rattle.ts_key.specs.declared.batch.WriteOp.{WriteOp}
-use Rattle.wal.specs.Numbers.{number_bytes}
+use Rattle.ts_key.specs.Numbers.{number_bytes}
 use Rattle.wal.specs.Records.{op_bytes, value_bytes, batch_bytes, families_bytes, IsShortValue, IsLoggedBatch}
 use Rattle.wal.specs.Heads.{op_head_bytes, batch_head_bytes}
-use Rattle.wal.specs.Writing.{Extends, IsShortOp}
+use Rattle.ts_key.specs.Writing.{Extends}
+use Rattle.wal.specs.Writing.{IsShortOp}
 use Rattle.wal.specs.Sequences.{next_sequence, sequence_after, IsNext, IsInSequence}
 use Rattle.wal.specs.Bodies.{front_bytes, IsBodyOf, is_first_behind, HoldsBatches}
 use Rattle.wal.specs.Replays.{ReadsAs, IsBeforeOrAfter}
 use Rattle.wal.specs.Wals.{waiting_bytes}
-use Rattle.wal.proofs.Numbers.{length-number_bytes}
+use Rattle.ts_key.proofs.NumberBytes.{length-number_bytes}
 use Rattle.wal.proofs.Fronts.{wholes_same}
 use Rattle.wal.proofs.Heads.{length-op_head, length-batch_head}
 use Rattle.wal.proofs.Operations as operations

@@ -6,7 +6,7 @@ use Rattle.std.proofs.lemmas.List.{length-append, append_assoc}
 use Rattle.std.proofs.lemmas.List.Elements.{All-weaker}
 use Rattle.wal.specs.Records.{batch_bytes, op_bytes, IsLoggedOp, IsLoggedBatch}
 use Rattle.wal.specs.Heads.{batch_head_bytes, IsAllowedBatchHead, FitsBatchHead}
-use Rattle.wal.specs.Reading.{SpellsNone}
+use Rattle.ts_key.specs.Reading.{SpellsNone}
 use Rattle.wal.proofs.Fronts.{fronts_same, short_front, lists_same}
 use Rattle.wal.proofs.Heads.{length-batch_head, batch_head_same}
 use Rattle.wal.proofs.Operations.{op_same}

@@ -14,7 +14,7 @@ use Rattle.wal.proofs.Fronts.{wholes_same, never_whole}
 use Rattle.wal.proofs.Batches.{batch_same, batch_some}
 use Rattle.wal.specs.declared.numbered.Numbered.{Numbered}
 use Rattle.std.proofs.Common.{Option, Some, None, Result, Ok, Err, Vec, vec_len}
-use Rattle.wal.specs.Reading.{SpellsNone}
+use Rattle.ts_key.specs.Reading.{SpellsNone}
 use Rattle.wal.specs.declared.fault.BodyFault.{BodyFault}
 use Rattle.wal.specs.declared.fault.BodyFault.TheVariants.{Bad, NoMemory}
 

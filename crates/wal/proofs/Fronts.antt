@@ -5,7 +5,8 @@ use Rattle.std.specs.List.{flat_map}
 use Rattle.std.proofs.lemmas.List.{length-append, append_assoc, flat_map_more}
 use Rattle.std.proofs.lemmas.List.Elements.{All-head, All-tail, All-push}
 use Rattle.std.proofs.Math.Seq.{take-append_seam, drop-append_seam}
-use Rattle.wal.specs.Reading.{SpellsNone, IsBodyFault, ReadsFront}
+use Rattle.ts_key.specs.Reading.{SpellsNone, ReadsFront}
+use Rattle.wal.specs.Reading.{BodyFaultTells, IsBodyFault}
 use Rattle.wal.specs.declared.fault.BodyFault.{BodyFault}
 use Rattle.wal.specs.declared.fault.BodyFault.TheVariants.{Bad, NoMemory}
 
@@ -16,7 +17,7 @@ fronts_same a b r s len same =
 
 module _ {V : Type 0} (spelled : V → List ℕ) (Allowed : V → Type 0) where
   -- a reader hands on this fault
-  pub hands_on : {R : Type 0} (view : R → V) (old new : List ℕ) (r : Result R BodyFault) (fault : BodyFault) → IsErrAnd r (λ y. y ≡ fault) → (fault ≡ Bad → SpellsNone spelled Allowed old) → ReadsFront view spelled Allowed old new r
+  pub hands_on : {R : Type 0} (view : R → V) (old new : List ℕ) (r : Result R BodyFault) (fault : BodyFault) → IsErrAnd r (λ y. y ≡ fault) → (fault ≡ Bad → SpellsNone spelled Allowed old) → ReadsFront BodyFaultTells view spelled Allowed old new r
   hands_on view old new (Ok x) fault is none = absurd is
   hands_on view old new (Err Bad) fault is none = none (sym is)
   hands_on view old new (Err NoMemory) fault is none = tt

@@ -1,9 +1,9 @@
 -- Heads of records, and values behind their lengths, are known by their bytes.
 use Rattle.std.proofs.Common.{◌≡◌, ℕ, List, [], ◌∷◌, ◌++◌, length, take, drop, get_or, sym, ap, ◌∙◌, arith, drop-cons}
 use Rattle.std.proofs.lemmas.List.{length-append, take-append-drop, drop_all, drop-drop}
-use Rattle.wal.specs.Numbers.{number_bytes}
+use Rattle.ts_key.specs.Numbers.{number_bytes}
 use Rattle.wal.specs.Heads.{op_head_bytes, batch_head_bytes, FitsOpHead, FitsBatchHead}
-use Rattle.wal.proofs.Numbers.{number_bytes-unique, length-number_bytes}
+use Rattle.ts_key.proofs.NumberBytes.{number_bytes-unique, length-number_bytes}
 use Rattle.wal.proofs.Fronts.{fronts_same}
 use Rattle.wal.specs.declared.head.OpHead.{OpHead}
 use Rattle.wal.specs.declared.head.BatchHead.{BatchHead}

@@ -1,11 +1,11 @@
 -- Operations, and their values, are known by their bytes; and where a reader of one stops, none is spelled.
 use Rattle.std.proofs.Common.{◌≡◌, ◌≢◌, ℕ, ◌^◌, ◌<◌, ◌≤◌, List, ◌++◌, length, refl, sym, ap, ◌∙◌, arith, subst}
 use Rattle.std.proofs.lemmas.List.{length-append, append_assoc}
-use Rattle.wal.specs.Numbers.{number_bytes}
+use Rattle.ts_key.specs.Numbers.{number_bytes}
 use Rattle.wal.specs.Records.{kind_code, value_bytes, op_bytes, IsShortValue, IsLoggedOp}
 use Rattle.wal.specs.Heads.{op_head_bytes, IsAllowedOpHead, FitsOpHead}
-use Rattle.wal.specs.Reading.{SpellsNone}
-use Rattle.wal.proofs.Numbers.{number_bytes-unique, length-number_bytes}
+use Rattle.ts_key.specs.Reading.{SpellsNone}
+use Rattle.ts_key.proofs.NumberBytes.{number_bytes-unique, length-number_bytes}
 use Rattle.wal.proofs.Fronts.{fronts_same, short_front}
 use Rattle.wal.proofs.Heads.{length-op_head, op_head_same}
 use Rattle.wal.specs.declared.head.OpHead.{OpHead}

@@ -4,16 +4,10 @@ use Rattle.std.specs.Prelude.{All}
 use Rattle.std.specs.List.{flat_map}
 use Rattle.std.proofs.lemmas.List.{append_assoc, append-nil, length-take-le, flat_map_more, take_more}
 use Rattle.std.proofs.lemmas.List.Elements.{All-more}
-use Rattle.wal.specs.Numbers.{number_bytes}
+use Rattle.ts_key.specs.Numbers.{number_bytes}
 use Rattle.wal.specs.Records.{families_bytes, op_bytes, batch_head}
-use Rattle.wal.specs.Writing.{Extends, IsShortOp}
+use Rattle.wal.specs.Writing.{IsShortOp}
 use Rattle.ts_key.specs.declared.batch.WriteOp.{WriteOp}
-
-pub extends_on : {old mid new : List ℕ} → Extends mid new → Extends old mid → Extends old new
-extends_on {old = old} b a = record {
-  more = a.more ++ b.more;
-  is = b.is ∙ ap (λ (xs : List ℕ). xs ++ b.more) a.is ∙ append_assoc old a.more b.more;
-}
 
 -- one family more
 pub families_more : (k : ℕ) (xs : List ℕ) (x : ℕ) → families_bytes k (xs ++ x ∷ []) ≡ families_bytes k xs ++ (number_bytes 4 (k + length xs) ++ x ∷ [])

@@ -1,4 +1,3 @@
-pub mod Numbers
 pub mod Sizing
 pub mod Records
 pub mod Heads

@@ -1,12 +1,13 @@
 -- The records of a log file: which values are allowed, and the bytes that spell them. Numbers are little-endian.
-use Rattle.std.specs.Prelude.{ℕ, ◌+◌, ◌^◌, ◌<◌, ◌≤◌, List, [], ◌∷◌, ◌++◌, length, All, ⊤}
+use Rattle.std.specs.Prelude.{ℕ, ◌+◌, ◌<◌, ◌≤◌, List, [], ◌∷◌, ◌++◌, length, All, ⊤}
 use Rattle.std.specs.List.{flat_map}
-use Rattle.wal.specs.Numbers.{number_bytes}
+use Rattle.ts_key.specs.Numbers.{number_bytes}
 use Rattle.ts_key.specs.Batches.{IsStamped}
 use Rattle.ts_key.specs.declared.batch.WriteOp.{WriteOp}
 use Rattle.ts_key.specs.declared.version.Op.{Op}
 use Rattle.ts_key.specs.declared.version.Op.TheVariants.{Put, Del}
 use Rattle.wal.specs.declared.numbered.Numbered.{Numbered}
+use Rattle.ts_key.specs.declared.limits.TheConstants.{BATCH_LIMIT, KEY_LIMIT, SEQUENCE_LIMIT, VALUE_LIMIT}
 
 -- the byte of an operation's kind
 abbrev pub kind_code : Op → ℕ
@@ -41,22 +42,22 @@ families_bytes family (size ∷ sizes) = (number_bytes 4 family ++ size ∷ []) 
 abbrev pub sizes_bytes : List ℕ → List ℕ
 sizes_bytes sizes = 1 ∷ (number_bytes 4 (length sizes) ++ families_bytes 0 sizes)
 
--- a value has at most 65,536 bytes
+-- a value has at most so many bytes
 abbrev pub IsShortValue : Op → Type 0
-IsShortValue (Put value) = length value ≤ 65536
+IsShortValue (Put value) = length value ≤ VALUE_LIMIT
 IsShortValue Del = ⊤
 
 -- the operation may stand in a log of this many families
 pub record IsLoggedOp (families : ℕ) (op : WriteOp) : Type 0 where
   pub family : op.family.0 < families
   pub stamp : IsStamped op
-  pub key : length op.key ≤ 1024
+  pub key : length op.key ≤ KEY_LIMIT
   pub value : IsShortValue op.op
 
--- The batch may stand in a log of this many families: 1 to 64 operations that may, with sequences from 1 to 2^56 - 1.
+-- The batch may stand in a log of this many families: it has operations that may, and sequences from 1 to the greatest.
 pub record IsLoggedBatch (families : ℕ) (numbered : Numbered) : Type 0 where
   pub some : 1 ≤ length numbered.batch
-  pub within : length numbered.batch ≤ 64
+  pub within : length numbered.batch ≤ BATCH_LIMIT
   pub ops : All (IsLoggedOp families) numbered.batch
   pub first : 1 ≤ numbered.first.0
-  pub last : numbered.first.0 + length numbered.batch ≤ 2 ^ 56
+  pub last : numbered.first.0 + length numbered.batch ≤ SEQUENCE_LIMIT + 1

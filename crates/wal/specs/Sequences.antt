@@ -1,6 +1,7 @@
 -- The sequences of batches: each batch goes on where the one before it ends.
-use Rattle.std.specs.Prelude.{◌≡◌, ℕ, ◌+◌, ◌^◌, ◌≤◌, List, [], ◌∷◌, length, Option, Some, None, IfSome, ⊤}
+use Rattle.std.specs.Prelude.{◌≡◌, ℕ, ◌+◌, ◌≤◌, List, [], ◌∷◌, length, Option, Some, None, IfSome, ⊤}
 use Rattle.wal.specs.declared.numbered.Numbered.{Numbered}
+use Rattle.ts_key.specs.declared.limits.TheConstants.{SEQUENCE_LIMIT}
 
 -- one above the batch's last sequence
 abbrev pub sequence_after : Numbered → ℕ
@@ -25,6 +26,6 @@ GoesOn next (numbered ∷ batches) = IsNext next numbered.first.0 × GoesOn (Som
 abbrev pub IsInSequence : List Numbered → Type 0
 IsInSequence batches = GoesOn None batches
 
--- the batch's last sequence is at most 2^56 - 1
+-- the batch's last sequence is at most the greatest
 abbrev pub IsNumberedWithin : Numbered → Type 0
-IsNumberedWithin numbered = sequence_after numbered ≤ 2 ^ 56
+IsNumberedWithin numbered = sequence_after numbered ≤ SEQUENCE_LIMIT + 1

@@ -2,10 +2,9 @@
 
 ghost use Rattle.std.specs.Prelude.{◌≡◌, length, MatchOption};
 ghost use Rattle.std.specs.Bool.{OnTrue, OnFalse};
-ghost use Rattle.wal.specs.Numbers.{number_bytes};
 
-use byteorder::{ByteOrder, LittleEndian};
-use ts_key::{BATCH_LIMIT, KEY_LIMIT};
+use ts_key::coding::{u16_of, u32_of, u64_of};
+use ts_key::{BATCH_LIMIT, KEY_LIMIT, SEQUENCE_LIMIT, STAMP_LIMIT};
 
 /// The byte that begins the size record.
 pub(crate) const SIZES_TAG: u8 = 1;
@@ -18,9 +17,6 @@ pub(crate) const BATCH_HEAD_LEN: usize = 10;
 
 /// The bytes before the key of an operation.
 pub(crate) const OP_HEAD_LEN: usize = 15;
-
-/// The greatest sequence.
-pub(crate) const SEQUENCE_LIMIT: u64 = (1 << 56) - 1;
 
 /// What stands before the key of an operation.
 #[derive(Clone, Copy, Debug, Drop)]
@@ -36,27 +32,6 @@ pub(crate) struct OpHead {
 pub(crate) struct BatchHead {
     pub(crate) first: u64,
     pub(crate) count: u8,
-}
-
-pub(crate) fn u16_of(bytes: &[u8]) -> u16
-    requires { length bytes.now ≡ 2 }
-    ensures { bytes.now ≡ number_bytes 2 result }
-{
-    LittleEndian::read_u16(bytes)
-}
-
-pub(crate) fn u32_of(bytes: &[u8]) -> u32
-    requires { length bytes.now ≡ 4 }
-    ensures { bytes.now ≡ number_bytes 4 result }
-{
-    LittleEndian::read_u32(bytes)
-}
-
-pub(crate) fn u64_of(bytes: &[u8]) -> u64
-    requires { length bytes.now ≡ 8 }
-    ensures { bytes.now ≡ number_bytes 8 result }
-{
-    LittleEndian::read_u64(bytes)
 }
 
 impl OpHead {
@@ -86,7 +61,7 @@ impl OpHead {
         if self.kind > 1 {
             return false;
         }
-        if self.ts == u64::MAX {
+        if self.ts > STAMP_LIMIT {
             return false;
         }
         self.key_len as usize <= KEY_LIMIT

@@ -4,7 +4,6 @@
 #![tactic(auto)]
 
 mod body;
-mod cursor;
 mod fault;
 mod frames;
 mod head;

@@ -11,54 +11,18 @@
 //! value at most 65,536. The operations of a batch have the sequences from `first` on, which are 1 to 2^56 - 1, and each
 //! batch of a log goes on where the one before it ends.
 
-ghost use Rattle.std.specs.Prelude.{◌≡◌, ◌≤◌, ◌++◌, List, length, All, OnOk};
+ghost use Rattle.std.specs.Prelude.{◌≡◌, ◌≤◌, ◌++◌, ◌∷◌, [], List, length, All, OnOk};
 ghost use Rattle.std.specs.List.{flat_map};
-ghost use Rattle.wal.specs.Numbers.{number_bytes};
+ghost use Rattle.ts_key.specs.Numbers.{number_bytes};
 ghost use Rattle.wal.specs.Records.{kind_code, value_bytes, op_head, op_bytes, batch_bytes, sizes_bytes, families_bytes, IsShortValue};
 ghost use Rattle.ts_key.specs.Batches.{IsBatch};
-ghost use Rattle.wal.specs.Writing.{Extends, IsShortOp};
+ghost use Rattle.ts_key.specs.Writing.{Extends};
+ghost use Rattle.wal.specs.Writing.{IsShortOp};
 
 use crate::NoMemory;
 use crate::head::{BATCH_TAG, SIZES_TAG};
-use byteorder::{ByteOrder, LittleEndian};
-use ts_key::{Batch, Op, Seq, WriteOp};
-
-fn put_bytes(out: &mut Vec<u8>, bytes: &[u8]) -> Result<(), NoMemory>
-    ensures written { OnOk result (out.new.items ≡ out.old.items ++ bytes.now) }
-    ensures extends { Extends out.old.items out.new.items }
-{
-    out.extend_from_slice(bytes)
-}
-
-#[tactic(auto, unfolding(crate::specs::Numbers::number_bytes))]
-fn put_u16(out: &mut Vec<u8>, n: u16) -> Result<(), NoMemory>
-    ensures written { OnOk result (out.new.items ≡ out.old.items ++ number_bytes 2 n) }
-    ensures extends { Extends out.old.items out.new.items }
-{
-    let mut bytes = [0; 2];
-    LittleEndian::write_u16(&mut bytes, n);
-    put_bytes(out, &bytes)
-}
-
-#[tactic(auto, unfolding(crate::specs::Numbers::number_bytes))]
-fn put_u32(out: &mut Vec<u8>, n: u32) -> Result<(), NoMemory>
-    ensures written { OnOk result (out.new.items ≡ out.old.items ++ number_bytes 4 n) }
-    ensures extends { Extends out.old.items out.new.items }
-{
-    let mut bytes = [0; 4];
-    LittleEndian::write_u32(&mut bytes, n);
-    put_bytes(out, &bytes)
-}
-
-#[tactic(auto, unfolding(crate::specs::Numbers::number_bytes))]
-fn put_u64(out: &mut Vec<u8>, n: u64) -> Result<(), NoMemory>
-    ensures written { OnOk result (out.new.items ≡ out.old.items ++ number_bytes 8 n) }
-    ensures extends { Extends out.old.items out.new.items }
-{
-    let mut bytes = [0; 8];
-    LittleEndian::write_u64(&mut bytes, n);
-    put_bytes(out, &bytes)
-}
+use ts_key::coding::{put_bytes, put_u8, put_u16, put_u32, put_u64};
+use ts_key::{Batch, FAMILY_LIMIT, Op, Seq, WriteOp};
 
 fn kind_byte(op: &Op) -> u8
     ensures { result ≡ kind_code op.now }
@@ -70,7 +34,7 @@ fn kind_byte(op: &Op) -> u8
 }
 
 /// Adds the value of a put, behind its length.
-#[tactic(auto, using(crate::proofs::Writing::extends_on, std::proofs::lemmas::List::append_assoc))]
+#[tactic(auto, using(ts_key::proofs::Writing::extends_on, std::proofs::lemmas::List::append_assoc))]
 fn put_value(out: &mut Vec<u8>, op: &Op) -> Result<(), NoMemory>
     ensures written { OnOk result (out.new.items ≡ out.old.items ++ value_bytes op.now) }
     ensures short { OnOk result (IsShortValue op.now) }
@@ -86,19 +50,28 @@ fn put_value(out: &mut Vec<u8>, op: &Op) -> Result<(), NoMemory>
     }
 }
 
+/// Adds the family and the kind of an operation.
+#[tactic(auto, using(ts_key::proofs::Writing::extends_on, std::proofs::lemmas::List::append_assoc))]
+fn put_op_kind(out: &mut Vec<u8>, op: &WriteOp) -> Result<(), NoMemory>
+    ensures written { OnOk result (out.new.items ≡ out.old.items ++ (number_bytes 4 op.now.family.0 ++ kind_code op.now.op ∷ [])) }
+    ensures extends { Extends out.old.items out.new.items }
+{
+    put_u32(out, op.family.0)?;
+    put_u8(out, kind_byte(&op.op))
+}
+
 /// Adds what stands before the key of an operation.
-#[tactic(auto, using(crate::proofs::Writing::extends_on, std::proofs::lemmas::List::append_assoc))]
+#[tactic(auto, using(ts_key::proofs::Writing::extends_on, std::proofs::lemmas::List::append_assoc))]
 fn put_op_head(out: &mut Vec<u8>, op: &WriteOp, key_len: u16) -> Result<(), NoMemory>
     ensures written { OnOk result (out.new.items ≡ out.old.items ++ op_head op.now.family.0 (kind_code op.now.op) op.now.ts.0 key_len) }
     ensures extends { Extends out.old.items out.new.items }
 {
-    put_u32(out, op.family.0)?;
-    put_bytes(out, &[kind_byte(&op.op)])?;
+    put_op_kind(out, op)?;
     put_u64(out, op.ts.0)?;
     put_u16(out, key_len)
 }
 
-#[tactic(auto, using(crate::proofs::Writing::extends_on, std::proofs::lemmas::List::append_assoc))]
+#[tactic(auto, using(ts_key::proofs::Writing::extends_on, std::proofs::lemmas::List::append_assoc))]
 fn put_op(out: &mut Vec<u8>, op: &WriteOp) -> Result<(), NoMemory>
     ensures written { OnOk result (out.new.items ≡ out.old.items ++ op_bytes op.now) }
     ensures short { OnOk result (IsShortOp op.now) }
@@ -110,7 +83,7 @@ fn put_op(out: &mut Vec<u8>, op: &WriteOp) -> Result<(), NoMemory>
     put_value(out, &op.op)
 }
 
-#[tactic(auto, using(crate::proofs::Writing::extends_on, std::proofs::lemmas::List::append_assoc))]
+#[tactic(auto, using(ts_key::proofs::Writing::extends_on, std::proofs::lemmas::List::append_assoc))]
 fn put_ops(out: &mut Vec<u8>, ops: &[WriteOp]) -> Result<(), NoMemory>
     ensures written { OnOk result (out.new.items ≡ out.old.items ++ flat_map op_bytes ops.now) }
     ensures short { OnOk result (All IsShortOp ops.now) }
@@ -123,7 +96,7 @@ fn put_ops(out: &mut Vec<u8>, ops: &[WriteOp]) -> Result<(), NoMemory>
 }
 
 /// Adds the record of a batch.
-#[tactic(auto, using(crate::proofs::Writing::extends_on, std::proofs::lemmas::List::append_assoc))]
+#[tactic(auto, using(ts_key::proofs::Writing::extends_on, std::proofs::lemmas::List::append_assoc))]
 pub(crate) fn put_batch(out: &mut Vec<u8>, first: Seq, batch: &Batch) -> Result<(), NoMemory>
     ensures written { OnOk result (out.new.items ≡ out.old.items ++ batch_bytes (record { first = first; batch = batch.now })) }
     ensures valid { IsBatch batch.now }
@@ -137,9 +110,9 @@ pub(crate) fn put_batch(out: &mut Vec<u8>, first: Seq, batch: &Batch) -> Result<
     put_ops(out, ops)
 }
 
-#[tactic(auto, using(crate::proofs::Writing::extends_on, std::proofs::lemmas::List::append_assoc))]
+#[tactic(auto, using(ts_key::proofs::Writing::extends_on, std::proofs::lemmas::List::append_assoc))]
 fn put_families(out: &mut Vec<u8>, sizes: &[u8]) -> Result<(), NoMemory>
-    requires { length sizes.now ≤ 16 }
+    requires { length sizes.now ≤ FAMILY_LIMIT }
     ensures written { OnOk result (out.new.items ≡ out.old.items ++ families_bytes 0 sizes.now) }
     ensures extends { Extends out.old.items out.new.items }
 {
@@ -151,9 +124,9 @@ fn put_families(out: &mut Vec<u8>, sizes: &[u8]) -> Result<(), NoMemory>
 }
 
 /// Adds the size record.
-#[tactic(auto, using(crate::proofs::Writing::extends_on, std::proofs::lemmas::List::append_assoc))]
+#[tactic(auto, using(ts_key::proofs::Writing::extends_on, std::proofs::lemmas::List::append_assoc))]
 pub(crate) fn put_sizes(out: &mut Vec<u8>, sizes: &[u8]) -> Result<(), NoMemory>
-    requires { length sizes.now ≤ 16 }
+    requires { length sizes.now ≤ FAMILY_LIMIT }
     ensures written { OnOk result (out.new.items ≡ out.old.items ++ sizes_bytes sizes.now) }
     ensures extends { Extends out.old.items out.new.items }
 {

@@ -25,7 +25,7 @@ impl Model for Sizes {
 }
 
 impl Sizes {
-    /// These sizes: 1 to 16, each 8.
+    /// These sizes: 1 to `FAMILY_LIMIT`, each `STAMP_SIZE`.
     pub fn of(alloc: Global, sizes: &[u8]) -> Result<Sizes, NoMemory>
         requires { AreSizes sizes.now }
         ensures { IfOk result (λ s. s ≡ sizes.now) }

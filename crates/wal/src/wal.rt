@@ -9,6 +9,7 @@ ghost use Rattle.udt_disk.specs.Runs.{Leaves, IsOnlyRead, IsSameFile, file_after
 ghost use Rattle.udt_disk.specs.declared.name.FileName.{FileName as NameOf};
 ghost use Rattle.udt_disk.specs.declared.name.FileName.TheVariants.{Log};
 ghost use Rattle.udt_disk.specs.Crash.{Only, NoMore};
+ghost use Rattle.gate_log.specs.declared.frame.TheConstants.{FRAME_LIMIT};
 ghost use Rattle.gate_log.specs.GateLog.{log_room};
 ghost use Rattle.gate_log.specs.Outcomes.{IsFramesFault};
 ghost use Rattle.gate_log.specs.Faults.{is_log_disk_fault, is_frames_disk_fault};
@@ -19,7 +20,8 @@ ghost use Rattle.ts_key.specs.Batches.{IsBatch};
 ghost use Rattle.ts_key.specs.declared.batch.WriteOp.{WriteOp as Operation};
 ghost use Rattle.wal.specs.Records.{batch_bytes};
 ghost use Rattle.wal.specs.Bodies.{front_bytes};
-ghost use Rattle.wal.specs.Writing.{Extends, IsShortOp};
+ghost use Rattle.ts_key.specs.Writing.{Extends};
+ghost use Rattle.wal.specs.Writing.{IsShortOp};
 ghost use Rattle.wal.specs.Sequences.{IsNumberedWithin};
 ghost use Rattle.wal.specs.Making.{IsWhileMade, held_with};
 ghost use Rattle.wal.specs.Reserving.{IsReserved};
@@ -33,7 +35,7 @@ use crate::record::{put_batch, put_sizes};
 use crate::sizes::Sizes;
 use gate_log::{Frame, FramesFault, GateLog, LogFault};
 use std::alloc::Global;
-use ts_key::{Batch, Seq};
+use ts_key::{Batch, FAMILY_LIMIT, SEQUENCE_LIMIT, Seq};
 use udt_disk::{Disk, DiskFile, Failed, FileName};
 
 /// Fewer bytes than these wait where a batch may be added.
@@ -48,13 +50,13 @@ pub struct Wal<F: DiskFile> {
     waiting: Vec<u8>,
     /// The log has no frame.
     is_fresh: bool,
-    ghost fits: { length waiting.items ≤ 8388608 },
+    ghost fits: { length waiting.items ≤ FRAME_LIMIT },
     ghost reserved: { length waiting.items ≤ log_room log },
 }
 
 /// Adds the size record, where the body is that of the first frame.
 fn put_front(waiting: &mut Vec<u8>, sizes: &[u8], is_first: bool) -> Result<(), NoMemory>
-    requires { length sizes.now ≤ 16 }
+    requires { length sizes.now ≤ FAMILY_LIMIT }
     ensures written { OnOk result (waiting.new.items ≡ waiting.old.items ++ front_bytes sizes.now is_first) }
     ensures extends { Extends waiting.old.items waiting.new.items }
 {
@@ -75,7 +77,7 @@ fn lay_out<F: DiskFile>(
     first: Seq,
     batch: &Batch,
 ) -> Result<(), NoMemory>
-    requires { length sizes.now ≤ 16 }
+    requires { length sizes.now ≤ FAMILY_LIMIT }
     ensures written { OnOk result (waiting.new.items ≡ waiting.old.items ++ (front_bytes sizes.now (is_fresh && (length waiting.old.items == 0)) ++ batch_bytes (record { first = first; batch = batch.now }))) }
     ensures valid { OnOk result (IsBatch batch.now) }
     ensures short { OnOk result (All IsShortOp batch.now) }
@@ -127,8 +129,8 @@ impl<F: DiskFile> Wal<F> {
     ghost use Rattle.wal.specs.Wals.{wal_file, wal_sizes, wal_pending, wal_waiting, wal_end, IsWalOf, Holds, IsWalReady, MayGoOn};
 
     /// Makes the file of log `number`, and in it a log without frames, on the disk. A crash at any moment leaves under its
-    /// name what it might have left there before; or none, or a file of one byte at most; or, where a file was there, any bytes. Where that fails, the file is given back.
-    /// It takes no memory today; where memory ran out, the file reads as empty.
+    /// name what it might have left there before; or none, or a file of one byte at most; or, where a file was there, any
+    /// bytes. Where that fails, the file is given back. Where memory ran out, the file reads as empty.
     pub fn create<D: Disk<File = F>>(
         alloc: Global,
         disk: &mut D,
@@ -208,14 +210,14 @@ impl<F: DiskFile> Wal<F> {
     }
 
     /// Adds a batch to those that wait. Its first sequence is at least 1, and one above the last sequence of this log,
-    /// where it has one; those that wait count. Its last sequence is at most 2^56 - 1, its families are in the list of
-    /// sizes, and fewer than `PENDING_LIMIT` bytes wait. Want of memory leaves the log as it was. It makes no call on the
-    /// file.
+    /// where it has one; those that wait count. Its last sequence is at most `SEQUENCE_LIMIT`, its families are in the
+    /// list of sizes, and fewer than `PENDING_LIMIT` bytes wait. Want of memory leaves the log as it was. It makes no call
+    /// on the file.
     pub fn append(&mut self, first: Seq, batch: &Batch) -> Result<(), NoMemory>
         requires first { 1 ≤ first.0 }
-        requires last { first.0 + length batch.now ≤ 2 ^ 56 }
+        requires last { first.0 + length batch.now ≤ SEQUENCE_LIMIT + 1 }
         requires families { All (λ (op : Operation). op.family.0 < length (wal_sizes self.old)) batch.now }
-        requires room { wal_pending self.old < 1048576 }
+        requires room { wal_pending self.old < PENDING_LIMIT }
         requires next { MayGoOn F.DiskFile self.old first.0 }
 
         ensures waits { (batches waiting : List NumberedBatch) → IsWalOf F.DiskFile self.old batches waiting → OnOk result (IsWalOf F.DiskFile self.new batches (waiting ++ record { first = first; batch = batch.now } ∷ [])) }

@@ -2,7 +2,7 @@
 ghost use Rattle.std.specs.Prelude.{◌≡◌, ◌<◌, ◌∷◌, [], map, codes, if◌then◌else◌, IfOk, MatchOption};
 ghost use Rattle.std.specs.Str.{bytes_eq};
 ghost use Rattle.client_lang.specs.Grammar.{Reads, IsEvent, IsOp};
-ghost use Rattle.client_lang.specs.Readers.{IsPlainEvent, IsStep, IsTail, IsTailAt, IsTarget, IsWriteEvent, op_at, op_length as length_of_op};
+ghost use Rattle.client_lang.specs.Readers.{IsPlainEvent, IsFirstOp, IsTail, IsTailAt, IsTarget, IsWriteEvent, op_at, op_length as length_of_op};
 
 use crate::grammar::words::{read_key, read_name, read_number, read_value};
 use std::alloc::{AllocError, Global};
@@ -107,7 +107,7 @@ fn read_write(alloc: Global, words: &[&[u8]]) -> Result<Option<Event>, AllocErro
 
 /// The first operation of these words, and what is behind it.
 fn read_step(alloc: Global, words: &[&[u8]]) -> Result<Option<Step>, AllocError>
-    ensures { IfOk result (Reads (IsStep (map (λ w. w.now) words.now))) }
+    ensures { IfOk result (Reads (IsFirstOp (map (λ w. w.now) words.now))) }
 {
     let length = op_length(words);
     let Some(op) = read_op(alloc, &words[..length])? else {

@@ -2,7 +2,7 @@
 ghost use Rattle.std.specs.Prelude.{◌≡◌, ◌⊎◌, ◌≤◌, List, length, map, take, All, IfOk, IfErr};
 ghost use Rattle.client_lang.specs.declared.command.Command.{Command};
 ghost use Rattle.client_lang.specs.Faults.{IsReadFault, Refuses};
-ghost use Rattle.client_lang.specs.Grammar.{Reads, IsEvent, IsFile, file_limit, words_of, is_kept as kept};
+ghost use Rattle.client_lang.specs.Grammar.{Reads, IsEvent, IsFile, words_of, wants_command as kept};
 ghost use Rattle.client_lang.specs.Print.{IsBuiltCommand};
 ghost use Rattle.client_lang.specs.Stamps.{IsStampedCommand};
 ghost use Rattle.client_lang.specs.declared.grammar.lines.ReadFault.{ReadFault};
@@ -75,13 +75,13 @@ pub fn read_client(alloc: Global, bytes: &[u8]) -> Result<Vec<Command>, ReadFaul
 
 /// The commands of a file that isn't too long.
 fn read_lines(alloc: Global, bytes: &[u8]) -> Result<Vec<Command>, ReadFault>
-    requires { length bytes.now ≤ file_limit }
+    requires { length bytes.now ≤ FILE_LIMIT }
     ensures read { IfOk result (λ commands. IsFile bytes.now commands.items) }
     ensures refused { IfErr result (IsReadFault bytes.now) }
 {
     let mut commands = Vec::new(alloc);
     for (i, line) in bytes.split(|b| *b == b'\n').enumerate() {
-        if !is_kept(line) {
+        if !wants_command(line) {
             continue;
         }
         let Some(event) = read_line(alloc, line)? else {
@@ -96,7 +96,7 @@ fn read_lines(alloc: Global, bytes: &[u8]) -> Result<Vec<Command>, ReadFault>
 }
 
 /// Is the line not skipped?
-fn is_kept(line: &[u8]) -> bool
+fn wants_command(line: &[u8]) -> bool
     ensures { result ≡ kept line.now }
 {
     match line {

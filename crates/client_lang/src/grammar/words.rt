@@ -41,7 +41,7 @@ pub fn read_number(word: &[u8]) -> Option<u64>
 
 /// The key that the word spells, in either form.
 pub fn read_key(alloc: Global, word: &[u8]) -> Result<Option<Key>, AllocError>
-    ensures { IfOk result (Reads (IsByteWord 1024 word.now)) }
+    ensures { IfOk result (Reads (IsByteWord KEY_LIMIT word.now)) }
 {
     if is_plain(word) {
         return key_of(alloc, word);
@@ -54,7 +54,7 @@ pub fn read_key(alloc: Global, word: &[u8]) -> Result<Option<Key>, AllocError>
 
 /// The value that the word spells, in either form.
 pub fn read_value(alloc: Global, word: &[u8]) -> Result<Option<Value>, AllocError>
-    ensures { IfOk result (Reads (IsByteWord 65536 word.now)) }
+    ensures { IfOk result (Reads (IsByteWord VALUE_LIMIT word.now)) }
 {
     if is_plain(word) {
         return value_of(alloc, word);
@@ -67,8 +67,8 @@ pub fn read_value(alloc: Global, word: &[u8]) -> Result<Option<Value>, AllocErro
 
 /// The key of these bytes, or None where they are too many.
 fn key_of(alloc: Global, bytes: &[u8]) -> Result<Option<Key>, AllocError>
-    ensures key { IfOk result (λ found. IfSome found (λ key. (key ≡ bytes.now) × (length bytes.now ≤ 1024))) }
-    ensures none { IfOk result (λ found. IfNone found (1024 < length bytes.now)) }
+    ensures key { IfOk result (λ found. IfSome found (λ key. (key ≡ bytes.now) × (length bytes.now ≤ KEY_LIMIT))) }
+    ensures none { IfOk result (λ found. IfNone found (KEY_LIMIT < length bytes.now)) }
 {
     match Key::of(alloc, bytes) {
         Ok(key) => Ok(Some(key)),
@@ -79,8 +79,8 @@ fn key_of(alloc: Global, bytes: &[u8]) -> Result<Option<Key>, AllocError>
 
 /// The value of these bytes, or None where they are too many.
 fn value_of(alloc: Global, bytes: &[u8]) -> Result<Option<Value>, AllocError>
-    ensures value { IfOk result (λ found. IfSome found (λ value. (value ≡ bytes.now) × (length bytes.now ≤ 65536))) }
-    ensures none { IfOk result (λ found. IfNone found (65536 < length bytes.now)) }
+    ensures value { IfOk result (λ found. IfSome found (λ value. (value ≡ bytes.now) × (length bytes.now ≤ VALUE_LIMIT))) }
+    ensures none { IfOk result (λ found. IfNone found (VALUE_LIMIT < length bytes.now)) }
 {
     match Value::of(alloc, bytes) {
         Ok(value) => Ok(Some(value)),

@@ -1,4 +1,4 @@
-use Rattle.client_lang.proofs.Injective.{line_back, lines_back}
+use Rattle.client_lang.proofs.LinesByText.{line_back, lines_back}
 use Rattle.client_lang.proofs.Pushing.{cut, cut_keeps}
 use Rattle.client_lang.proofs.print.print_line.Goals as goal
 

@@ -4,9 +4,9 @@ use Rattle.std.specs.List.{flat_map}
 use Rattle.wal.specs.Records.{batch_bytes, IsLoggedBatch}
 use Rattle.wal.proofs.body.read_batches.Given as goal
 
-abbrev pub invariant-loop-cursor : goal.invariant-loop-cursor
-invariant-loop-cursor l =
-    All (IsLoggedBatch l.families) l.batches.items × (l.bytes ≡ flat_map batch_bytes l.batches.items ++ l.cursor.left.now)
+abbrev pub invariant-loop-reader : goal.invariant-loop-reader
+invariant-loop-reader l =
+    All (IsLoggedBatch l.families) l.batches.items × (l.bytes ≡ flat_map batch_bytes l.batches.items ++ l.reader.left.now)
 
-abbrev pub decreases-loop-cursor : goal.decreases-loop-cursor
-decreases-loop-cursor l = length l.cursor.left.now
+abbrev pub decreases-loop-reader : goal.decreases-loop-reader
+decreases-loop-reader l = length l.reader.left.now

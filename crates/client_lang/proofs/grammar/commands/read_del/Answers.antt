@@ -1,6 +1,6 @@
 use Rattle.std.proofs.Common.{◌≡◌, rules, tests}
 use Rattle.std.specs.Prelude.{codes}
-use Rattle.client_lang.proofs.ReadCommands.{no_del, del_made}
+use Rattle.client_lang.proofs.OneOperation.{no_del, del_made}
 use Rattle.client_lang.proofs.grammar.commands.read_del.Goals as goal
 
 pub returns-in-None : goal.returns-in-None

@@ -1,4 +1,4 @@
-use Rattle.client_lang.proofs.ReadCommands.{read_both_ok, plain_is}
+use Rattle.client_lang.proofs.OneEvent.{read_both_ok, plain_is}
 use Rattle.client_lang.proofs.grammar.commands.read_event.Goals as goal
 
 pub returns-in-Some : goal.returns-in-Some

@@ -1,4 +1,4 @@
-use Rattle.client_lang.proofs.ReadCommands.{no_get}
+use Rattle.client_lang.proofs.OneEvent.{no_get}
 use Rattle.client_lang.proofs.grammar.commands.read_get.Goals as goal
 
 pub returns-in-None : goal.returns-in-None

@@ -1,7 +1,7 @@
 use Rattle.std.proofs.Common.{List, ℕ, arith, rules, tests}
 use Rattle.std.specs.Prelude.{IfOk}
 use Rattle.client_lang.specs.Grammar.{Reads, IsOp}
-use Rattle.client_lang.proofs.ReadCommands.{by_four, by_five, no_op}
+use Rattle.client_lang.proofs.OneOperation.{by_four, by_five, no_op}
 use Rattle.client_lang.proofs.grammar.commands.read_op.Goals as goal
 use Rattle.client_lang.proofs.grammar.commands.read_op.Goals.{in_default-via-then-words-lt4, in_default-via-else-words-lt4+else-words-lt5+else-words-lt6}
 

@@ -2,7 +2,8 @@ use Rattle.std.proofs.Common.{List, ℕ, arith, rules, tests}
 use Rattle.std.specs.Prelude.{IfOk}
 use Rattle.client_lang.specs.Grammar.{Reads}
 use Rattle.client_lang.specs.Readers.{IsPlainEvent}
-use Rattle.client_lang.proofs.ReadCommands.{by_four, no_plain}
+use Rattle.client_lang.proofs.OneOperation.{by_four}
+use Rattle.client_lang.proofs.OneEvent.{no_plain}
 use Rattle.client_lang.proofs.grammar.commands.read_plain.Goals as goal
 use Rattle.client_lang.proofs.grammar.commands.read_plain.Goals.{in_default-via-then-words-lt1, in_default-via-else-words-lt1+else-words-lt2+then-words-lt4, in_default-via-else-words-lt1+else-words-lt2+else-words-lt4+else-words-lt5}
 

@@ -1,6 +1,6 @@
 use Rattle.std.proofs.Common.{◌≡◌, rules, tests}
 use Rattle.std.specs.Prelude.{codes}
-use Rattle.client_lang.proofs.ReadCommands.{no_put, put_made}
+use Rattle.client_lang.proofs.OneOperation.{no_put, put_made}
 use Rattle.client_lang.proofs.grammar.commands.read_put.Goals as goal
 
 pub returns-in_default : goal.returns-in_default

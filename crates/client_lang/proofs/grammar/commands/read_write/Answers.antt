@@ -1,6 +1,6 @@
 use Rattle.std.proofs.Common.{arith}
 use Rattle.std.proofs.lemmas.List.{take_rest}
-use Rattle.client_lang.proofs.ReadCommands.{length-now}
+use Rattle.client_lang.proofs.OneOperation.{length-now}
 use Rattle.client_lang.proofs.ReadWrites.{left_all, left_step, left_end, left_sync, left_none, none_past}
 use Rattle.client_lang.proofs.grammar.commands.read_write.Goals as goal
 

@@ -1,4 +1,4 @@
-use Rattle.client_lang.proofs.ReadCommands.{tail_is}
+use Rattle.client_lang.proofs.Tails.{tail_is}
 use Rattle.client_lang.proofs.grammar.commands.tail_of.Goals as goal
 
 pub returns-in-len1-up : goal.returns-in-len1-up

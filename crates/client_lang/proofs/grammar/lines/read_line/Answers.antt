@@ -1,7 +1,7 @@
 use Rattle.std.proofs.Common.{List, ℕ, ◌∙◌, ap, subst, map}
 use Rattle.std.specs.Prelude.{IfOk}
 use Rattle.client_lang.specs.Grammar.{Reads, IsEvent, words_of}
-use Rattle.client_lang.proofs.ReadCommands.{first_words}
+use Rattle.client_lang.proofs.OneEvent.{first_words}
 use Rattle.client_lang.proofs.grammar.lines.read_line.Goals as goal
 
 pub returns : goal.returns
