@@ -4,20 +4,20 @@ use Rattle.std.specs.Prelude.{filter}
 use Rattle.std.specs.List.{list_any}
 use Rattle.std.proofs.lemmas.List.{take_more}
 use Rattle.manifest_edit.specs.declared.edit.TableAt.{TableAt}
-use Rattle.manifest_edit.specs.Tables.{place, place_all, without, without_all}
+use Rattle.manifest_edit.specs.LiveTables.{place_table, place_tables, without_table, without_tables}
 
 -- nothing is taken out
-pub none_out : (ts : List TableAt) → ts ≡ without_all [] ts
+pub none_out : (ts : List TableAt) → ts ≡ without_tables [] ts
 none_out [] = refl
 none_out (t ∷ ts) = ap (λ (us : List TableAt). t ∷ us) (none_out ts)
 
-place_more : (us : List TableAt) (u : TableAt) (ts : List TableAt) → place_all (us ++ u ∷ []) ts ≡ place u (place_all us ts)
+place_more : (us : List TableAt) (u : TableAt) (ts : List TableAt) → place_tables (us ++ u ∷ []) ts ≡ place_table u (place_tables us ts)
 place_more [] u ts = refl
-place_more (v ∷ us) u ts = place_more us u (place v ts)
+place_more (v ∷ us) u ts = place_more us u (place_table v ts)
 
-pub placed_on : (us ts now new : List TableAt) (i : ℕ) (d : TableAt) → i < length us → now ≡ place_all (take i us) ts → new ≡ place (get_or us i d) now → new ≡ place_all (take (i + 1) us) ts
+pub placed_on : (us ts now new : List TableAt) (i : ℕ) (d : TableAt) → i < length us → now ≡ place_tables (take i us) ts → new ≡ place_table (get_or us i d) now → new ≡ place_tables (take (i + 1) us) ts
 placed_on us ts now new i d within so_far step =
-    step ∙ ap (place (get_or us i d)) so_far ∙ sym (place_more (take i us) (get_or us i d) ts) ∙ ap (λ (vs : List TableAt). place_all vs ts) (sym (take_more us i d within))
+    step ∙ ap (place_table (get_or us i d)) so_far ∙ sym (place_more (take i us) (get_or us i d) ts) ∙ ap (λ (vs : List TableAt). place_tables vs ts) (sym (take_more us i d within))
 
 any_more : (ns : List ℕ) (n m : ℕ) → list_any (λ k. m == k) (ns ++ n ∷ []) ≡ (list_any (λ k. m == k) ns || (m == n))
 any_more [] n m = or_false (m == n)
@@ -40,13 +40,13 @@ inner : (a b : Bool) (t : TableAt) (kept : List TableAt) (test : TableAt → Boo
 inner true b t kept test = refl
 inner false b t kept test = refl
 
-without_more : (ts : List TableAt) (ns : List ℕ) (n : ℕ) → without (without_all ns ts) n ≡ without_all (ns ++ n ∷ []) ts
+without_more : (ts : List TableAt) (ns : List ℕ) (n : ℕ) → without_table (without_tables ns ts) n ≡ without_tables (ns ++ n ∷ []) ts
 without_more [] ns n = refl
 without_more (t ∷ ts) ns n =
     let a = list_any (λ k. t.number == k) ns in
-    let kept = without (without_all ns ts) n in
-    inner (not a) true t (without_all ns ts) (λ (u : TableAt). not (u.number == n)) ∙ twice a (t.number == n) t kept ∙ ap (λ (b : Bool). cond (not b) (t ∷ kept) kept) (sym (any_more ns n t.number)) ∙ ap (λ (us : List TableAt). cond (not (list_any (λ k. t.number == k) (ns ++ n ∷ []))) (t ∷ us) us) (without_more ts ns n)
+    let kept = without_table (without_tables ns ts) n in
+    inner (not a) true t (without_tables ns ts) (λ (u : TableAt). not (u.number == n)) ∙ twice a (t.number == n) t kept ∙ ap (λ (b : Bool). cond (not b) (t ∷ kept) kept) (sym (any_more ns n t.number)) ∙ ap (λ (us : List TableAt). cond (not (list_any (λ k. t.number == k) (ns ++ n ∷ []))) (t ∷ us) us) (without_more ts ns n)
 
-pub removed_on : (ns : List ℕ) (ts now new : List TableAt) (i : ℕ) → i < length ns → now ≡ without_all (take i ns) ts → new ≡ without now (get_or ns i 0) → new ≡ without_all (take (i + 1) ns) ts
+pub removed_on : (ns : List ℕ) (ts now new : List TableAt) (i : ℕ) → i < length ns → now ≡ without_tables (take i ns) ts → new ≡ without_table now (get_or ns i 0) → new ≡ without_tables (take (i + 1) ns) ts
 removed_on ns ts now new i within so_far step =
-    step ∙ ap (λ (us : List TableAt). without us (get_or ns i 0)) so_far ∙ without_more ts (take i ns) (get_or ns i 0) ∙ ap (λ (ms : List ℕ). without_all ms ts) (sym (take_more ns i 0 within))
+    step ∙ ap (λ (us : List TableAt). without_table us (get_or ns i 0)) so_far ∙ without_more ts (take i ns) (get_or ns i 0) ∙ ap (λ (ms : List ℕ). without_tables ms ts) (sym (take_more ns i 0 within))

@@ -5,7 +5,7 @@ use Rattle.std.proofs.lemmas.List.{append_assoc, append-nil}
 use Rattle.ts_key.specs.Numbers.{number_bytes}
 use Rattle.ts_key.specs.Reading.{SpellsNone}
 use Rattle.ts_key.proofs.NumberBytes.{number_bytes-unique}
-use Rattle.manifest_edit.specs.Edits.{IsWord, IsTableWords, AreCounted, IsSizedFamily, IsSizedPart, IsSized, IsEdit, counted_text, numbers_text, table_text, family_text, part_text, edit_text}
+use Rattle.manifest_edit.specs.Edits.{IsWord, IsTableWords, AreCounted, IsSizedFamily, IsSizedPart, IsSized, IsEdit, counted_text, numbers_text, table_text, family_edit_text, part_text, edit_text}
 use Rattle.manifest_edit.proofs.Fronts.{first_none, later_none, counted_same}
 use Rattle.manifest_edit.specs.declared.edit.TableAt.{TableAt}
 use Rattle.manifest_edit.specs.declared.edit.FamilyEdit.{FamilyEdit}
@@ -80,7 +80,7 @@ abbrev pub from_floor : FamilyEdit → List ℕ
 from_floor e = number_bytes 8 e.floor.0 ++ from_through e
 
 -- nothing is spelled behind this part of a family
-pub family_none : (old : List ℕ) → SpellsNone (number_bytes 4) (λ n. n < 2 ^ 32) old → SpellsNone family_text IsSizedFamily old
+pub family_none : (old : List ℕ) → SpellsNone (number_bytes 4) (λ n. n < 2 ^ 32) old → SpellsNone family_edit_text IsSizedFamily old
 family_none old none = first_none (number_bytes 4) (λ n. n < 2 ^ 32) (λ (e : FamilyEdit). e.family.0) from_floor IsSizedFamily (λ e sized. sized.family) old none
 
 pub floor_none : (old : List ℕ) → SpellsNone (number_bytes 8) (λ n. n < 2 ^ 64) old → SpellsNone from_floor IsSizedFamily old
@@ -96,7 +96,7 @@ pub removed_none : (old : List ℕ) → SpellsNone (counted_text (number_bytes 8
 removed_none old none e rest sized is = none e.remove rest sized.removed is
 
 -- nothing is spelled where this part is there and none follows it
-pub behind_family : (n : ℕ) (old mid : List ℕ) → n < 2 ^ 32 → old ≡ number_bytes 4 n ++ mid → SpellsNone from_floor IsSizedFamily mid → SpellsNone family_text IsSizedFamily old
+pub behind_family : (n : ℕ) (old mid : List ℕ) → n < 2 ^ 32 → old ≡ number_bytes 4 n ++ mid → SpellsNone from_floor IsSizedFamily mid → SpellsNone family_edit_text IsSizedFamily old
 behind_family = later_none (number_bytes 4) (λ n. n < 2 ^ 32) shorts_unique (λ (e : FamilyEdit). e.family.0) from_floor IsSizedFamily (λ e sized. sized.family)
 
 pub behind_floor : (n : ℕ) (old mid : List ℕ) → n < 2 ^ 64 → old ≡ number_bytes 8 n ++ mid → SpellsNone from_through IsSizedFamily mid → SpellsNone from_floor IsSizedFamily old
@@ -108,9 +108,9 @@ behind_through = later_none (number_bytes 8) IsWord words_unique (λ (e : Family
 pub behind_added : (ts : List TableAt) (old mid : List ℕ) → AreCounted IsTableWords ts → old ≡ counted_text table_text ts ++ mid → SpellsNone from_removed IsSizedFamily mid → SpellsNone from_added IsSizedFamily old
 behind_added = later_none (counted_text table_text) (AreCounted IsTableWords) tables_unique (λ (e : FamilyEdit). e.add) from_removed IsSizedFamily (λ e sized. sized.added)
 
-pub families_unique : (v w : FamilyEdit) (r s : List ℕ) → IsSizedFamily v → IsSizedFamily w → family_text v ++ r ≡ family_text w ++ s → (v ≡ w) × (r ≡ s)
+pub families_unique : (v w : FamilyEdit) (r s : List ℕ) → IsSizedFamily v → IsSizedFamily w → family_edit_text v ++ r ≡ family_edit_text w ++ s → (v ≡ w) × (r ≡ s)
 families_unique v w r s fits_v fits_w same =
-    let spread : (e : FamilyEdit) (t : List ℕ) → family_text e ++ t ≡ number_bytes 4 e.family.0 ++ (number_bytes 8 e.floor.0 ++ (number_bytes 8 e.through.0 ++ (counted_text table_text e.add ++ (numbers_text e.remove ++ t)))) = λ e t. sym (five_parts _ _ _ _ _ t (number_bytes 4 e.family.0) (number_bytes 8 e.floor.0) (number_bytes 8 e.through.0) (counted_text table_text e.add) (numbers_text e.remove) refl refl refl refl refl) in
+    let spread : (e : FamilyEdit) (t : List ℕ) → family_edit_text e ++ t ≡ number_bytes 4 e.family.0 ++ (number_bytes 8 e.floor.0 ++ (number_bytes 8 e.through.0 ++ (counted_text table_text e.add ++ (numbers_text e.remove ++ t)))) = λ e t. sym (five_parts _ _ _ _ _ t (number_bytes 4 e.family.0) (number_bytes 8 e.floor.0) (number_bytes 8 e.through.0) (counted_text table_text e.add) (numbers_text e.remove) refl refl refl refl refl) in
     let one = shorts_unique v.family.0 w.family.0 _ _ fits_v.family fits_w.family (sym (spread v r) ∙ same ∙ spread w s) in
     let two = words_unique v.floor.0 w.floor.0 _ _ fits_v.floor fits_w.floor one.1 in
     let three = words_unique v.through.0 w.through.0 _ _ fits_v.through fits_w.through two.1 in
@@ -126,18 +126,18 @@ flag_none old short (Some e) rest sized is = absurd (omega (arith, ap length is)
 
 pub other_flag : (flag : ℕ) (old mid : List ℕ) → flag ≢ 0 → flag ≢ 1 → old ≡ flag ∷ mid → SpellsNone part_text IsSizedPart old
 other_flag flag old mid some other here None rest sized is = some (heads flag 0 mid rest (sym here ∙ is)).0
-other_flag flag old mid some other here (Some e) rest sized is = other (heads flag 1 mid (family_text e ++ rest) (sym here ∙ is)).0
+other_flag flag old mid some other here (Some e) rest sized is = other (heads flag 1 mid (family_edit_text e ++ rest) (sym here ∙ is)).0
 
-pub behind_flag : (old mid : List ℕ) → old ≡ 1 ∷ mid → SpellsNone family_text IsSizedFamily mid → SpellsNone part_text IsSizedPart old
+pub behind_flag : (old mid : List ℕ) → old ≡ 1 ∷ mid → SpellsNone family_edit_text IsSizedFamily mid → SpellsNone part_text IsSizedPart old
 behind_flag old mid here none None rest sized is = absurd (cc (sym (heads 1 0 mid rest (sym here ∙ is)).0))
-behind_flag old mid here none (Some e) rest sized is = none e rest sized (heads 1 1 mid (family_text e ++ rest) (sym here ∙ is)).1
+behind_flag old mid here none (Some e) rest sized is = none e rest sized (heads 1 1 mid (family_edit_text e ++ rest) (sym here ∙ is)).1
 
 pub parts_unique : (v w : Option FamilyEdit) (r s : List ℕ) → IsSizedPart v → IsSizedPart w → part_text v ++ r ≡ part_text w ++ s → (v ≡ w) × (r ≡ s)
 parts_unique None None r s fits_v fits_w same = (refl, (heads 0 0 r s same).1)
-parts_unique None (Some w) r s fits_v fits_w same = absurd (omega (arith, (heads 0 1 r (family_text w ++ s) same).0))
-parts_unique (Some v) None r s fits_v fits_w same = absurd (omega (arith, (heads 1 0 (family_text v ++ r) s same).0))
+parts_unique None (Some w) r s fits_v fits_w same = absurd (omega (arith, (heads 0 1 r (family_edit_text w ++ s) same).0))
+parts_unique (Some v) None r s fits_v fits_w same = absurd (omega (arith, (heads 1 0 (family_edit_text v ++ r) s same).0))
 parts_unique (Some v) (Some w) r s fits_v fits_w same =
-    let more = families_unique v w r s fits_v fits_w (heads 1 1 (family_text v ++ r) (family_text w ++ s) same).1 in
+    let more = families_unique v w r s fits_v fits_w (heads 1 1 (family_edit_text v ++ r) (family_edit_text w ++ s) same).1 in
     (ap (λ (e : FamilyEdit). Some e) more.0, more.1)
 
 -- ---- an edit

@@ -21,12 +21,12 @@ abbrev pub table_text : TableAt → List ℕ
 table_text t = t.level ∷ number_bytes 8 t.number
 
 -- what changes of a family: its number, its floor and `through`, its added tables, and its removed ones
-abbrev pub family_text : FamilyEdit → List ℕ
-family_text e = number_bytes 4 e.family.0 ++ (number_bytes 8 e.floor.0 ++ (number_bytes 8 e.through.0 ++ (counted_text table_text e.add ++ numbers_text e.remove)))
+abbrev pub family_edit_text : FamilyEdit → List ℕ
+family_edit_text e = number_bytes 4 e.family.0 ++ (number_bytes 8 e.floor.0 ++ (number_bytes 8 e.through.0 ++ (counted_text table_text e.add ++ numbers_text e.remove)))
 
 abbrev pub part_text : Option FamilyEdit → List ℕ
 part_text None = 0 ∷ []
-part_text (Some e) = 1 ∷ family_text e
+part_text (Some e) = 1 ∷ family_edit_text e
 
 -- an edit: its kind, the added logs, the dropped logs, the next file, the last sequence, and what changes of a family
 abbrev pub edit_text : Edit → List ℕ

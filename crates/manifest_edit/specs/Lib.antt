@@ -1,3 +1,3 @@
 pub mod Edits
 pub mod Reading
-pub mod Tables
+pub mod LiveTables

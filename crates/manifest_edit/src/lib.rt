@@ -3,13 +3,13 @@
 
 pub mod edit;
 mod fault;
+pub mod live_tables;
 pub mod read;
-pub mod tables;
 pub mod write;
 
 pub use edit::{Edit, FamilyEdit, TableAt};
+pub use live_tables::LiveTables;
 pub use read::read_edit;
-pub use tables::Tables;
 pub use write::write_edit;
 
 /// Memory ran out.

@@ -4,7 +4,7 @@ ghost use Rattle.std.specs.Prelude.{◌≡◌, ◌^◌, ◌<◌, List, All, leng
 ghost use Rattle.std.specs.List.{flat_map};
 ghost use Rattle.ts_key.specs.Numbers.{number_bytes};
 ghost use Rattle.ts_key.specs.Reading.{ReadsFront};
-ghost use Rattle.manifest_edit.specs.Edits.{IsWord, IsTableWords, AreCounted, IsSizedFamily, IsSizedPart, IsSized, IsEdit, counted_text, table_text, family_text, part_text, edit_text};
+ghost use Rattle.manifest_edit.specs.Edits.{IsWord, IsTableWords, AreCounted, IsSizedFamily, IsSizedPart, IsSized, IsEdit, counted_text, table_text, family_edit_text, part_text, edit_text};
 ghost use Rattle.manifest_edit.specs.Reading.{TellsBad};
 ghost use Rattle.manifest_edit.specs.declared.edit.Edit.{Edit as EditOf};
 
@@ -74,7 +74,7 @@ fn tables(alloc: Global, reader: &mut Reader<'_>) -> Result<Vec<TableAt>, EditFa
 
 /// What changes of the next family.
 fn family(alloc: Global, reader: &mut Reader<'_>) -> Result<FamilyEdit, EditFault>
-    ensures { ReadsFront TellsBad (λ e. e) family_text IsSizedFamily reader.old.left.now reader.new.left.now result }
+    ensures { ReadsFront TellsBad (λ e. e) family_edit_text IsSizedFamily reader.old.left.now reader.new.left.now result }
 {
     let family = reader.take_u32()?;
     let floor = reader.take_u64()?;

@@ -12,11 +12,12 @@
 
 ghost use Rattle.std.specs.Prelude.{◌≡◌, ◌^◌, ◌<◌, ◌++◌, OnOk, IfOk};
 ghost use Rattle.ts_key.specs.Numbers.{number_bytes};
-ghost use Rattle.manifest_edit.specs.Edits.{IsWord, IsTableWords, AreCounted, IsSizedFamily, IsSizedPart, IsEdit, counted_text, table_text, family_text, part_text};
+ghost use Rattle.manifest_edit.specs.Edits.{IsWord, IsTableWords, AreCounted, IsSizedFamily, IsSizedPart, IsSized, IsEdit, counted_text, table_text, family_edit_text, part_text, edit_text};
 
 use crate::{Edit, FamilyEdit, NoMemory, TableAt};
 use std::alloc::{AllocError, Global};
 use ts_key::coding::{put_u8, put_u32, put_u64};
+use udt_model::Items;
 
 /// The first byte of an edit.
 pub const EDIT: u8 = 2;
@@ -69,16 +70,45 @@ fn put_tables(out: &mut Vec<u8>, tables: &[TableAt]) -> Result<(), NoMemory>
     Ok(())
 }
 
-#[tactic(auto, using(std::proofs::lemmas::List::append_assoc))]
+/// Adds a u64.
+fn put_word(out: &mut Vec<u8>, n: u64) -> Result<(), NoMemory>
+    ensures written { OnOk result (out.new.items ≡ out.old.items ++ number_bytes 8 n) }
+    ensures sized { OnOk result (IsWord n) }
+{
+    put_u64(out, n)
+}
+
+/// Adds the number of a family.
+fn put_family_number(out: &mut Vec<u8>, n: u32) -> Result<(), NoMemory>
+    ensures written { OnOk result (out.new.items ≡ out.old.items ++ number_bytes 4 n) }
+    ensures sized { OnOk result (n < 2 ^ 32) }
+{
+    put_u32(out, n)
+}
+
+fn put_number_items(out: &mut Vec<u8>, numbers: &Items<u64>) -> Result<(), NoMemory>
+    ensures written { OnOk result (out.new.items ≡ out.old.items ++ counted_text (number_bytes 8) numbers.now) }
+    ensures sized { OnOk result (AreCounted IsWord numbers.now) }
+{
+    put_numbers(out, numbers.as_slice())
+}
+
+fn put_table_items(out: &mut Vec<u8>, tables: &Items<TableAt>) -> Result<(), NoMemory>
+    ensures written { OnOk result (out.new.items ≡ out.old.items ++ counted_text table_text tables.now) }
+    ensures sized { OnOk result (AreCounted IsTableWords tables.now) }
+{
+    put_tables(out, tables.as_slice())
+}
+
 fn put_family(out: &mut Vec<u8>, family: &FamilyEdit) -> Result<(), NoMemory>
-    ensures written { OnOk result (out.new.items ≡ out.old.items ++ family_text family.now) }
+    ensures written { OnOk result (out.new.items ≡ out.old.items ++ family_edit_text family.now) }
     ensures sized { OnOk result (IsSizedFamily family.now) }
 {
-    put_u32(out, family.family.0)?;
-    put_u64(out, family.floor.0)?;
-    put_u64(out, family.through.0)?;
-    put_tables(out, family.add.as_slice())?;
-    put_numbers(out, family.remove.as_slice())
+    put_family_number(out, family.family.0)?;
+    put_word(out, family.floor.0)?;
+    put_word(out, family.through.0)?;
+    put_table_items(out, &family.add)?;
+    put_number_items(out, &family.remove)
 }
 
 #[tactic(auto, using(std::proofs::lemmas::List::append_assoc))]
@@ -95,18 +125,24 @@ fn put_part(out: &mut Vec<u8>, part: &Option<FamilyEdit>) -> Result<(), NoMemory
     }
 }
 
+fn put_edit(out: &mut Vec<u8>, edit: &Edit) -> Result<(), NoMemory>
+    ensures written { OnOk result (out.new.items ≡ out.old.items ++ edit_text edit.now) }
+    ensures sized { OnOk result (IsSized edit.now) }
+{
+    put_u8(out, EDIT)?;
+    put_number_items(out, &edit.add_logs)?;
+    put_number_items(out, &edit.drop_logs)?;
+    put_word(out, edit.next_file)?;
+    put_word(out, edit.last.0)?;
+    put_part(out, &edit.family)
+}
+
 /// The body of an edit. No memory is found also where a count is past a u32 or a level past a u8. It costs time linear in the
 /// body.
-#[tactic(auto, using(std::proofs::lemmas::List::append_assoc))]
 pub fn write_edit(alloc: Global, edit: &Edit) -> Result<Vec<u8>, NoMemory>
     ensures { IfOk result (λ body. IsEdit body.items edit.now) }
 {
     let mut body = Vec::new(alloc);
-    put_u8(&mut body, EDIT)?;
-    put_numbers(&mut body, edit.add_logs.as_slice())?;
-    put_numbers(&mut body, edit.drop_logs.as_slice())?;
-    put_u64(&mut body, edit.next_file)?;
-    put_u64(&mut body, edit.last.0)?;
-    put_part(&mut body, &edit.family)?;
+    put_edit(&mut body, edit)?;
     Ok(body)
 }

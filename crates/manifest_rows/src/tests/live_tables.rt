@@ -1,12 +1,12 @@
 //! The live tables of a family.
 
-use manifest_edit::{NoMemory, TableAt, Tables};
+use manifest_edit::{NoMemory, TableAt, LiveTables};
 use std::alloc::Global;
 use std::test::Fail;
 
-/// Tables 3, 5 and 9, which came in another order, and 5 on level 6 in the end.
-fn three(alloc: Global) -> Result<Tables, NoMemory> {
-    let mut tables = Tables::new(alloc);
+/// LiveTables 3, 5 and 9, which came in another order, and 5 on level 6 in the end.
+fn three(alloc: Global) -> Result<LiveTables, NoMemory> {
+    let mut tables = LiveTables::new(alloc);
     tables.insert(TableAt {
         level: 0,
         number: 5,

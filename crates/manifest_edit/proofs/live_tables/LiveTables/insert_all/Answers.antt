@@ -1,5 +1,5 @@
 use Rattle.manifest_edit.proofs.Lists.{placed_on}
-use Rattle.manifest_edit.proofs.tables.Tables.insert_all.Goals as goal
+use Rattle.manifest_edit.proofs.live_tables.LiveTables.insert_all.Goals as goal
 
 pub loop-table-preserved : goal.loop-table-preserved
 loop-table-preserved c =

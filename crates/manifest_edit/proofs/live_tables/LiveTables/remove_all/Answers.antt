@@ -1,5 +1,5 @@
 use Rattle.manifest_edit.proofs.Lists.{none_out, removed_on}
-use Rattle.manifest_edit.proofs.tables.Tables.remove_all.Goals as goal
+use Rattle.manifest_edit.proofs.live_tables.LiveTables.remove_all.Goals as goal
 
 pub loop-number-init : goal.loop-number-init
 loop-number-init c = none_out c.args.self.now
