@@ -93,10 +93,3 @@ pub record IsAccepted (fold : Folded) (edit : Edit) : Type 0 where
   pub within : edit.last.0 < 2 ^ 56
   pub logs : IsLogsEdit fold.logs edit
   pub part : IsPart fold.families edit edit.family
-
--- ---- folds
-
--- these edits are accepted, each by the fold of what stands before it, and lead from one fold to the other
-abbrev pub AreAccepted : Folded → List Edit → Folded → Type 0
-AreAccepted fold [] end = end ≡ fold
-AreAccepted fold (edit ∷ edits) end = IsAccepted fold edit × AreAccepted (fold_with fold edit) edits end
