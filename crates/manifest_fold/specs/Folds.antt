@@ -43,8 +43,8 @@ fold_with fold edit = record {
 -- ---- acceptance
 
 -- the newest of the live logs, which ascend: the last, or 0 where there is none
-abbrev pub newest : List ℕ → ℕ
-newest logs = slice_index logs (length logs - 1)
+abbrev pub newest_log : List ℕ → ℕ
+newest_log logs = slice_index logs (length logs - 1)
 
 -- a table of this number is live, in whichever family
 abbrev pub is_live : List FamilyFold → ℕ → Bool
@@ -57,7 +57,7 @@ IsFree fs removed n = IsTrue (list_any (λ m. m == n) removed || not (is_live fs
 -- what an edit may change of the logs
 pub record IsLogsEdit (logs : List ℕ) (edit : Edit) : Type 0 where
   pub ascending : IsStrictlyIncreasing edit.add_logs
-  pub newer : All (λ n. newest logs < n) edit.add_logs
+  pub newer : All (λ n. newest_log logs < n) edit.add_logs
   pub below : All (λ n. n < edit.next_file) edit.add_logs
   pub oldest : take (length edit.drop_logs) logs ≡ edit.drop_logs
   pub one : 1 ≤ length (logs_with logs edit)

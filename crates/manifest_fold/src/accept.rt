@@ -3,7 +3,7 @@
 ghost use Rattle.std.specs.Prelude.{◌≡◌, ◌<◌, ◌≤◌, ◌==◌, ◌↔◌, IsTrue, All, map, take, length};
 ghost use Rattle.std.specs.List.{list_any};
 ghost use Rattle.std.specs.List.Sorted.{IsStrictlyIncreasing};
-ghost use Rattle.manifest_fold.specs.Folds.{IsAccepted, IsLogsEdit, IsPart, IsOnePart, IsTablesEdit, IsFree, is_live, newest};
+ghost use Rattle.manifest_fold.specs.Folds.{IsAccepted, IsLogsEdit, IsPart, IsOnePart, IsTablesEdit, IsFree, is_live, newest_log};
 ghost use Rattle.manifest_edit.specs.LiveTables.{has_table_number};
 ghost use Rattle.manifest_edit.specs.declared.edit.TableAt.{TableAt as Table};
 
@@ -69,7 +69,7 @@ fn are_below(numbers: &[u64], high: u64) -> bool
 
 /// The newest log, which is the last one; 0 where there is none.
 fn newest_of(logs: &[u64]) -> u64
-    ensures { result ≡ newest logs.now }
+    ensures { result ≡ newest_log logs.now }
 {
     match logs.last() {
         Some(number) => *number,
