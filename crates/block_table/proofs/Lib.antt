@@ -1,0 +1,5 @@
+pub mod Cuts
+pub mod Lists
+pub mod Blocks
+pub mod Footers
+pub mod Handles
