@@ -1,14 +1,18 @@
 -- One more version at the end of a block.
-use Rattle.std.proofs.Common.{◌≡◌, ℕ, ◌+◌, ◌≤◌, List, [], ◌∷◌, ◌++◌, length, refl, sym, ap, subst, ◌∙◌, append_assoc, length-append, add-zero, arith}
+use Rattle.std.proofs.Common.{◌≡◌, ℕ, ◌+◌, ◌%◌, ◌^◌, ◌<◌, ◌≤◌, inl, inr, All, List, [], ◌∷◌, ◌++◌, length, refl, sym, ap, subst, ◌∙◌, append_assoc, length-append, add-zero, arith}
 use Rattle.std.proofs.lemmas.List.{append-nil}
+use Rattle.std.specs.Prelude.{◌==◌}
 use Rattle.std.specs.List.{AllByRecursion}
+use Rattle.std.proofs.lemmas.Bool.{cases_Bool}
+use Rattle.std.proofs.lemmas.List.Elements.{All-append, All-from_recursion}
 use Rattle.ts_key.specs.Items.{Item, kind_of, value_of, IsValue}
 use Rattle.ts_key.specs.declared.limits.TheConstants.{VALUE_LIMIT}
 use Rattle.ts_key.specs.declared.version.Op.{Op}
 use Rattle.ts_key.specs.declared.version.Op.TheVariants as ops
 use Rattle.ts_key.specs.StoredKeys.{IsItem}
 use Rattle.ts_key.specs.declared.version.Form.{Form}
-use Rattle.data_block.specs.Grammar.{key_of, shared, entry, entry_of, entries, restart, restarts, last_key}
+use Rattle.ts_key.specs.Lists.{IsSorted}
+use Rattle.data_block.specs.Grammar.{key_of, shared, entry, entry_of, entries, block_entries, block_restarts, restart, restarts, last_key, IsBlock}
 use Rattle.data_block.specs.Written.{Written, HasWritten}
 
 pub last_key_snoc : (form : Form) (last : List ℕ) (vs : List Item) (v : Item) → last_key form last (vs ++ v ∷ []) ≡ key_of form v
@@ -66,3 +70,29 @@ written_more w next vs v key s h form-is key-is s-is item out-is restarts-is cou
 pub is_value_of : (op : Op) → length (value_of op) ≤ VALUE_LIMIT → IsValue (kind_of op) (value_of op)
 is_value_of ops.Del h = refl
 is_value_of (ops.Put value) h = h
+
+short_restart : (n at : ℕ) → at < 2 ^ 32 → All (λ m. m < 2 ^ 32) (restart n at)
+short_restart n at h = elim (cases_Bool (n % 16 == 0)) [
+  | inl y ↦ rw y (All-from_recursion (λ (m : ℕ). m < 2 ^ 32) (at ∷ []) (h, tt))
+  | inr y ↦ rw y (All-from_recursion (λ (m : ℕ). m < 2 ^ 32) [] tt)
+]
+
+-- restarts lie within the entries
+each_short : (form : Form) (n : ℕ) (last : List ℕ) (at : ℕ) (vs : List Item) → at + length (entries form n last vs) < 2 ^ 32 → All (λ m. m < 2 ^ 32) (restarts form n last at vs)
+unfolding entries restarts
+each_short form n last at [] h = All-from_recursion (λ (m : ℕ). m < 2 ^ 32) [] tt
+each_short form n last at (v ∷ vs) h =
+    let e = entry_of form n last v in
+    let len = length-append e (entries form (n + 1) (key_of form v) vs) in
+    All-append (λ (m : ℕ). m < 2 ^ 32) (restart n at) (restarts form (n + 1) (key_of form v) (at + length e) vs) (short_restart n at (omega arith)) (each_short form (n + 1) (key_of form v) (at + length e) vs (omega (arith, len)))
+
+-- what was written in order is a block
+pub is_block : (w : Written) (vs : List Item) → length w.entries < 2 ^ 17 → length w.restarts ≤ w.count → w.count ≤ length w.entries → HasWritten w vs → IsSorted vs → 0 < length vs → IsBlock w.form vs
+is_block w vs short few counted h sorted some =
+    let size : 0 + length (block_entries w.form vs) < 2 ^ 32 = omega (arith, ap length h.entries) in
+    record {
+      some = some;
+      sorted = sorted;
+      items = h.items;
+      offsets = record { each = each_short w.form 0 [] 0 vs size; count = omega (arith, ap length h.restarts) };
+    }

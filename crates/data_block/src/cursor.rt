@@ -1,12 +1,12 @@
 //! A cursor over the versions of a block.
 
-ghost use Rattle.std.specs.Prelude.{◌≡◌, ◌≤◌, ◌+◌, ◌-◌, length};
-ghost use Rattle.ts_key.specs.Order.{sort_key_of};
-ghost use Rattle.ts_key.specs.Items.{shown_by};
-ghost use Rattle.ts_key.specs.Lists.{IsSorted, below, standing, onward};
+ghost use Rattle.std.specs.Prelude.{◌≡◌, ◌≤◌, ◌+◌, length};
+ghost use Rattle.ts_key.specs.Lists.{IsSorted};
+ghost use Rattle.ts_key.specs.Ordered.{ordered_from};
 ghost use Rattle.ts_key.specs.Props.{sorted_prop};
 
 use crate::block::Block;
+use merge_cursor::{Cursor, Placed};
 use ts_key::{Hit, KeyRef};
 
 /// It stands before the first version of a block, at one of them, or after the last.
@@ -29,47 +29,41 @@ impl<'a> BlockCursor<'a> {
     {
         BlockCursor { block, place: 1 }
     }
+}
 
-    /// Goes to the first version that doesn't stand before the key, or after the last.
-    pub fn seek(&mut self, to: &KeyRef<'_>)
-        ensures same { versions_of self.new ≡ versions_of self.old }
-        ensures place { place_of self.new ≡ below (sort_key_of to.now) (versions_of self.old) + 1 }
-    {
+impl Placed for BlockCursor<'_> {
+    ghost items = { λ c. c.block.now };
+
+    ghost place = { λ c. c.place };
+
+    ghost ordered = { λ c. ordered_from c.block.now c.sorted };
+
+    ghost within = { λ c. c.within };
+}
+
+impl<'a> Cursor<'a> for BlockCursor<'a> {
+    fn seek(&mut self, to: &KeyRef<'_>) {
         self.place = self.block.before(to) + 1;
     }
 
-    /// Goes after the last version.
-    pub fn seek_end(&mut self)
-        ensures same { versions_of self.new ≡ versions_of self.old }
-        ensures place { place_of self.new ≡ length (versions_of self.old) + 1 }
-    {
+    fn seek_end(&mut self) {
         self.place = self.block.len() + 1;
     }
 
-    /// Goes one place on, where it doesn't stand after the last version.
-    pub fn next(&mut self)
-        ensures same { versions_of self.new ≡ versions_of self.old }
-        ensures place { place_of self.new ≡ onward (length (versions_of self.old)) (place_of self.old) }
-    {
+    fn next(&mut self) {
         if self.place <= self.block.len() {
             self.place += 1;
         }
     }
 
-    /// Goes one place back, where it doesn't stand before the first version.
-    pub fn prev(&mut self)
-        ensures same { versions_of self.new ≡ versions_of self.old }
-        ensures place { place_of self.new ≡ place_of self.old - 1 }
-    {
+    fn prev(&mut self) {
         if self.place > 0 {
             self.place -= 1;
         }
     }
 
-    /// The version where it stands, for as long as the block lives. None comes exactly before the first and after the last.
-    pub fn at(&self) -> Option<(KeyRef<'a>, Hit<'a>)>
-        ensures { shown_by result ≡ standing (versions_of self.now) (place_of self.now) }
-    {
+    /// It is lent for as long as the block lives.
+    fn at(&self) -> Option<(KeyRef<'a>, Hit<'a>)> {
         if self.place == 0 || self.place > self.block.len() {
             return None;
         }

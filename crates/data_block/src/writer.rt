@@ -13,7 +13,8 @@ ghost use Rattle.std.specs.Prelude.{◌≡◌, ◌<◌, ◌≤◌, ◌+◌, ◌^
 ghost use Rattle.ts_key.specs.Numbers.{number_bytes};
 ghost use Rattle.ts_key.specs.StoredKeys.{IsStamp, IsSequence, stored_key, IsStored};
 ghost use Rattle.ts_key.specs.Items.{Item, item_of};
-ghost use Rattle.data_block.specs.Grammar.{block, block_target, entry, numbers, shared, restart};
+ghost use Rattle.data_block.specs.Grammar.{IsBlock, block, block_target, entry, numbers, shared, restart};
+ghost use Rattle.ts_key.specs.Lists.{IsSorted};
 ghost use Rattle.ts_key.specs.Writing.{Extends};
 ghost use Rattle.data_block.specs.Written.{HasWritten};
 
@@ -138,7 +139,8 @@ impl BlockWriter {
         })
     }
 
-    /// Adds a version, which the writer's form can spell, to a block that isn't full. After `NoMemory` the writer is as before.
+    /// Adds a version, which the writer's form can spell, to a block that isn't full. Versions come in the stored order, each
+    /// after the last one: only then is what `finish` gives read again. After `NoMemory` the writer is as before.
     pub fn push(&mut self, v: &Version) -> Result<(), NoMemory>
         requires room { length self.old.entries < block_target }
         requires stamp { IsStamp self.old.form v.now.ts.0 }
@@ -168,9 +170,10 @@ impl BlockWriter {
         self.out.len() >= BLOCK_TARGET
     }
 
-    /// The block of the versions that were pushed.
+    /// The block of the versions that were pushed. It is read again where they came in the stored order, and there was one.
     pub fn finish(self) -> Result<Vec<u8>, NoMemory>
-        ensures { (vs : List Item) → HasWritten self vs → IfOk result (λ image. image.items ≡ block self.form vs) }
+        ensures written { (vs : List Item) → HasWritten self vs → IfOk result (λ image. image.items ≡ block self.form vs) }
+        ensures readable { (vs : List Item) → HasWritten self vs → IsSorted vs → 0 < length vs → IsBlock self.form vs }
     {
         let BlockWriter {
             form: _,
