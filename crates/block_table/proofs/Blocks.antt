@@ -42,7 +42,7 @@ module _ (form : Form) (image : List ℕ) (end : ℕ) (hs : List BlockHandle) (f
     pub there : IsBlockAt form image items h at end last vs
 
   next_on : (n at : ℕ) (items : List Item) (h : BlockHandle) (last : Bool) (cuts : List (List Item)) (r : HasReadBlocks form image end hs n at items) → AreBlocksOf form image end hs cuts → n < length hs → h ≡ get_or hs n h → (last ≡ false → n + 1 < length hs)
-    → (rest : List (List Item)) → cuts ≡ r.done ++ rest → NextBlock r.done items h at last cuts
+      → (rest : List (List Item)) → cuts ≡ r.done ++ rest → NextBlock r.done items h at last cuts
   next_on n at items h last cuts r a l h-is more [] is =
       let len : length hs ≡ length cuts = ap length a.handles ∙ length-handles form 0 cuts in
       absurd (omega (arith, len, ap length is, length-append r.done ([] {A = List Item}), r.count))
@@ -55,15 +55,15 @@ module _ (form : Form) (image : List ℕ) (end : ℕ) (hs : List BlockHandle) (f
       let end-len : length (take end image) ≡ end = length-take-le end image fits in
       let len : end ≡ length (blocks form done) + (length b + length bs) = sym end-len ∙ ap length parts ∙ length-append (blocks form done) (b ++ bs) ∙ ap (λ (n : ℕ). length (blocks form done) + n) (length-append b bs) in
       let whole : image ≡ blocks form done ++ (b ++ (bs ++ drop end image)) =
-          sym (take-append-drop end image) ∙ ap (λ (xs : List ℕ). xs ++ drop end image) parts ∙ append_assoc (blocks form done) (b ++ bs) (drop end image)
-          ∙ ap (λ (xs : List ℕ). blocks form done ++ xs) (append_assoc b bs (drop end image)) in
+      sym (take-append-drop end image) ∙ ap (λ (xs : List ℕ). xs ++ drop end image) parts ∙ append_assoc (blocks form done) (b ++ bs) (drop end image)
+      ∙ ap (λ (xs : List ℕ). blocks form done ++ xs) (append_assoc b bs (drop end image)) in
       let dropped : drop at image ≡ b ++ (bs ++ drop end image) = ap (drop at) whole ∙ drop_at (blocks form done) (b ++ (bs ++ drop end image)) at (sym r.place) in
       let size : at + length b - at ≡ length b = omega arith in
       let slice : slice_range image at (at + length b) ≡ b = ap (λ (m : ℕ). take m (drop at image)) size ∙ ap (take (length b)) dropped ∙ take_at b (bs ++ drop end image) (length b) refl in
       let cut = cut_at form done vs rest (subst (AreCut form) is a.cut) in
       let handle : h ≡ handle_of form at vs =
-          h-is ∙ ap (λ (ks : List BlockHandle). get_or ks n h) (a.handles ∙ ap (handles form 0) is) ∙ ap (λ (m : ℕ). get_or (handles form 0 (done ++ vs ∷ rest)) m h) (sym r.count)
-          ∙ handle_at form 0 done vs rest h ∙ ap (λ (m : ℕ). handle_of form m vs) (omega (arith, r.place)) in
+      h-is ∙ ap (λ (ks : List BlockHandle). get_or ks n h) (a.handles ∙ ap (handles form 0) is) ∙ ap (λ (m : ℕ). get_or (handles form 0 (done ++ vs ∷ rest)) m h) (sym r.count)
+      ∙ handle_at form 0 done vs rest h ∙ ap (λ (m : ℕ). handle_of form m vs) (omega (arith, r.place)) in
       let hs-len : length hs ≡ length done + (1 + length rest) = ap length (a.handles ∙ ap (handles form 0) is) ∙ length-handles form 0 (done ++ vs ∷ rest) ∙ length-append done (vs ∷ rest) ∙ ap (λ (m : ℕ). length done + m) (omega arith) in
       let sorted : IsSorted (items ++ (vs ++ joined rest)) = subst IsSorted (ap joined is ∙ joined_append done (vs ∷ rest) ∙ ap (λ (us : List Item). us ++ (vs ++ joined rest)) (sym r.versions)) a.sorted in
       record {
@@ -92,7 +92,7 @@ module _ (form : Form) (image : List ℕ) (end : ℕ) (hs : List BlockHandle) (f
 
   -- one block more
   pub more_read : (n at to : ℕ) (items new : List Item) (h : BlockHandle) (last : Bool) (vs : List Item) → HasReadBlocks form image end hs n at items → IsBlockAt form image items h at end last vs → n < length hs → h ≡ get_or hs n h → (last ≡ false → n + 1 < length hs) → (n + 1 < length hs → last ≡ false)
-    → to ≡ at + length (block form vs) → new ≡ items ++ vs → HasReadBlocks form image end hs (n + 1) to new
+      → to ≡ at + length (block form vs) → new ≡ items ++ vs → HasReadBlocks form image end hs (n + 1) to new
   more_read n at to items new h last vs r x l h-is more not-last to-is new-is =
       let done = r.done in
       let b = block form vs in
@@ -148,11 +148,22 @@ module _ (form : Form) (image : List ℕ) (end : ℕ) (hs : List BlockHandle) (f
         spelled = ap (λ (m : ℕ). take m image) (sym ends) ∙ r.there;
       }
 
+  -- no others are there
+  pub only_read : (n at : ℕ) (items : List Item) (r : HasReadBlocks form image end hs n at items) → length hs ≤ n → (others : List (List Item)) → AreBlocksOf form image end hs others → others ≡ r.done
+  only_read n at items r most others a = let o = r.only others a in on o.0 o.1
+    where
+      on : (rest : List (List Item)) → others ≡ r.done ++ rest → others ≡ r.done
+      on [] is = is ∙ append-nil r.done
+      on (vs ∷ rest) is =
+          let len : length hs ≡ length others = ap length a.handles ∙ length-handles form 0 others in
+          absurd (omega (arith, len, ap length is, length-append r.done (vs ∷ rest), r.count))
+
   -- they end elsewhere
   pub ends_wrong : (n at : ℕ) (items : List Item) → HasReadBlocks form image end hs n at items → length hs ≤ n → (at ≡ end → ⊥) → (cuts : List (List Item)) → AreBlocksOf form image end hs cuts → ⊥
   ends_wrong n at items r most wrong cuts a = on o.0 o.1
     where
       o = r.only cuts a
+
       on : (rest : List (List Item)) → cuts ≡ r.done ++ rest → ⊥
       on [] is =
           let end-len : length (take end image) ≡ end = length-take-le end image fits in

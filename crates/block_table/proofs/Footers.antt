@@ -30,6 +30,7 @@ pub record Footed (front last b i p : List ℕ) (ia pa : ℕ) : Type 0 where
   pub properties_at : pa ≡ length b + length i
   pub magic : last ≡ magic
   pub front : front ≡ b ++ i ++ p
+  pub long_front : length b + length i ≤ length front
 
 pub footed : (image front foot first rest second last : List ℕ) (ia pa : ℕ) (b i p : List ℕ) → Split image front foot first rest second last ia pa → image ≡ with_footer b i p → Footed front last b i p ia pa
 unfolding with_footer
@@ -50,7 +51,7 @@ footed image front foot first rest second last ia pa b i p h e =
     let sp = h.small_properties in
     let u = number_bytes-unique 8 ia at rest (number_bytes 8 to ++ magic) (omega arith) (omega arith) (ap (λ (xs : List ℕ). xs ++ rest) (sym h.index_at) ∙ e2) in
     let v = number_bytes-unique 8 pa to last magic (omega arith) (omega arith) (ap (λ (xs : List ℕ). xs ++ last) (sym h.properties_at) ∙ sym h.rest ∙ u.1) in
-    record { index_at = u.0; properties_at = v.0; magic = v.1; front = s.0 }
+    record { index_at = u.0; properties_at = v.0; magic = v.1; front = s.0; long_front = omega (arith, len, whole-len) }
 
 pub parted : (image front foot first rest second last before props blocks index : List ℕ) (ia pa : ℕ) → Split image front foot first rest second last ia pa → last ≡ magic → front ≡ before ++ props → length before ≡ pa → before ≡ blocks ++ index → length blocks ≡ ia → image ≡ with_footer blocks index props
 unfolding with_footer
@@ -63,3 +64,7 @@ parted image front foot first rest second last before props blocks index ia pa h
     let rest-is : rest ≡ number_bytes 8 to ++ magic = h.rest ∙ ap (λ (xs : List ℕ). xs ++ last) second-is ∙ ap (λ (xs : List ℕ). number_bytes 8 to ++ xs) last-is in
     let foot-is : foot ≡ number_bytes 8 (length blocks) ++ (number_bytes 8 to ++ magic) = h.foot ∙ ap (λ (xs : List ℕ). xs ++ rest) first-is ∙ ap (λ (xs : List ℕ). number_bytes 8 (length blocks) ++ xs) rest-is in
     h.image ∙ ap (λ (xs : List ℕ). xs ++ foot) f ∙ ap (λ (xs : List ℕ). (blocks ++ index ++ props) ++ xs) (foot-is ∙ sym (append_assoc (number_bytes 8 (length blocks)) (number_bytes 8 to) magic))
+
+pub long : (image b i p : List ℕ) → image ≡ with_footer b i p → 24 ≤ length image
+unfolding with_footer
+long image b i p e = let own = footer (length b) (length b + length i) in omega (arith, ap length e, length-append (b ++ i ++ p) own, length-footer (length b) (length b + length i))

@@ -1,6 +1,7 @@
 -- Handles, and their bytes.
-use Rattle.std.proofs.Common.{◌≡◌, ℕ, zero, suc, ◌+◌, ◌*◌, ◌^◌, ◌<◌, ◌≤◌, List, [], ◌∷◌, ◌++◌, length, refl, sym, ap, ◌∙◌, arith, length-append, append_assoc}
-use Rattle.std.specs.List.{flat_map, AllByRecursion}
+use Rattle.std.proofs.Common.{◌≡◌, ℕ, zero, suc, ◌+◌, ◌-◌, ◌*◌, ◌^◌, ◌<◌, ◌≤◌, List, [], ◌∷◌, ◌++◌, length, take, drop, refl, sym, ap, ◌∙◌, arith, length-append, append_assoc}
+use Rattle.std.specs.List.{flat_map, AllByRecursion, slice_range}
+use Rattle.std.proofs.Math.Seq.{take-add}
 use Rattle.std.proofs.lemmas.List.{append-nil}
 use Rattle.ts_key.specs.Numbers.{number_bytes}
 use Rattle.ts_key.proofs.NumberBytes.{length-number_bytes, number_bytes-unique}
@@ -27,7 +28,7 @@ handle_once h k x y e =
     let xo = x.offset in let xl = x.length in let xv = x.versions in
     let yo = y.offset in let yl = y.length in let yv = y.versions in
     let e1 : number_bytes 8 h.offset ++ (number_bytes 8 h.length ++ number_bytes 4 h.versions) ≡ number_bytes 8 k.offset ++ (number_bytes 8 k.length ++ number_bytes 4 k.versions) =
-        sym (append_assoc (number_bytes 8 h.offset) (number_bytes 8 h.length) (number_bytes 4 h.versions)) ∙ e ∙ append_assoc (number_bytes 8 k.offset) (number_bytes 8 k.length) (number_bytes 4 k.versions) in
+    sym (append_assoc (number_bytes 8 h.offset) (number_bytes 8 h.length) (number_bytes 4 h.versions)) ∙ e ∙ append_assoc (number_bytes 8 k.offset) (number_bytes 8 k.length) (number_bytes 4 k.versions) in
     let u = number_bytes-unique 8 h.offset k.offset (number_bytes 8 h.length ++ number_bytes 4 h.versions) (number_bytes 8 k.length ++ number_bytes 4 k.versions) (omega arith) (omega arith) e1 in
     let v = number_bytes-unique 8 h.length k.length (number_bytes 4 h.versions) (number_bytes 4 k.versions) (omega arith) (omega arith) u.1 in
     let w = number_bytes-unique 4 h.versions k.versions [] [] (omega arith) (omega arith) (append-nil (number_bytes 4 h.versions) ∙ v.1 ∙ sym (append-nil (number_bytes 4 k.versions))) in
@@ -67,3 +68,12 @@ index_once hs ks x y e =
     let yc = y.count in
     let s = number_bytes-unique 4 (length hs) (length ks) (flat_map handle_bytes hs) (flat_map handle_bytes ks) (omega arith) (omega arith) e in
     handles_once hs ks x.each y.each s.1
+
+-- one handle more of an index that is read
+pub handles_read : (rest part : List ℕ) (i : ℕ) (hs : List BlockHandle) (h : BlockHandle) → flat_map handle_bytes hs ≡ take (i * 20) rest → part ≡ slice_range rest (i * 20) (i * 20 + 20) → part ≡ handle_bytes h → flat_map handle_bytes (hs ++ h ∷ []) ≡ take ((i + 1) * 20) rest
+handles_read rest part i hs h so_far part-is spelled =
+    let size : i * 20 + 20 - i * 20 ≡ 20 = omega arith in
+    let more : (i + 1) * 20 ≡ i * 20 + 20 = omega arith in
+    handles_bytes_more hs h ∙ ap (λ (xs : List ℕ). xs ++ handle_bytes h) so_far
+    ∙ ap (λ (xs : List ℕ). take (i * 20) rest ++ xs) (sym spelled ∙ part-is ∙ ap (λ (n : ℕ). take n (drop (i * 20) rest)) size)
+    ∙ sym (take-add (i * 20) 20 rest) ∙ ap (λ (n : ℕ). take n rest) (sym more)

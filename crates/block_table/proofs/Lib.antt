@@ -1,5 +1,10 @@
 pub mod Cuts
 pub mod Lists
 pub mod Blocks
+pub mod Pieces
 pub mod Footers
+pub mod Heads
 pub mod Handles
+pub mod Tallying
+pub mod Reading
+pub mod Pushing

@@ -1,3 +1,4 @@
+pub mod Forms
 pub mod Contents
 pub mod Tallies
 pub mod Tables

@@ -9,7 +9,7 @@ use Rattle.ts_key.specs.declared.numbers.Ts.{Ts}
 use Rattle.ts_key.specs.declared.version.Form.{Form}
 use Rattle.ts_key.specs.declared.version.Version.{Version}
 use Rattle.data_block.specs.Grammar.{block_target, block_entries, IsBlock}
-use Rattle.data_block.specs.Written.{HasWritten}
+use Rattle.data_block.specs.Written.{Written, HasWritten}
 use Rattle.block_table.specs.declared.writer.TableWriter.{TableWriter}
 use Rattle.block_table.specs.Contents.{Contents}
 use Rattle.block_table.specs.Tallies.{tally_of}
@@ -27,16 +27,19 @@ and_version t v = record t { items = t.items ++ item_of v ∷ [] }
 abbrev pub IsReadable : Form → List Item → Type 0
 IsReadable form vs = IsSorted vs → 0 < length vs → IsBlock form vs
 
--- the versions of the blocks that are done, and those of the open one
-pub record IsPushed (w : TableWriter) (t : Contents) (done : List (List Item)) (open_items : List Item) : Type 0 where
+-- these versions were written to a block
+pub record IsOpen (form : Form) (block : Written) (vs : List Item) : Type 0 where
+  pub form_is : block.form ≡ form
+  pub written : HasWritten block vs
+
+-- the writer's blocks that are done have these versions, and those of the open one come behind
+pub record IsBehind (w : TableWriter) (t : Contents) (done : List (List Item)) (open_items : List Item) : Type 0 where
   pub family : w.family.0 ≡ t.family
   pub form : w.form ≡ t.form
   pub collected_by : w.collected_by.0 ≡ t.collected_by
   pub items : t.items ≡ joined done ++ open_items
-  pub blocks : w.blocks.items ≡ blocks t.form done
-  pub handles : w.handles.items ≡ handles t.form 0 done
-  pub block_form : w.block.form ≡ t.form
-  pub written : HasWritten w.block open_items
+  pub bytes : w.blocks.items ≡ blocks t.form done
+  pub index : w.handles.items ≡ handles t.form 0 done
   pub versions : w.versions ≡ length open_items
   pub tally : w.tally ≡ tally_of t.items
   pub range : IsRangeOf w.range t.items
@@ -53,9 +56,17 @@ pub record IsDone (form : Form) (vs : List Item) : Type 0 where
 pub record HasPushed (w : TableWriter) (t : Contents) : Type 0 where
   pub done : List (List Item)
   pub open_items : List Item
-  pub pushed : IsPushed w t done open_items
+  pub behind : IsBehind w t done open_items
+  pub is_open : IsOpen t.form w.block open_items
   pub each : AllByRecursion (IsDone t.form) done
   pub room : length (block_entries t.form open_items) < block_target
+
+-- all blocks are done
+pub record IsClosed (w : TableWriter) (t : Contents) (cuts : List (List Item)) : Type 0 where
+  pub behind : IsBehind w t cuts []
+  pub some : 0 < length cuts
+  pub cut : AreCut t.form cuts
+  pub some_each : AllByRecursion (λ vs. 0 < length vs) cuts
 
 -- the bytes are spelled as the table of these contents
 pub record IsSpelled (t : Contents) (image : List ℕ) : Type 0 where

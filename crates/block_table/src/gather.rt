@@ -1,6 +1,6 @@
 //! The blocks of a table, as they are read.
 
-ghost use Rattle.std.specs.Prelude.{◌≡◌, ◌≤◌, ◌<◌, length, IsTrue, ◌↔◌, ◌⊎◌, true};
+ghost use Rattle.std.specs.Prelude.{◌≡◌, ◌≤◌, ◌<◌, ◌+◌, length, IsTrue, ◌↔◌, ◌⊎◌, true};
 ghost use Rattle.data_block.specs.Grammar.{block_target};
 ghost use Rattle.block_table.specs.Gathering.{AddsBlock, ReadsBlocks};
 
@@ -21,6 +21,14 @@ fn is_cut(piece: &Piece, h: &BlockHandle, is_last: bool) -> bool
         && (is_last || piece.entries >= BLOCK_TARGET)
 }
 
+/// The handle's block begins at an offset, and ends by `end`.
+fn is_here(h: &BlockHandle, at: usize, end: usize) -> bool
+    requires { at ≤ end }
+    ensures { IsTrue result ↔ ((h.now.offset ≡ at) × (at + h.now.length ≤ end)) }
+{
+    h.offset == at as u64 && h.length <= (end - at) as u64
+}
+
 /// Reads the block of a handle, which is to stand at an offset, and answers where it ends.
 fn add_block(
     alloc: Global,
@@ -36,7 +44,7 @@ fn add_block(
     ensures image { g.new.image ≡ g.old.image }
     ensures added { AddsBlock form g.old.image g.old.items g.new.items h.now at end is_last result }
 {
-    if h.offset != at as u64 || h.length > (end - at) as u64 {
+    if !is_here(h, at, end) {
         return Err(TableFault::Bad);
     }
     let to = at + h.length as usize;

@@ -27,24 +27,25 @@ fn handle_of(bytes: &[u8]) -> BlockHandle
 }
 
 /// The handles of an index, where the bytes are one.
-pub(crate) fn read_index(
-    alloc: Global,
-    bytes: &[u8],
-) -> Result<Option<Vec<BlockHandle>>, NoMemory>
+pub(crate) fn read_index(alloc: Global, bytes: &[u8]) -> Result<Option<Vec<BlockHandle>>, NoMemory>
     ensures { IfOk result (ReadsIndex bytes.now) }
 {
     if bytes.len() < 4 {
         return Ok(None);
     }
     let (front, rest) = bytes.split_at(4);
-    let count = u32_of(front) as usize;
-    if rest.len() != count * HANDLE_LEN {
+    let count = u32_of(front);
+    let n = count as usize;
+    let wanted = n * HANDLE_LEN;
+    if rest.len() != wanted {
         return Ok(None);
     }
     let mut handles = Vec::new(alloc);
-    for i in 0..count {
+    for i in 0..n {
         let from = i * HANDLE_LEN;
-        handles.push(handle_of(&rest[from..from + HANDLE_LEN]))?;
+        let part = &rest[from..from + HANDLE_LEN];
+        let h = handle_of(part);
+        handles.push(h)?;
     }
     Ok(Some(handles))
 }

@@ -11,11 +11,13 @@ pub mod properties;
 mod spelling;
 pub mod table;
 mod tally;
+pub mod write;
 pub mod writer;
 
 pub use fault::{TableFault, TableWriteFault};
 pub use properties::Properties;
 pub use table::{Table, TableCursor};
+pub use write::write_table;
 pub use writer::TableWriter;
 
 /// Memory ran out.

@@ -46,7 +46,14 @@ pub(crate) fn parts_of(image: &[u8]) -> Option<Parts<'_>>
     let (second, last) = rest.split_at(8);
     let index_at = u64_of(first);
     let properties_at = u64_of(second);
-    if !is_magic(last) || index_at > properties_at || properties_at > front.len() as u64 {
+    if !is_magic(last) {
+        return None;
+    }
+    if index_at > properties_at {
+        return None;
+    }
+    let front_len = front.len() as u64;
+    if properties_at > front_len {
         return None;
     }
     let (before, properties) = front.split_at(properties_at as usize);
@@ -78,10 +85,14 @@ pub(crate) fn head_of(bytes: &[u8]) -> Option<Head>
     }
     let (first, rest) = bytes.split_at(4);
     let (_, last) = bytes.split_at(bytes.len() - 8);
-    let form = form_of(rest[0])?;
+    let Some(form) = form_of(rest[0]) else {
+        return None;
+    };
+    let family = u32_of(first);
+    let collected_by = u64_of(last);
     Some(Head {
-        family: Family(u32_of(first)),
+        family: Family(family),
         form,
-        collected_by: Ts(u64_of(last)),
+        collected_by: Ts(collected_by),
     })
 }

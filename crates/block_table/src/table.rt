@@ -161,6 +161,13 @@ impl Table {
         &self.properties
     }
 
+    /// Its bytes.
+    pub(crate) fn bytes(&self) -> &[u8]
+        ensures { result.now ≡ self.now.image }
+    {
+        self.image.as_slice()
+    }
+
     /// How many bytes it has.
     pub fn size(&self) -> u64
         ensures { result ≡ length self.now.image }

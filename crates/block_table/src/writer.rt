@@ -1,12 +1,14 @@
 //! A table as it is written, version by version.
 
 ghost use Rattle.std.specs.Prelude.{◌≡◌, ◌<◌, ◌≤◌, ◌+◌, ◌^◌, List, [], ◌∷◌, ◌++◌, length, OnOk, IfOk, Some};
-ghost use Rattle.ts_key.specs.Items.{Item};
-ghost use Rattle.ts_key.specs.StoredKeys.{IsStamp, IsSequence};
+ghost use Rattle.ts_key.specs.Items.{Item, item_of};
+ghost use Rattle.ts_key.specs.StoredKeys.{IsStamp, IsSequence, IsItem};
 ghost use Rattle.data_block.specs.Grammar.{block_target};
+ghost use Rattle.data_block.specs.Written.{HasWritten};
 ghost use Rattle.block_table.specs.Contents.{Contents};
 ghost use Rattle.block_table.specs.Tables.{index, properties, with_footer};
 ghost use Rattle.block_table.specs.Ranges.{IsRangeOf};
+ghost use Rattle.block_table.specs.Forms.{form_prop};
 
 use crate::NoMemory;
 use crate::handle::BlockHandle;
@@ -41,6 +43,7 @@ pub struct TableWriter {
     tally: Tally,
     range: Option<KeyRange>,
     ghost room: { length block.entries < block_target },
+    ghost alike: { block.form ≡ form } by { form_prop block.form form },
     ghost within: { versions ≤ tally.count },
 }
 
@@ -50,11 +53,14 @@ fn widened(range: Option<KeyRange>, key: &Key) -> Result<KeyRange, NoMemory>
 {
     let greatest = key.copy()?;
     match range {
-        Some(KeyRange { least, greatest: _ }) => Ok(KeyRange { least, greatest }),
-        None => Ok(KeyRange {
-            least: key.copy()?,
-            greatest,
-        }),
+        Some(r) => {
+            let KeyRange { least, greatest: _ } = r;
+            Ok(KeyRange { least, greatest })
+        }
+        None => {
+            let least = key.copy()?;
+            Ok(KeyRange { least, greatest })
+        }
     }
 }
 
@@ -75,7 +81,7 @@ pub(crate) fn put_tail(
 }
 
 impl TableWriter {
-    ghost use Rattle.block_table.specs.Pushed.{IsPushed, HasPushed, IsSpelled, contents_of, and_version};
+    ghost use Rattle.block_table.specs.Pushed.{IsBehind, IsOpen, HasPushed, IsClosed, IsSpelled, contents_of, and_version};
 
     /// A writer that no version was pushed to.
     pub fn new(
@@ -100,15 +106,15 @@ impl TableWriter {
         })
     }
 
-    /// Puts the open block behind those that are done.
-    fn close(&mut self, alloc: Global) -> Result<(), NoMemory>
+    /// Puts a block behind those that are done.
+    fn close(&mut self, block: BlockWriter) -> Result<(), NoMemory>
         ensures form { self.new.form ≡ self.old.form }
-        ensures closed { (t : Contents) (done : List (List Item)) (open_items : List Item) → IsPushed self.old t done open_items → OnOk result (IsPushed self.new t (done ++ open_items ∷ []) []) }
+        ensures closed { (t : Contents) (done : List (List Item)) (open_items : List Item) → IsBehind self.old t done open_items → IsOpen t.form block open_items → OnOk result (IsBehind self.new t (done ++ open_items ∷ []) []) }
+        ensures block { self.new.block ≡ self.old.block }
     {
         if self.versions > u32::MAX as u64 {
             return Err(AllocError);
         }
-        let block = mem::replace(&mut self.block, BlockWriter::new(alloc, self.form)?);
         let bytes = block.finish()?;
         self.handles.push(BlockHandle {
             offset: self.blocks.len() as u64,
@@ -119,12 +125,22 @@ impl TableWriter {
         self.blocks.extend_from_slice(&bytes)
     }
 
-    /// Adds a version, which the form can spell.
-    pub fn push(&mut self, alloc: Global, v: &Version) -> Result<(), NoMemory>
-        requires stamp { IsStamp self.old.form v.now.ts.0 }
-        requires sequence { IsSequence v.now.seq.0 }
+    /// Takes the open block out, and puts an empty one in its place.
+    fn take_block(&mut self, alloc: Global) -> Result<BlockWriter, NoMemory>
+        ensures taken { IfOk result (λ block. block ≡ self.old.block) }
+        ensures empty { OnOk result (HasWritten self.new.block []) }
         ensures form { self.new.form ≡ self.old.form }
-        ensures pushed { (t : Contents) → HasPushed self.old t → OnOk result (HasPushed self.new (and_version t v.now)) }
+        ensures kept { (t : Contents) (done : List (List Item)) (open_items : List Item) → IsBehind self.old t done open_items → IsBehind self.new t done open_items }
+    {
+        let empty = BlockWriter::new(alloc, self.form)?;
+        Ok(mem::replace(&mut self.block, empty))
+    }
+
+    /// Notes a version that comes into the open block.
+    fn note(&mut self, v: &Version) -> Result<(), NoMemory>
+        ensures form { self.new.form ≡ self.old.form }
+        ensures block { self.new.block ≡ self.old.block }
+        ensures noted { (t : Contents) (done : List (List Item)) (open_items : List Item) → IsBehind self.old t done open_items → IsItem t.form (item_of v.now) → OnOk result (IsBehind self.new (and_version t v.now) done (open_items ++ item_of v.now ∷ [])) }
     {
         if self.tally.count == u64::MAX {
             return Err(AllocError);
@@ -133,21 +149,43 @@ impl TableWriter {
         self.range = Some(range);
         self.tally = self.tally.and(v.ts, v.seq);
         self.versions += 1;
-        self.block.push(v)?;
-        if self.block.full() {
-            self.close(alloc)?;
-        }
         Ok(())
     }
 
-    /// The table of the versions that were pushed.
-    fn into_image(self, alloc: Global) -> Result<Vec<u8>, NoMemory>
-        ensures { (t : Contents) → HasPushed self t → 0 < length t.items → IfOk result (λ image. IsSpelled t image.items) }
+    /// Adds a version, which the form can spell.
+    pub fn push(&mut self, alloc: Global, v: &Version) -> Result<(), NoMemory>
+        requires stamp { IsStamp self.old.form v.now.ts.0 }
+        requires sequence { IsSequence v.now.seq.0 }
+        ensures form { self.new.form ≡ self.old.form }
+        ensures pushed { (t : Contents) → HasPushed self.old t → OnOk result (HasPushed self.new (and_version t v.now)) }
+    {
+        let mut block = self.take_block(alloc)?;
+        block.push(v)?;
+        self.note(v)?;
+        if block.full() {
+            return self.close(block);
+        }
+        self.block = block;
+        Ok(())
+    }
+
+    /// With the open block put behind the others, if it has a version.
+    fn closed(self, alloc: Global) -> Result<TableWriter, NoMemory>
+        ensures { (t : Contents) → HasPushed self t → 0 < length t.items → IfOk result (λ w. (cuts : List (List Item)) × IsClosed w t cuts) }
     {
         let mut w = self;
-        if w.versions > 0 {
-            w.close(alloc)?;
+        if w.versions == 0 {
+            return Ok(w);
         }
+        let block = w.take_block(alloc)?;
+        w.close(block)?;
+        Ok(w)
+    }
+
+    /// The bytes of the table, where no block is open.
+    fn spell(self) -> Result<Vec<u8>, NoMemory>
+        ensures { (t : Contents) (cuts : List (List Item)) → IsClosed self t cuts → IfOk result (λ image. IsSpelled t image.items) }
+    {
         let TableWriter {
             family,
             form,
@@ -158,7 +196,7 @@ impl TableWriter {
             versions: _,
             tally,
             range,
-        } = w;
+        } = self;
         let Some(KeyRange { least, greatest }) = range else {
             return Err(AllocError);
         };
@@ -178,5 +216,13 @@ impl TableWriter {
         };
         put_tail(&mut out, &handles, &p)?;
         Ok(out)
+    }
+
+    /// The table of the versions that were pushed.
+    pub(crate) fn into_image(self, alloc: Global) -> Result<Vec<u8>, NoMemory>
+        ensures { (t : Contents) → HasPushed self t → 0 < length t.items → IfOk result (λ image. IsSpelled t image.items) }
+    {
+        let w = self.closed(alloc)?;
+        w.spell()
     }
 }
