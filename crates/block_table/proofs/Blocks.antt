@@ -22,10 +22,12 @@ blocks_append form [] ys = refl
 blocks_append form (x ∷ xs) ys = ap (λ (bs : List ℕ). block form x ++ bs) (blocks_append form xs ys) ∙ sym (append_assoc (block form x) (blocks form xs) (blocks form ys))
 
 handle_at : (form : Form) (at : ℕ) (done : List (List Item)) (vs : List Item) (rest : List (List Item)) (d : BlockHandle) → get_or (handles form at (done ++ vs ∷ rest)) (length done) d ≡ handle_of form (at + length (blocks form done)) vs
-handle_at form at [] vs rest d = ap (λ (n : ℕ). handle_of form n vs) (omega arith)
+handle_at form at [] vs rest d =
+    let z : at ≡ at + 0 = omega arith in
+    ap (λ (n : ℕ). handle_of form n vs) z
 handle_at form at (e ∷ done) vs rest d =
-    handle_at form (at + length (block form e)) done vs rest d
-    ∙ ap (λ (n : ℕ). handle_of form n vs) (omega (arith, length-append (block form e) (blocks form done)))
+    let z : at + length (block form e) + length (blocks form done) ≡ at + length (block form e ++ blocks form done) = omega (arith, length-append (block form e) (blocks form done)) in
+    handle_at form (at + length (block form e)) done vs rest d ∙ ap (λ (n : ℕ). handle_of form n vs) z
 
 cut_at : (form : Form) (done : List (List Item)) (vs : List Item) (rest : List (List Item)) → AreCut form (done ++ vs ∷ rest) → EndsInTime form vs × (0 < length rest → IsFull form vs)
 cut_at form [] vs [] c = (c, λ l. absurd (omega (arith, l)))
@@ -45,7 +47,7 @@ module _ (form : Form) (image : List ℕ) (end : ℕ) (hs : List BlockHandle) (f
       → (rest : List (List Item)) → cuts ≡ r.done ++ rest → NextBlock r.done items h at last cuts
   next_on n at items h last cuts r a l h-is more [] is =
       let len : length hs ≡ length cuts = ap length a.handles ∙ length-handles form 0 cuts in
-      absurd (omega (arith, len, ap length is, length-append r.done ([] {A = List Item}), r.count))
+      absurd (omega (arith, len, ap length (is ∙ append-nil r.done), r.count))
   next_on n at items h last cuts r a l h-is more (vs ∷ rest) is =
       let done = r.done in
       let b = block form vs in
@@ -160,10 +162,10 @@ module _ (form : Form) (image : List ℕ) (end : ℕ) (hs : List BlockHandle) (f
 
   -- they end elsewhere
   pub ends_wrong : (n at : ℕ) (items : List Item) → HasReadBlocks form image end hs n at items → length hs ≤ n → (at ≡ end → ⊥) → (cuts : List (List Item)) → AreBlocksOf form image end hs cuts → ⊥
-  ends_wrong n at items r most wrong cuts a = on o.0 o.1
+  ends_wrong n at items r most wrong cuts a =
+      let o = r.only cuts a in
+      on o.0 o.1
     where
-      o = r.only cuts a
-
       on : (rest : List (List Item)) → cuts ≡ r.done ++ rest → ⊥
       on [] is =
           let end-len : length (take end image) ≡ end = length-take-le end image fits in

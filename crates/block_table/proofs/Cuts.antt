@@ -23,11 +23,13 @@ blocks_more form [] vs = append-nil (block form vs)
 blocks_more form (ws ∷ done) vs = ap (λ (xs : List ℕ). block form ws ++ xs) (blocks_more form done vs) ∙ sym (append_assoc (block form ws) (blocks form done) (block form vs))
 
 pub handles_more : (form : Form) (at : ℕ) (done : List (List Item)) (vs : List Item) → handles form at (done ++ vs ∷ []) ≡ handles form at done ++ handle_of form (at + length (blocks form done)) vs ∷ []
-handles_more form at [] vs = ap (λ (n : ℕ). handle_of form n vs ∷ []) (omega arith)
+handles_more form at [] vs =
+    let z : at ≡ at + 0 = omega arith in
+    ap (λ (n : ℕ). handle_of form n vs ∷ []) z
 handles_more form at (ws ∷ done) vs =
+    let z : at + length (block form ws) + length (blocks form done) ≡ at + length (block form ws ++ blocks form done) = omega (arith, length-append (block form ws) (blocks form done)) in
     ap (λ (hs : List BlockHandle). handle_of form at ws ∷ hs)
-    (handles_more form (at + length (block form ws)) done vs
-    ∙ ap (λ (n : ℕ). handles form (at + length (block form ws)) done ++ handle_of form n vs ∷ []) (omega (arith, length-append (block form ws) (blocks form done))))
+    (handles_more form (at + length (block form ws)) done vs ∙ ap (λ (n : ℕ). handles form (at + length (block form ws)) done ++ handle_of form n vs ∷ []) z)
 
 pub length-handles : (form : Form) (at : ℕ) (cuts : List (List Item)) → length (handles form at cuts) ≡ length cuts
 length-handles form at [] = refl

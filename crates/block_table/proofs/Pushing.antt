@@ -54,23 +54,22 @@ some_done form [] each = tt
 some_done form ([] ∷ done) each = let f : block_target ≤ length (block_entries form []) = each.0.full in absurd (omega (arith, f))
 some_done form ((v ∷ vs) ∷ done) each = (omega arith, some_done form done each.1)
 
+has_done : (done : List (List Item)) (items : List Item) → items ≡ joined done → 0 < length items → 0 < length done
+has_done [] items e some = omega (arith, ap length e, some)
+has_done (vs ∷ done) items e some = omega arith
+
+closed_on : (w : TableWriter) (t : Contents) (done : List (List Item)) (os : List Item) → AllByRecursion (IsDone t.form) done → 0 < length t.items → length os ≡ 0 → IsBehind w t done os → IsClosed w t done
+closed_on w t done [] each some l b = record {
+  behind = b;
+  some = has_done done t.items (b.items ∙ append-nil (joined done)) some;
+  cut = cut_done t.form done each;
+  some_each = some_done t.form done each;
+}
+closed_on w t done (v ∷ os) each some l b = absurd (omega (arith, l))
+
 -- a writer with no open block
 pub closed_none : (w : TableWriter) (t : Contents) (h : HasPushed w t) → 0 < length t.items → w.versions ≡ 0 → IsClosed w t h.done
-closed_none w t h some none = on h.open_items (sym h.behind.versions ∙ none) h.behind
-  where
-    on : (os : List Item) → length os ≡ 0 → IsBehind w t h.done os → IsClosed w t h.done
-    on [] l b =
-        record {
-          behind = b;
-          some = has h.done (b.items ∙ append-nil (joined h.done));
-          cut = cut_done t.form h.done h.each;
-          some_each = some_done t.form h.done h.each;
-        }
-      where
-        has : (done : List (List Item)) → t.items ≡ joined done → 0 < length done
-        has [] e = omega (arith, ap length e, some)
-        has (vs ∷ done) e = omega arith
-    on (v ∷ os) l b = absurd (omega (arith, l))
+closed_none w t h some none = closed_on w t h.done h.open_items h.each some (sym h.behind.versions ∙ none) h.behind
 
 -- a writer whose open block was put behind the others
 pub closed_last : (w : TableWriter) (t : Contents) (done : List (List Item)) (vs : List Item) → AllByRecursion (IsDone t.form) done → length (block_entries t.form vs) < block_target → 0 < length vs → IsBehind w t (done ++ vs ∷ []) [] → IsClosed w t (done ++ vs ∷ [])

@@ -31,10 +31,10 @@ parts_once b i p c j q e small =
     let len : length (front ++ footer at to) ≡ length b + length i + length p + 24 =
     length-append front (footer at to) ∙ omega (arith, length-footer at to, length-append (b ++ i) p, length-append b i) in
     let s : Split (front ++ footer at to) front (footer at to) (number_bytes 8 at) (number_bytes 8 to ++ magic) (number_bytes 8 to) magic at to = record {
-      image = refl;
-      footer = length-footer at to;
-      foot = append_assoc (number_bytes 8 at) (number_bytes 8 to) magic;
-      rest = refl;
+      whole = refl;
+      size = length-footer at to;
+      cut_first = append_assoc (number_bytes 8 at) (number_bytes 8 to) magic;
+      cut_second = refl;
       index_at = refl;
       properties_at = refl;
       small_index = omega (arith, len, small);
@@ -42,7 +42,7 @@ parts_once b i p c j q e small =
       small = small;
     } in
     let f = footed (front ++ footer at to) front (footer at to) (number_bytes 8 at) (number_bytes 8 to ++ magic) (number_bytes 8 to) magic at to c j q s e in
-    let one = cut (b ++ i) (c ++ j) p q (omega (arith, length-append b i, length-append c j, f.properties_at)) f.front in
+    let one = cut (b ++ i) (c ++ j) p q (omega (arith, length-append b i, length-append c j, f.properties_at)) f.front_is in
     let two = cut b c i j f.index_at one.0 in
     (two.0, two.1, one.1)
 

@@ -54,11 +54,11 @@ fn tally_in(alloc: Global, versions: &Block) -> Result<Tally, NoMemory>
 {
     let mut tally = Tally::new();
     let mut c = versions.cursor(alloc)?;
-    while let Some((_, hit)) = c.at() {
+    while let Some((key, _)) = c.at() {
         if tally.count == u64::MAX {
             return Err(AllocError);
         }
-        tally = tally.and(hit.ts, hit.seq);
+        tally = tally.and(key.ts, key.seq);
         c.next();
     }
     Ok(tally)

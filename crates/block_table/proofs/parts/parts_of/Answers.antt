@@ -8,10 +8,10 @@ returns-then-image-lt-FOOTER_LEN c = λ b i p e. let l = long c.args.image.now b
 pub returns-then-not-is_magic : goal.returns-then-not-is_magic
 returns-then-not-is_magic c = λ b i p e.
     let h : Split c.args.image.now c.split_at.result.0.now c.split_at.result.1.now c.split_at-2.result.0.now c.split_at-2.result.1.now c.split_at-3.result.0.now c.split_at-3.result.1.now c.u64_of-index_at.result c.u64_of-properties_at.result = record {
-      image = c.split_at.ensures.by_index.0;
-      footer = omega arith;
-      foot = c.split_at-2.ensures.by_index.0;
-      rest = c.split_at-3.ensures.by_index.0;
+      whole = c.split_at.ensures.by_index.0;
+      size = omega arith;
+      cut_first = c.split_at-2.ensures.by_index.0;
+      cut_second = c.split_at-3.ensures.by_index.0;
       index_at = c.u64_of-index_at.ensures;
       properties_at = c.u64_of-properties_at.ensures;
       small_index = omega arith;
@@ -19,17 +19,17 @@ returns-then-not-is_magic c = λ b i p e.
       small = omega arith;
     } in
     let f = footed _ _ _ _ _ _ _ _ _ b i p h e in
-    let t = c.is_magic.ensures.1 f.magic in
+    let t = c.is_magic.ensures.1 f.magic_is in
     let q = c.if-not-is_magic.true in
     cc
 
 pub returns-then-index_at-properties_at : goal.returns-then-index_at-properties_at
 returns-then-index_at-properties_at c = λ b i p e.
     let h : Split c.args.image.now c.split_at.result.0.now c.split_at.result.1.now c.split_at-2.result.0.now c.split_at-2.result.1.now c.split_at-3.result.0.now c.split_at-3.result.1.now c.u64_of-index_at.result c.u64_of-properties_at.result = record {
-      image = c.split_at.ensures.by_index.0;
-      footer = omega arith;
-      foot = c.split_at-2.ensures.by_index.0;
-      rest = c.split_at-3.ensures.by_index.0;
+      whole = c.split_at.ensures.by_index.0;
+      size = omega arith;
+      cut_first = c.split_at-2.ensures.by_index.0;
+      cut_second = c.split_at-3.ensures.by_index.0;
       index_at = c.u64_of-index_at.ensures;
       properties_at = c.u64_of-properties_at.ensures;
       small_index = omega arith;
@@ -42,10 +42,10 @@ returns-then-index_at-properties_at c = λ b i p e.
 pub returns-then-properties_at-front_len : goal.returns-then-properties_at-front_len
 returns-then-properties_at-front_len c = λ b i p e.
     let h : Split c.args.image.now c.split_at.result.0.now c.split_at.result.1.now c.split_at-2.result.0.now c.split_at-2.result.1.now c.split_at-3.result.0.now c.split_at-3.result.1.now c.u64_of-index_at.result c.u64_of-properties_at.result = record {
-      image = c.split_at.ensures.by_index.0;
-      footer = omega arith;
-      foot = c.split_at-2.ensures.by_index.0;
-      rest = c.split_at-3.ensures.by_index.0;
+      whole = c.split_at.ensures.by_index.0;
+      size = omega arith;
+      cut_first = c.split_at-2.ensures.by_index.0;
+      cut_second = c.split_at-3.ensures.by_index.0;
       index_at = c.u64_of-index_at.ensures;
       properties_at = c.u64_of-properties_at.ensures;
       small_index = omega arith;
@@ -58,10 +58,10 @@ returns-then-properties_at-front_len c = λ b i p e.
 pub returns : goal.returns
 returns c =
     let h : Split c.args.image.now c.split_at.result.0.now c.split_at.result.1.now c.split_at-2.result.0.now c.split_at-2.result.1.now c.split_at-3.result.0.now c.split_at-3.result.1.now c.u64_of-index_at.result c.u64_of-properties_at.result = record {
-      image = c.split_at.ensures.by_index.0;
-      footer = omega arith;
-      foot = c.split_at-2.ensures.by_index.0;
-      rest = c.split_at-3.ensures.by_index.0;
+      whole = c.split_at.ensures.by_index.0;
+      size = omega arith;
+      cut_first = c.split_at-2.ensures.by_index.0;
+      cut_second = c.split_at-3.ensures.by_index.0;
       index_at = c.u64_of-index_at.ensures;
       properties_at = c.u64_of-properties_at.ensures;
       small_index = omega arith;

@@ -1,4 +1,5 @@
-use Rattle.std.proofs.Common.{◌≡◌, ◌+◌, length, sym, ap, subst, ◌∙◌, arith}
+use Rattle.std.proofs.Common.{◌≡◌, ◌+◌, ◌<◌, ◌^◌, List, length, sym, ap, subst, ◌∙◌, arith}
+use Rattle.ts_key.specs.Items.{Item}
 use Rattle.ts_key.specs.declared.version.Form.{Form}
 use Rattle.data_block.specs.Grammar.{block, IsBlock}
 use Rattle.data_block.proofs.Written.{all_snoc}
@@ -23,5 +24,5 @@ returns-clause-closed c = λ t done vs b o.
       range = b.range;
       fit = b.fit;
       readable = all_snoc (IsReadable t.form) done vs b.readable readable;
-      few = all_snoc _ done vs b.few ?;
+      few = all_snoc (λ (us : List Item). length us < 2 ^ 32) done vs b.few ?;
     }
