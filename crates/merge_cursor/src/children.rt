@@ -46,6 +46,7 @@ fn front_key<'a, C: Cursor<'a>>(c: &C) -> Option<KeyRef<'a>>
 /// The key before the one where a cursor stands.
 fn back_key<'a, C: Cursor<'a>>(c: &mut C) -> Option<KeyRef<'a>>
     requires { 1 ≤ C.place c.old }
+    ensures over { C.over c.new ≡ C.over c.old }
     ensures items { C.items c.new ≡ C.items c.old }
     ensures place { C.place c.new ≡ C.place c.old }
     ensures key { key_lent result ≡ back (side C.items C.place c.old) }
@@ -81,6 +82,7 @@ pub(crate) fn lowest<'a, C: Cursor<'a>>(children: &[C]) -> usize
 /// The last child whose version before its place stands highest, or how many there are where all are at their first.
 fn highest<'a, C: Cursor<'a>>(children: &mut [C]) -> usize
     requires { All (λ c. 1 ≤ C.place c) children.old }
+    ensures over { map C.over children.new ≡ map C.over children.old }
     ensures same { sides C.items C.place children.new ≡ sides C.items C.place children.old }
     ensures started { All (λ c. 1 ≤ C.place c) children.new }
     ensures top { IsTop (sides C.items C.place children.old) result }
@@ -104,6 +106,7 @@ pub(crate) fn step_on<'a, C: Cursor<'a>>(children: &mut [C], low: usize) -> usiz
     requires merge { IsMerge (sides C.items C.place children.old) low }
     requires started { All (λ c. 1 ≤ C.place c) children.old }
     requires inside { low < length children.old }
+    ensures over { map C.over children.new ≡ map C.over children.old }
     ensures merge { IsMerge (sides C.items C.place children.new) result }
     ensures started { All (λ c. 1 ≤ C.place c) children.new }
     ensures same { all (sides C.items C.place children.new) ≡ all (sides C.items C.place children.old) }
@@ -118,6 +121,7 @@ pub(crate) fn step_on<'a, C: Cursor<'a>>(children: &mut [C], low: usize) -> usiz
 pub(crate) fn step_back<'a, C: Cursor<'a>>(children: &mut [C], low: usize) -> Option<usize>
     requires merge { IsMerge (sides C.items C.place children.old) low }
     requires started { All (λ c. 1 ≤ C.place c) children.old }
+    ensures over { map C.over children.new ≡ map C.over children.old }
     ensures merge { IsMerge (sides C.items C.place children.new) (unwrap_or result low) }
     ensures started { All (λ c. 1 ≤ C.place c) children.new }
     ensures same { all (sides C.items C.place children.new) ≡ all (sides C.items C.place children.old) }
@@ -134,6 +138,8 @@ pub(crate) fn step_back<'a, C: Cursor<'a>>(children: &mut [C], low: usize) -> Op
 
 /// Moves all children to the first version that isn't before the key, and finds the lowest then.
 pub(crate) fn seek_all<'a, C: Cursor<'a>>(children: &mut [C], to: &KeyRef<'_>) -> usize
+    ensures over { map C.over children.new ≡ map C.over children.old }
+    ensures items { map C.items children.new ≡ map C.items children.old }
     ensures merge { IsMerge (sides C.items C.place children.new) result }
     ensures started { All (λ c. 1 ≤ C.place c) children.new }
     ensures same { all (sides C.items C.place children.new) ≡ all (sides C.items C.place children.old) }
@@ -150,6 +156,7 @@ pub(crate) fn seek_all<'a, C: Cursor<'a>>(children: &mut [C], to: &KeyRef<'_>) -
 
 /// Moves all children after their last version, and finds the lowest then.
 pub(crate) fn end_all<'a, C: Cursor<'a>>(children: &mut [C]) -> usize
+    ensures over { map C.over children.new ≡ map C.over children.old }
     ensures merge { IsMerge (sides C.items C.place children.new) result }
     ensures started { All (λ c. 1 ≤ C.place c) children.new }
     ensures same { all (sides C.items C.place children.new) ≡ all (sides C.items C.place children.old) }

@@ -7,8 +7,13 @@ ghost use Rattle.ts_key.specs.Lists.{IsOrdered, below, standing, onward};
 use ts_key::{Hit, KeyRef};
 
 /// A list of versions in the stored order, and a place in it: 0 before the first, i + 1 at the one with index i, and one
-/// more after the last. Two versions may have one key, timestamp and sequence.
+/// more after the last. Two versions may have one key, timestamp and sequence. `over` is what the cursor walks over, in a
+/// form of its own choice: of it the items show a part, and no call changes it.
 pub trait Placed {
+    ghost Over: { Type 0 };
+
+    ghost over: { Self → Over };
+
     ghost items: { Self → List Item };
 
     ghost place: { Self → ℕ };
@@ -22,21 +27,25 @@ pub trait Placed {
 pub trait Cursor<'a>: Placed {
     /// Goes to the first version that isn't before the key, or after the last.
     fn seek(&mut self, to: &KeyRef<'_>)
+        ensures over { Self.over self.new ≡ Self.over self.old }
         ensures same { Self.items self.new ≡ Self.items self.old }
         ensures place { Self.place self.new ≡ below (sort_key_of to.now) (Self.items self.old) + 1 };
 
     /// Goes after the last version.
     fn seek_end(&mut self)
+        ensures over { Self.over self.new ≡ Self.over self.old }
         ensures same { Self.items self.new ≡ Self.items self.old }
         ensures place { Self.place self.new ≡ length (Self.items self.old) + 1 };
 
     /// Goes one place on, and stays where there is none.
     fn next(&mut self)
+        ensures over { Self.over self.new ≡ Self.over self.old }
         ensures same { Self.items self.new ≡ Self.items self.old }
         ensures place { Self.place self.new ≡ onward (length (Self.items self.old)) (Self.place self.old) };
 
     /// Goes one place back, and stays where there is none.
     fn prev(&mut self)
+        ensures over { Self.over self.new ≡ Self.over self.old }
         ensures same { Self.items self.new ≡ Self.items self.old }
         ensures place { Self.place self.new ≡ Self.place self.old - 1 };
 

@@ -1,5 +1,5 @@
 //! A cursor over all versions of several cursors.
-ghost use Rattle.std.specs.Prelude.{◌≡◌, ◌≤◌, All, map, true, false};
+ghost use Rattle.std.specs.Prelude.{◌≡◌, ◌≤◌, All, IfSome, List, map, slice_get, true, false};
 ghost use Rattle.ts_key.specs.Order.{sort_key_of};
 ghost use Rattle.ts_key.specs.Lists.{joined, below, standing, merged};
 ghost use Rattle.ts_key.specs.Ordered.{stored_ordered};
@@ -45,6 +45,8 @@ impl<C: Placed> Merge<C> {
     pub fn seeking<'a>(mut children: Vec<C>, to: &KeyRef<'_>) -> Merge<C>
     where
         C: Cursor<'a>,
+        ensures over { map C.over result.children.items ≡ map C.over children.items }
+        ensures children { map C.items result.children.items ≡ map C.items children.items }
         ensures items { all (sides C.items C.place result.children.items) ≡ merged (map C.items children.items) }
         ensures place { passed (sides C.items C.place result.children.items) ≡ below (sort_key_of to.now) (merged (map C.items children.items)) }
         ensures started { result.before ≡ false }
@@ -59,7 +61,8 @@ impl<C: Placed> Merge<C> {
 
     /// The cursor whose version it shows.
     pub fn child(&self) -> Option<&C>
-        ensures { let ss = sides C.items C.place self.now.children.items in StandsAt C.items C.place result (standing (all ss) (merged_place self.now.before ss)) }
+        ensures lowest { IfSome result (λ c. slice_get self.now.children.items self.now.lowest ≡ Some c.now) }
+        ensures stands { let ss = sides C.items C.place self.now.children.items in StandsAt C.items C.place result (standing (all ss) (merged_place self.now.before ss)) }
     {
         if self.before {
             return None;
@@ -72,6 +75,10 @@ impl<C: Placed> Merge<C> {
 }
 
 impl<C: Placed> Placed for Merge<C> {
+    ghost Over = { List C.Over };
+
+    ghost over = { λ m. map C.over m.children.items };
+
     ghost items = { λ m. all (sides C.items C.place m.children.items) };
 
     ghost place = { λ m. merged_place m.before (sides C.items C.place m.children.items) };

@@ -1,5 +1,5 @@
 //! A cursor over a slice of versions.
-ghost use Rattle.std.specs.Prelude.{◌≡◌, ◌+◌, ◌≤◌, length};
+ghost use Rattle.std.specs.Prelude.{◌≡◌, ◌+◌, ◌≤◌, List, length};
 ghost use Rattle.std.specs.Option.{option_copied};
 ghost use Rattle.ts_key.specs.Items.{items_of, item_of, shown};
 ghost use Rattle.ts_key.specs.Lists.{IsOrdered, standing};
@@ -41,6 +41,12 @@ impl<'a> SliceCursor<'a> {
 }
 
 impl Placed for SliceCursor<'_> {
+    ghost use Rattle.ts_key.specs.declared.version.Version.{Version};
+
+    ghost Over = { List Version };
+
+    ghost over = { λ c. c.versions.now };
+
     ghost items = { λ c. items_of c.versions.now };
 
     ghost place = { λ c. c.place };

@@ -101,49 +101,61 @@ pub fn u64_of(bytes: &[u8]) -> u64
     LittleEndian::read_u64(bytes)
 }
 
-/// Adds bytes at the end.
+/// Adds bytes at the end. After `NoMemory` the text is as before.
 pub fn put_bytes(out: &mut Vec<u8>, bytes: &[u8]) -> Result<(), NoMemory>
     ensures written { OnOk result (out.new.items ≡ out.old.items ++ bytes.now) }
     ensures extends { Extends out.old.items out.new.items }
+    ensures kept { OnErr result (out.new.items ≡ out.old.items) }
 {
-    out.extend_from_slice(bytes)
+    let end = out.len();
+    match out.extend_from_slice(bytes) {
+        Ok(()) => Ok(()),
+        Err(e) => {
+            out.truncate(end);
+            Err(e)
+        }
+    }
 }
 
-/// Adds a byte at the end.
+/// Adds a byte at the end. After `NoMemory` the text is as before.
 pub fn put_u8(out: &mut Vec<u8>, n: u8) -> Result<(), NoMemory>
     ensures written { OnOk result (out.new.items ≡ out.old.items ++ n ∷ []) }
     ensures extends { Extends out.old.items out.new.items }
+    ensures kept { OnErr result (out.new.items ≡ out.old.items) }
 {
     put_bytes(out, &[n])
 }
 
-/// Adds a u16 at the end.
+/// Adds a u16 at the end. After `NoMemory` the text is as before.
 #[tactic(auto, unfolding(crate::specs::Numbers::number_bytes))]
 pub fn put_u16(out: &mut Vec<u8>, n: u16) -> Result<(), NoMemory>
     ensures written { OnOk result (out.new.items ≡ out.old.items ++ number_bytes 2 n) }
     ensures extends { Extends out.old.items out.new.items }
+    ensures kept { OnErr result (out.new.items ≡ out.old.items) }
 {
     let mut bytes = [0; 2];
     LittleEndian::write_u16(&mut bytes, n);
     put_bytes(out, &bytes)
 }
 
-/// Adds a u32 at the end.
+/// Adds a u32 at the end. After `NoMemory` the text is as before.
 #[tactic(auto, unfolding(crate::specs::Numbers::number_bytes))]
 pub fn put_u32(out: &mut Vec<u8>, n: u32) -> Result<(), NoMemory>
     ensures written { OnOk result (out.new.items ≡ out.old.items ++ number_bytes 4 n) }
     ensures extends { Extends out.old.items out.new.items }
+    ensures kept { OnErr result (out.new.items ≡ out.old.items) }
 {
     let mut bytes = [0; 4];
     LittleEndian::write_u32(&mut bytes, n);
     put_bytes(out, &bytes)
 }
 
-/// Adds a u64 at the end.
+/// Adds a u64 at the end. After `NoMemory` the text is as before.
 #[tactic(auto, unfolding(crate::specs::Numbers::number_bytes))]
 pub fn put_u64(out: &mut Vec<u8>, n: u64) -> Result<(), NoMemory>
     ensures written { OnOk result (out.new.items ≡ out.old.items ++ number_bytes 8 n) }
     ensures extends { Extends out.old.items out.new.items }
+    ensures kept { OnErr result (out.new.items ≡ out.old.items) }
 {
     let mut bytes = [0; 8];
     LittleEndian::write_u64(&mut bytes, n);

@@ -7,7 +7,7 @@
 //! Numbers are little-endian. The key is the user's and has at most 1,024 bytes, the timestamp is at most 2^64 - 2, and the
 //! sequence is 1 to 2^56 - 1.
 
-ghost use Rattle.std.specs.Prelude.{◌≡◌, ℕ, ◌≤◌, ◌++◌, OnOk, MatchOption, length};
+ghost use Rattle.std.specs.Prelude.{◌≡◌, ℕ, ◌≤◌, ◌++◌, OnOk, OnErr, MatchOption, length};
 ghost use Rattle.ts_key.specs.Items.{item_of, kind_of};
 ghost use Rattle.ts_key.specs.StoredKeys.{kind_number, tail_len, stamp, stamp_number, stored_key, IsStamp, IsSequence, IsStored, DecodesKey};
 ghost use Rattle.ts_key.specs.Writing.{Extends};
@@ -25,12 +25,13 @@ use byteorder::{ByteOrder, LittleEndian};
 #[derive(Clone, Copy, Debug, PartialEq, Eq)]
 pub struct KeyBad;
 
-/// Adds the stored key of a version in form Persist.
+/// Adds the stored key of a version in form Persist. After `NoMemory` the text is as before.
 pub fn encode_key(v: &Version, out: &mut Vec<u8>) -> Result<(), NoMemory>
     requires stamp { IsStamp forms.Persist v.now.ts.0 }
     requires sequence { IsSequence v.now.seq.0 }
     ensures written { OnOk result (out.new.items ≡ out.old.items ++ stored_key forms.Persist (item_of v.now).sort_key (kind_of v.now.op)) }
     ensures extends { Extends out.old.items out.new.items }
+    ensures kept { OnErr result (out.new.items ≡ out.old.items) }
     ensures stored { IsStored forms.Persist (item_of v.now).sort_key }
 {
     encode_key_as(Form::Persist, v, out)
@@ -43,9 +44,28 @@ pub fn decode_key(bytes: &[u8]) -> Result<(KeyRef<'_>, Kind), KeyBad>
     decode_key_as(Form::Persist, bytes)
 }
 
-/// Adds the stored key of a version in this form.
-#[tactic(auto, unfolding(crate::specs::StoredKeys::stored_key), using(crate::proofs::Writing::extends_on))]
+/// Adds the stored key of a version in this form. After `NoMemory` the text is as before.
 pub fn encode_key_as(form: Form, v: &Version, out: &mut Vec<u8>) -> Result<(), NoMemory>
+    requires stamp { IsStamp form v.now.ts.0 }
+    requires sequence { IsSequence v.now.seq.0 }
+    ensures written { OnOk result (out.new.items ≡ out.old.items ++ stored_key form (item_of v.now).sort_key (kind_of v.now.op)) }
+    ensures extends { Extends out.old.items out.new.items }
+    ensures kept { OnErr result (out.new.items ≡ out.old.items) }
+    ensures stored { IsStored form (item_of v.now).sort_key }
+{
+    let end = out.len();
+    match put_key(form, v, out) {
+        Ok(()) => Ok(()),
+        Err(e) => {
+            out.truncate(end);
+            Err(e)
+        }
+    }
+}
+
+/// The same, where what was added first may be left after an error.
+#[tactic(auto, unfolding(crate::specs::StoredKeys::stored_key), using(crate::proofs::Writing::extends_on))]
+fn put_key(form: Form, v: &Version, out: &mut Vec<u8>) -> Result<(), NoMemory>
     requires stamp { IsStamp form v.now.ts.0 }
     requires sequence { IsSequence v.now.seq.0 }
     ensures written { OnOk result (out.new.items ≡ out.old.items ++ stored_key form (item_of v.now).sort_key (kind_of v.now.op)) }

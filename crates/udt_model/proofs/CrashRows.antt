@@ -1,29 +1,17 @@
 -- What a crash may leave of some histories.
-use Rattle.std.proofs.Common.{arith, ◌≡◌, ◌⊎◌, ℕ, ◌+◌, Bool, true, false, IsTrue, List, [], ◌∷◌, codes, Option, Some, None, refl, sym, ap, ◌∙◌, subst, inl, inr}
-use Rattle.ts_key.specs.declared.version.Op.{Op}
+use Rattle.std.proofs.Common.{arith, ◌≡◌, ℕ, true, false, List, [], ◌∷◌, codes, None, refl, sym, ap, ◌∙◌, inl, inr}
 use Rattle.ts_key.specs.declared.version.Op.TheVariants as ops
-use Rattle.ts_key.specs.declared.version.Form.{Form}
 use Rattle.ts_key.specs.declared.version.Form.TheVariants.{Persist, Strip}
-use Rattle.ts_key.specs.declared.numbers.Ts.{Ts}
-use Rattle.udt_model.specs.declared.event.Event.{Event}
 use Rattle.udt_model.specs.declared.event.Event.TheVariants as events
-use Rattle.udt_model.specs.declared.event.NamedOp.{NamedOp}
-use Rattle.udt_model.specs.declared.reply.Reply.{Reply}
 use Rattle.udt_model.specs.declared.reply.Reply.TheVariants as replies
-use Rattle.udt_model.specs.declared.reply.Row.{Row}
-use Rattle.udt_model.specs.declared.reply.Piece.{Piece}
-use Rattle.udt_model.specs.declared.reply.Stamp.{Stamp}
-use Rattle.udt_model.specs.declared.reply.Stamp.TheVariants as stamps
-use Rattle.udt_model.specs.declared.line.FamilyHead.{FamilyHead}
 use Rattle.udt_model.specs.declared.line.Line.{Line}
-use Rattle.udt_model.specs.declared.line.Who.{Who}
-use Rattle.udt_model.specs.declared.line.Who.TheVariants.{Client, Flusher, Compactor, Runner}
+use Rattle.udt_model.specs.declared.line.Who.TheVariants.{Client, Runner}
 use Rattle.udt_model.specs.State.{State, unflushed}
 use Rattle.std.specs.Prelude.{slice_index_or, zero, suc, ◌<◌, ◌≤◌}
 use Rattle.udt_model.specs.Crashes.{Course, IsOutcome, IsOutcomeUnder, course_behind, course_start, cut_at, settled}
 use Rattle.udt_model.specs.Acts.{Act}
 use Rattle.udt_model.specs.Histories.{Point, behind, start}
-use Rattle.udt_model.proofs.Samples.{ts, named, row, piece, head, line}
+use Rattle.udt_model.proofs.Samples.{ts, named, head, line}
 
 abbrev pub behind_all : Point → List Line → Point
 behind_all p [] = p
@@ -50,7 +38,7 @@ pub failed_none : IsOutcome failed_end.state failed_course failed_start.state
 failed_none = inl (0, (0, omega arith, refl), omega arith, refl)
 
 pub failed_all : IsOutcome failed_end.state failed_course (settled (behind failed_start (line 1 0 (Client 1) (events.Write (named (codes "d") (codes "a") 1 (ops.Put (codes "x")) ∷ named (codes "d") (codes "b") 1 (ops.Put (codes "y")) ∷ named (codes "d") (codes "c") 1 (ops.Put (codes "z")) ∷ []) false) (replies.OkAt 3))).state)
-failed_all = inr (replies.OkAt 3, refl, refl, refl)
+failed_all = inr (replies.OkAt 3, refl, refl, refl, refl)
 
 -- the second write without the first
 pub failed_gap : IsOutcome failed_end.state failed_course (settled (behind failed_start (line 1 0 (Client 1) (events.Write (named (codes "d") (codes "b") 1 (ops.Put (codes "y")) ∷ []) false) (replies.OkAt 1))).state) → ⊥
@@ -106,4 +94,8 @@ pub stripped_before : IsOutcomeUnder stripped_end.state stripped_course 4 (Act.f
 stripped_before = inl (inl (2, (2, omega arith, refl), omega arith, refl))
 
 pub stripped_after : IsOutcomeUnder stripped_end.state stripped_course 4 (Act.flush_end (record { 0 = 0 }) 2) (settled stripped_after_flush.state)
-stripped_after = inr (replies.Table 3 1 (ts 11), (refl, (refl, refl, refl)), refl, refl)
+stripped_after = inr (replies.Table 3 1 (ts 11), (refl, (refl, refl, refl)), refl, refl, refl)
+
+-- no flush of this number runs
+pub not_of_another : IsOutcomeUnder stripped_end.state stripped_course 4 (Act.flush_end (record { 0 = 0 }) 3) (settled stripped_after_flush.state) → ⊥
+not_of_another h = grind (arith)

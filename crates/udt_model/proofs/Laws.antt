@@ -1,12 +1,12 @@
 -- Laws of the definitions.
 use Rattle.std.proofs.Common.{arith, ◌≡◌, ◌≢◌, ℕ, zero, suc, ◌+◌, ◌<◌, true, false, not, List, [], ◌∷◌, ◌++◌, length, map, Option, Some, None, refl, sym, ap, ◌∙◌, subst, inl, inr}
-use Rattle.std.specs.Prelude.{All, AllPairs, filter, flat_map, option_map, slice_get, slice_index_or}
+use Rattle.std.specs.Prelude.{All, AllPairs, Contains, filter, flat_map, option_map, slice_get, slice_index_or}
 use Rattle.std.specs.Str.{bytes_eq}
 use Rattle.std.proofs.lemmas.Bool.{cases_Bool}
 use Rattle.ts_key.specs.declared.numbers.Family.{Family}
 use Rattle.ts_key.specs.declared.numbers.Ts.{Ts}
 use Rattle.ts_key.specs.declared.numbers.Seq.{Seq}
-use Rattle.ts_key.specs.declared.version.Form.TheVariants.{Persist}
+use Rattle.ts_key.specs.declared.version.Form.TheVariants.{Persist, Strip}
 use Rattle.ts_key.specs.declared.version.Version.{Version}
 use Rattle.udt_model.specs.declared.line.FamilyHead.{FamilyHead}
 use Rattle.udt_model.specs.declared.line.Line.{Line}
@@ -15,7 +15,7 @@ use Rattle.udt_model.specs.declared.place.Place.{Place}
 use Rattle.udt_model.specs.Versions.{AreRising, visible}
 use Rattle.udt_model.specs.Orders.{is_in_some, stored}
 use Rattle.udt_model.specs.Collecting.{collect, collect_all, is_useless, seen_of}
-use Rattle.udt_model.specs.Standing.{AreAlike, Stands}
+use Rattle.udt_model.specs.Standing.{AreAlike, HasSource, ImagesRise, Stands}
 use Rattle.udt_model.specs.State.{State, FamilyState, family_of, family_or, heads_of, numbers_of, place_at, place_from, place_of_family, unflushed, unflushed_family}
 use Rattle.udt_model.specs.Crashes.{settled}
 use Rattle.udt_model.specs.declared.event.Event.{Event}
@@ -113,6 +113,20 @@ stands_itself family w floor seqs own apart rising = record {
     inside [] k d within = refl
     inside (v ∷ vs) zero d within = refl
     inside (v ∷ vs) (suc k) d within = let less : k < length vs = omega (arith, within) in inside vs k d less
+
+module _ (family : Family) (floor : Ts) (w vs : List Version) (images : All (HasSource family Persist floor w) vs) where
+  -- what stands for itself is in the other list
+  itself : (v : Version) → Contains vs v → Contains w v
+  itself v c =
+      let source : HasSource family Persist floor w v = subst (HasSource family Persist floor w) c.2 (images c.0 v c.1) in
+      subst (Contains w) (sym source.3) source.1
+
+-- images rise as what they stand for
+pub images_rise : ImagesRise
+images_rise family Persist floor w vs rising images flat a b x y same less = rising a b (itself family floor w vs images a x) (itself family floor w vs images b y) same less
+images_rise family Strip floor w vs rising images flat a b x y same less =
+    let zero_ts : a.ts.0 ≡ 0 = subst (λ (v : Version). v.ts.0 ≡ 0) x.2 (flat refl x.0 a x.1) in
+    omega (arith, zero_ts)
 
 -- ---- names
 

@@ -9,3 +9,5 @@ pub mod StandRows
 pub mod EntryRows
 pub mod RunningRows
 pub mod Sorted
+pub mod Greatest
+pub mod RefusalRows

@@ -1,30 +1,18 @@
 -- The limits of a history, and plans of compactions.
-use Rattle.std.proofs.Common.{arith, ◌≡◌, ◌⊎◌, ℕ, ◌+◌, Bool, true, false, IsTrue, List, [], ◌∷◌, codes, Option, Some, None, refl, inl, inr}
-use Rattle.ts_key.specs.declared.version.Op.{Op}
+use Rattle.std.proofs.Common.{arith, ◌≡◌, ℕ, ◌+◌, false, List, [], ◌∷◌, codes, Some, None, refl, inl, inr}
 use Rattle.ts_key.specs.declared.version.Op.TheVariants as ops
-use Rattle.ts_key.specs.declared.version.Form.{Form}
-use Rattle.ts_key.specs.declared.version.Form.TheVariants.{Persist, Strip}
-use Rattle.ts_key.specs.declared.numbers.Ts.{Ts}
+use Rattle.ts_key.specs.declared.version.Form.TheVariants.{Persist}
 use Rattle.udt_model.specs.declared.event.Event.{Event}
 use Rattle.udt_model.specs.declared.event.Event.TheVariants as events
-use Rattle.udt_model.specs.declared.event.NamedOp.{NamedOp}
-use Rattle.udt_model.specs.declared.reply.Reply.{Reply}
 use Rattle.udt_model.specs.declared.reply.Reply.TheVariants as replies
-use Rattle.udt_model.specs.declared.reply.Row.{Row}
-use Rattle.udt_model.specs.declared.reply.Piece.{Piece}
-use Rattle.udt_model.specs.declared.reply.Stamp.{Stamp}
-use Rattle.udt_model.specs.declared.reply.Stamp.TheVariants as stamps
-use Rattle.udt_model.specs.declared.line.FamilyHead.{FamilyHead}
 use Rattle.udt_model.specs.declared.line.Line.{Line}
-use Rattle.udt_model.specs.declared.line.Who.{Who}
-use Rattle.udt_model.specs.declared.line.Who.TheVariants.{Client, Flusher, Compactor, Runner}
-use Rattle.std.specs.Prelude.{map, replicate, ◌^◌, ◌-◌}
+use Rattle.udt_model.specs.declared.line.Who.TheVariants.{Client, Flusher}
+use Rattle.std.specs.Prelude.{replicate, ◌^◌, ◌-◌}
 use Rattle.ts_key.specs.declared.version.Version.{Version}
-use Rattle.udt_model.specs.State.{State, Snap, LiveTable, unflushed}
+use Rattle.udt_model.specs.State.{State, LiveTable, unflushed}
 use Rattle.udt_model.specs.Jobs.{IsClosed, deeper_of}
-use Rattle.udt_model.specs.Names.{Names, SnapName, ViewName}
 use Rattle.udt_model.specs.Histories.{Point, IsLegal, behind, start, start_of}
-use Rattle.udt_model.proofs.Samples.{ts, named, row, piece, head, line}
+use Rattle.udt_model.proofs.Samples.{ts, named, head, line}
 
 abbrev pub d : List ℕ
 d = codes "d"

@@ -1,12 +1,9 @@
 -- Running jobs that run rightly, and some that don't.
-use Rattle.std.proofs.Common.{arith, ◌≡◌, ℕ, List, [], ◌∷◌, codes, Option, Some, None, refl}
+use Rattle.std.proofs.Common.{arith, [], ◌∷◌, codes, Some, None, refl}
 use Rattle.std.proofs.lemmas.List.Elements.{All-nil}
-use Rattle.ts_key.specs.declared.numbers.Family.{Family}
-use Rattle.ts_key.specs.declared.numbers.Seq.{Seq}
 use Rattle.ts_key.specs.declared.version.Form.TheVariants.{Persist}
-use Rattle.ts_key.specs.declared.version.Version.{Version}
 use Rattle.udt_model.specs.declared.reply.Reply.TheVariants as replies
-use Rattle.udt_model.specs.State.{State, Compaction, Snap, unflushed}
+use Rattle.udt_model.specs.State.{State, unflushed}
 use Rattle.udt_model.specs.Acts.{Act}
 use Rattle.udt_model.specs.Steps.{after}
 use Rattle.udt_model.specs.Running.{IsSince, RunsRightly}

@@ -1,5 +1,5 @@
 -- Short names for lines of a history.
-use Rattle.std.proofs.Common.{ℕ, List, Option, None}
+use Rattle.std.proofs.Common.{ℕ, List}
 use Rattle.ts_key.specs.declared.version.Op.{Op}
 use Rattle.ts_key.specs.declared.version.Form.{Form}
 use Rattle.ts_key.specs.declared.numbers.Ts.{Ts}

@@ -1,6 +1,6 @@
 -- The stored order of versions is that of their sort keys, and in it the first that fits is the newest.
 use Rattle.std.proofs.Common.{◌≡◌, ℕ, ◌<◌, Bool, true, false, cond, List, [], ◌∷◌, Option, Some, None, refl, sym, ap, ◌∙◌, inl, inr, arith}
-use Rattle.std.specs.Prelude.{◌==◌, ◌&&◌, ◌||◌, nat_lt, filter, IfSome, map}
+use Rattle.std.specs.Prelude.{◌==◌, ◌&&◌, ◌||◌, nat_lt, filter, IfSome}
 use Rattle.std.specs.List.{AllByRecursion}
 use Rattle.std.specs.Option.{option_map}
 use Rattle.std.specs.Str.{bytes_eq}
@@ -22,7 +22,7 @@ use Rattle.ts_key.specs.Items.{Item, item_of, items_of}
 use Rattle.ts_key.specs.Lists as lists
 use Rattle.ts_key.specs.Visible as seen
 use Rattle.ts_key.specs.Firsts.{later_not_newer}
-use Rattle.udt_model.specs.Versions.{is_newer, newer, newest_of, is_of, of_key, is_within, visible}
+use Rattle.udt_model.specs.Versions.{is_newer, newer, newest_of, is_of, is_within}
 use Rattle.udt_model.specs.Orders.{is_before, with_version, stored}
 use Rattle.udt_model.specs.SortedLaws.{OrdersAgree, SortingAgrees, VisibleAgrees, FirstIsVisible, FirstIsNewest}
 
@@ -68,7 +68,7 @@ twice_on : (a b : Bool) (p : Version → Bool) (v : Version) (vs : List Version)
 twice_on true b p v vs e = ap (λ c. cond c (v ∷ filter p vs) (filter p vs)) e
 twice_on false b p v vs e = refl
 
-filter_twice : (p q : Version → Bool) (vs : List Version) → filter p (filter q vs) ≡ filter (λ v. q v && p v) vs
+pub filter_twice : (p q : Version → Bool) (vs : List Version) → filter p (filter q vs) ≡ filter (λ v. q v && p v) vs
 filter_twice p q [] = refl
 filter_twice p q (v ∷ vs) = twice_on (q v) (p v) p v (filter q vs) refl ∙ ap (λ (xs : List Version). cond (q v && p v) (v ∷ xs) xs) (filter_twice p q vs)
 

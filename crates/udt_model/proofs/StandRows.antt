@@ -1,11 +1,10 @@
 -- Versions that don't stand for a list.
-use Rattle.std.proofs.Common.{arith, ◌≡◌, ℕ, zero, suc, List, [], ◌∷◌, codes, refl, sym, ap, ◌∙◌}
-use Rattle.ts_key.specs.declared.numbers.Ts.{Ts}
+use Rattle.std.proofs.Common.{arith, ◌≡◌, ℕ, List, [], ◌∷◌, codes, refl, sym, ap, ◌∙◌}
 use Rattle.ts_key.specs.declared.numbers.Family.{Family}
 use Rattle.ts_key.specs.declared.version.Op.TheVariants as ops
-use Rattle.ts_key.specs.declared.version.Form.TheVariants.{Persist, Strip}
+use Rattle.ts_key.specs.declared.version.Form.TheVariants.{Persist}
 use Rattle.ts_key.specs.declared.version.Version.{Version}
-use Rattle.udt_model.specs.Standing.{HasSource, Stands}
+use Rattle.udt_model.specs.Standing.{Stands}
 
 abbrev number : ℕ → Family
 number n = record { 0 = n }

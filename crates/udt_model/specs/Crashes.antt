@@ -7,7 +7,7 @@ use Rattle.udt_model.specs.Versions.{up_to}
 use Rattle.udt_model.specs.State.{State, heads_of, live_numbers}
 use Rattle.udt_model.specs.Acts.{Act}
 use Rattle.udt_model.specs.Acts.Act.{write, raise, sync_all, flush_end, compact_end}
-use Rattle.udt_model.specs.Steps.{IsTold, after}
+use Rattle.udt_model.specs.Steps.{IsTold, after, is_running}
 use Rattle.udt_model.specs.Names.{act_of}
 use Rattle.udt_model.specs.Histories.{Point, behind}
 
@@ -90,9 +90,9 @@ is_change (flush_end family start) (Table table kept floor) = true
 is_change (compact_end family start) (Kept kept pieces) = true
 is_change act reply = false
 
--- every write, and what the act changes
+-- every write, and what the act changes; an end is that of the job that runs
 abbrev pub IsChanged : State → ℕ → Act → State → Type 0
-IsChanged m number act left = (reply : Reply) × IsTold m act reply × IsTrue (is_change act reply) × (left ≡ settled (after m number act reply))
+IsChanged m number act left = (reply : Reply) × IsTold m act reply × IsTrue (is_change act reply) × (left ≡ settled (after m number act reply)) × IsTrue (is_running m act)
 
 abbrev pub IsFailed : Option Failing → State → Type 0
 IsFailed None left = ⊥

@@ -1,10 +1,11 @@
 -- Entries of the history of the threads: events by numbers, with their replies.
-use Rattle.std.specs.Prelude.{◌≡◌, ℕ, ◌+◌, ◌-◌, ◌^◌, ◌<◌, ◌≤◌, ◌==◌, min, Bool, true, false, IsTrue, ⊤, List, [], ◌∷◌, Option, Some, None}
+use Rattle.std.specs.Prelude.{◌≡◌, ℕ, ◌+◌, ◌-◌, ◌^◌, ◌<◌, ◌≤◌, ◌==◌, length, min, Bool, true, false, IsTrue, ⊤, List, [], ◌∷◌, Option, Some, None}
 use Rattle.udt_model.specs.declared.reply.Reply.{Reply}
 use Rattle.udt_model.specs.declared.reply.Reply.TheVariants.{OkAt, Inputs, Files, DroppedFault, DroppedFiles, Fault}
 use Rattle.udt_model.specs.State.{State, is_registered}
 use Rattle.udt_model.specs.Acts.{Act, takes_commit}
 use Rattle.udt_model.specs.Acts.Act.{get, scan, ask_floor, make_snapshot, release, pin, flush_start, flush_end, compact_start, compact_end}
+use Rattle.udt_model.specs.Jobs.{unflushed_of}
 use Rattle.udt_model.specs.Steps.{IsReplyTo, after, file_limit}
 
 -- how often the disk had failed, and the number of the engine's next file
@@ -47,10 +48,12 @@ HasRunOut (Files next) files = files ≡ file_limit
 HasRunOut (DroppedFiles next) files = files ≡ file_limit
 HasRunOut reply files = ⊤
 
--- a flush starts only where there was a file left
-abbrev pub HasFile : Act → Reply → ℕ → Type 0
-HasFile (flush_start family) (OkAt through) files = files < file_limit
-HasFile act reply files = ⊤
+-- A flush starts only where there was a file left, and the disk fails under its start only there too: where there is a version to take
+-- and no file for it, that is told first.
+abbrev pub HasFile : State → Act → Reply → ℕ → Type 0
+HasFile m (flush_start family) (OkAt through) files = files < file_limit
+HasFile m (flush_start family) Fault files = 0 < length (unflushed_of m family) → files < file_limit
+HasFile m act reply files = ⊤
 
 pub record IsWorked (m : State) (old new : Counts) (act : Act) (reply : Reply) : Type 0 where
   pub takes : IsTrue (takes_commit act)
@@ -59,7 +62,8 @@ pub record IsWorked (m : State) (old new : Counts) (act : Act) (reply : Reply) :
   pub files : old.files ≤ new.files
   pub risen : HasRisen reply old.faults new.faults
   pub run_out : HasRunOut reply new.files
-  pub file : HasFile act reply old.files
+  pub file : HasFile m act reply old.files
+  pub within : new.files ≤ file_limit
 
 -- the entry may follow in a state, with these counts
 abbrev pub IsEntry : State → Counts → Entry → Type 0

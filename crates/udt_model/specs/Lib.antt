@@ -1,4 +1,5 @@
 pub mod Versions
+pub mod Greatest
 pub mod Orders
 pub mod Reads
 pub mod Scans

@@ -37,3 +37,8 @@ pub record Stands (family : Family) (form : Form) (vs w : List Version) (floor :
   pub apart : AllPairs (λ (a b : Version). a.seq.0 ≢ b.seq.0) vs
   pub rising : AreRising vs
   pub alike : (key : List ℕ) (t : Ts) (s : Seq) → floor.0 ≤ t.0 → IsSight w seqs s → AreAlike form floor (visible w family key t s) (visible vs family key t s)
+
+-- Images of versions whose timestamps rise: theirs rise too, in form Persist, and in form Strip where all are 0.
+abbrev pub ImagesRise : Type 0
+ImagesRise = (family : Family) (form : Form) (floor : Ts) (w vs : List Version)
+    → AreRising w → All (HasSource family form floor w) vs → (form ≡ Strip → All (λ (v : Version). v.ts.0 ≡ 0) vs) → AreRising vs

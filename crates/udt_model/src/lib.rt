@@ -4,6 +4,7 @@
 //! admitted, and which lines of a transcript are legal; this crate's calls compute them, plainly and slowly.
 #![tactic(auto)]
 
+mod definitions;
 mod event;
 mod items;
 mod line;
@@ -13,6 +14,7 @@ mod reply;
 mod sorting;
 mod step;
 
+pub use definitions::{images_rise, reads_see_the_greatest};
 pub use event::{Event, NamedOp};
 pub use items::Items;
 pub use line::{FamilyHead, Line, Mark, Who};

@@ -1,5 +1,6 @@
 use Rattle.std.proofs.Common.{◌≡◌, ◌+◌, length, get_or, sym, ap, ◌∙◌, arith}
 use Rattle.std.proofs.Math.ListN.{length-set}
+use Rattle.std.proofs.Math.Seq.{map-set_same}
 use Rattle.merge_cursor.proofs.Steps.{end_merge, end_passed, lists_kept, each_more}
 use Rattle.merge_cursor.proofs.children.end_all.Goals as goal
 
@@ -15,6 +16,7 @@ loop-i-preserved g c =
     let at : place new ≡ length (items old) + 1 = c.seek_end.ensures.place ∙ ap (λ y. length (items y) + 1) (sym at_old) in
     record {
       inside = let e = length-set now c.loop-i.i new in omega arith;
+      over = map-set_same g.C.Placed.over now c.loop-i.i new old (c.seek_end.ensures.over) ∙ c.loop-i.invariant.over;
       same = lists_kept items place now c.loop-i.i old new at_old same ∙ c.loop-i.invariant.same;
       at = each_more items place length now c.loop-i.i new (omega arith) c.loop-i.invariant.at (at ∙ ap (λ vs. length vs + 1) (sym same));
     }

@@ -1,10 +1,12 @@
 use Rattle.std.proofs.Common.{◌≡◌, ℕ, ◌<◌, ◌≤◌, ◌+◌, ◌-◌, length, get_or}
+use Rattle.std.specs.Prelude.{map}
 use Rattle.merge_cursor.specs.Sides.{sides, lists}
 use Rattle.merge_cursor.proofs.children.end_all.Given as goal
 
 abbrev pub invariant-loop-i : goal.invariant-loop-i
 invariant-loop-i g l = record {
   inside : l.i ≤ length l.children;
+  over : map g.C.Placed.over l.children ≡ map g.C.Placed.over l.initial.children;
   same : lists (sides g.C.Placed.items g.C.Placed.place l.children) ≡ lists (sides g.C.Placed.items g.C.Placed.place l.initial.children);
   at : (k : ℕ) (d : _) → k < l.i → g.C.Placed.place (get_or l.children k d) ≡ length (g.C.Placed.items (get_or l.children k d)) + 1;
 }

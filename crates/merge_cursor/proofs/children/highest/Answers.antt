@@ -1,6 +1,7 @@
 use Rattle.std.proofs.Common.{◌≡◌, ◌≤◌, ◌-◌, List, length, get_or, refl, sym, ap, ◌∙◌, arith}
 use Rattle.std.specs.Prelude.{slice_get}
 use Rattle.std.proofs.Math.ListN.{length-set}
+use Rattle.std.proofs.Math.Seq.{map-set_same}
 use Rattle.std.proofs.lemmas.List.Elements.{All-set}
 use Rattle.merge_cursor.specs.Sides.{Side, sides, side, key_lent, back, back_of}
 use Rattle.std.proofs.lemmas.List.{length-map}
@@ -10,6 +11,7 @@ use Rattle.merge_cursor.proofs.children.highest.Goals as goal
 pub loop-i-init : goal.loop-i-init
 loop-i-init g c = record {
   inside = omega arith;
+  over = refl;
   same = refl;
   started = c.requires;
   from = top_end (sides g.C.Placed.items g.C.Placed.place c.args.children.now) (length c.args.children.now) (let e = length-map c.args.children.now (side g.C.Placed.items g.C.Placed.place) in omega (arith, e));
@@ -35,6 +37,7 @@ loop-i-preserved-then-is_higher_key g c =
     let h = top_on (sides items place first) c.loop-i.i (key_lent c.loop-i.best) key (omega arith) c.loop-i.top c.loop-i.invariant.from at_key c.if-is_higher_key.ensures in
     record {
       inside = let q = length-set now (c.loop-i.i - 1) new in omega arith;
+      over = map-set_same g.C.Placed.over now (c.loop-i.i - 1) new old (c.back_key-key.ensures.over) ∙ c.loop-i.invariant.over;
       same = sides_same items place now (c.loop-i.i - 1) old new c.index-children-i.is e_items e_place ∙ same;
       started = All-set (λ x. 1 ≤ place x) now (c.loop-i.i - 1) new (let b = c.loop-i.invariant.started (c.loop-i.i - 1) old (omega arith) in let d : place old ≡ place (get_or now (c.loop-i.i - 1) old) = ap place c.index-children-i.is in omega (arith, b, d, e_place)) c.loop-i.invariant.started;
       from = h;
@@ -60,6 +63,7 @@ loop-i-preserved g c =
     let h = top_off (sides items place first) c.loop-i.i (key_lent c.loop-i.best) key (omega arith) c.loop-i.top c.loop-i.invariant.from at_key c.if-is_higher_key.ensures in
     record {
       inside = let q = length-set now (c.loop-i.i - 1) new in omega arith;
+      over = map-set_same g.C.Placed.over now (c.loop-i.i - 1) new old (c.back_key-key.ensures.over) ∙ c.loop-i.invariant.over;
       same = sides_same items place now (c.loop-i.i - 1) old new c.index-children-i.is e_items e_place ∙ same;
       started = All-set (λ x. 1 ≤ place x) now (c.loop-i.i - 1) new (let b = c.loop-i.invariant.started (c.loop-i.i - 1) old (omega arith) in let d : place old ≡ place (get_or now (c.loop-i.i - 1) old) = ap place c.index-children-i.is in omega (arith, b, d, e_place)) c.loop-i.invariant.started;
       from = h;

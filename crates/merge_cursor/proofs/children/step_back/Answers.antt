@@ -1,4 +1,5 @@
 use Rattle.std.proofs.Common.{◌≡◌, ◌-◌, get_or, sym, ap, subst, ◌∙◌, arith}
+use Rattle.std.proofs.Math.Seq.{map-set_same}
 use Rattle.merge_cursor.specs.Sides.{passed, all, IsTop, IsMerge}
 use Rattle.merge_cursor.proofs.Steps.{back_none, back_merge, back_all, back_passed, back_started, same_count}
 use Rattle.merge_cursor.proofs.children.step_back.Goals as goal
@@ -69,3 +70,6 @@ returns-clause-passed g c =
     (subst (λ ss. IsTop ss c.highest-top.result) (sym same) c.highest-top.ensures.top)
     old c.prev.new.self (omega arith) at_old (c.prev.ensures.same ∙ ap items (sym at_old)) (c.prev.ensures.place ∙ ap (λ y. place y - 1) (sym at_old))
     ∙ ap passed same
+
+pub returns-clause-over : goal.returns-clause-over
+returns-clause-over g c = map-set_same g.C.Placed.over c.highest-top.new.children c.highest-top.result c.prev.new.self c.index-children-top.result c.prev.ensures.over ∙ c.highest-top.ensures.over
