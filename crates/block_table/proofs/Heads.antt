@@ -6,7 +6,7 @@ use Rattle.ts_key.proofs.NumberBytes.{length-number_bytes, number_bytes-unique}
 use Rattle.ts_key.specs.declared.version.Form.{Form}
 use Rattle.ts_key.specs.declared.version.Form.TheVariants.{Persist, Strip}
 use Rattle.block_table.specs.declared.properties.Properties.{Properties}
-use Rattle.block_table.specs.Tables.{form_number, key_bytes, properties_front, properties}
+use Rattle.block_table.specs.Tables.{form_number, properties_range, properties_numbers, properties_front, properties}
 
 pub number_once : (n x y : ℕ) → x < 256 ^ n → y < 256 ^ n → number_bytes n x ≡ number_bytes n y → x ≡ y
 number_once n x y a b e = (number_bytes-unique n x y [] [] a b (append-nil (number_bytes n x) ∙ e ∙ sym (append-nil (number_bytes n y)))).0
@@ -21,8 +21,8 @@ pub form_small : (a : Form) (n : ℕ) → form_number a ≡ n → n < 2
 form_small Persist n e = omega (arith, e)
 form_small Strip n e = omega (arith, e)
 
-regroup : (f a b c d e g h : List ℕ) (x : ℕ) → f ++ x ∷ [] ++ a ++ b ++ c ++ d ++ e ++ g ≡ f ++ (x ∷ (a ++ (b ++ (c ++ (d ++ (e ++ g))))))
-regroup f a b c d e g h x = simp append_assoc
+regroup : (f a r s : List ℕ) (x : ℕ) → f ++ x ∷ [] ++ a ++ r ++ s ≡ f ++ (x ∷ (a ++ (r ++ s)))
+regroup f a r s x = simp append_assoc
 
 -- the ends of the bytes of properties
 pub record Ended (bytes : List ℕ) (p : Properties) : Type 0 where
@@ -37,8 +37,9 @@ ended bytes p e =
     let f = number_bytes 4 p.family.0 in
     let x = form_number p.form in
     let by = number_bytes 8 p.collected_by.0 in
-    let more = number_bytes 8 p.count ++ (key_bytes p.least ++ (key_bytes p.greatest ++ (number_bytes 8 p.least_seq.0 ++ (number_bytes 8 p.greatest_seq.0 ++ number_bytes 8 p.greatest_ts.0)))) in
-    let front : properties_front p ≡ f ++ (x ∷ more) = regroup f (number_bytes 8 p.count) (key_bytes p.least) (key_bytes p.greatest) (number_bytes 8 p.least_seq.0) (number_bytes 8 p.greatest_seq.0) (number_bytes 8 p.greatest_ts.0) [] x in
+    let count = number_bytes 8 p.count in
+    let more = count ++ (properties_range p ++ properties_numbers p) in
+    let front : properties_front p ≡ f ++ (x ∷ more) = regroup f count (properties_range p) (properties_numbers p) x in
     let whole : bytes ≡ (f ++ (x ∷ more)) ++ by = e ∙ ap (λ (xs : List ℕ). xs ++ by) front in
     let grouped : bytes ≡ f ++ (x ∷ (more ++ by)) = whole ∙ append_assoc f (x ∷ more) by in
     let len : length bytes ≡ length (f ++ (x ∷ more)) + 8 = ap length whole ∙ length-append (f ++ (x ∷ more)) by ∙ ap (λ (n : ℕ). length (f ++ (x ∷ more)) + n) (length-number_bytes 8 p.collected_by.0) in

@@ -53,9 +53,18 @@ form_number Strip = 1
 abbrev pub key_bytes : List ℕ → List ℕ
 key_bytes key = number_bytes 2 (length key) ++ key
 
+abbrev pub properties_head : Properties → List ℕ
+properties_head p = number_bytes 4 p.family.0 ++ form_number p.form ∷ [] ++ number_bytes 8 p.count
+
+abbrev pub properties_range : Properties → List ℕ
+properties_range p = key_bytes p.least ++ key_bytes p.greatest
+
+abbrev pub properties_numbers : Properties → List ℕ
+properties_numbers p = number_bytes 8 p.least_seq.0 ++ number_bytes 8 p.greatest_seq.0 ++ number_bytes 8 p.greatest_ts.0
+
 -- what stands before the last number
 unfoldable pub properties_front : Properties → List ℕ
-properties_front p = number_bytes 4 p.family.0 ++ form_number p.form ∷ [] ++ number_bytes 8 p.count ++ key_bytes p.least ++ key_bytes p.greatest ++ number_bytes 8 p.least_seq.0 ++ number_bytes 8 p.greatest_seq.0 ++ number_bytes 8 p.greatest_ts.0
+properties_front p = properties_head p ++ properties_range p ++ properties_numbers p
 
 abbrev pub properties : Properties → List ℕ
 properties p = properties_front p ++ number_bytes 8 p.collected_by.0

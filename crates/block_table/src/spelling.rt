@@ -16,7 +16,7 @@
 ghost use Rattle.std.specs.Prelude.{◌≡◌, ◌<◌, ◌≤◌, ◌+◌, ◌^◌, ◌++◌, [], ◌∷◌, length, OnOk};
 ghost use Rattle.std.specs.List.{flat_map};
 ghost use Rattle.ts_key.specs.Writing.{Extends};
-ghost use Rattle.block_table.specs.Tables.{handle_bytes, index, key_bytes, properties_front, properties, footer, form_number};
+ghost use Rattle.block_table.specs.Tables.{handle_bytes, index, key_bytes, properties_head, properties_range, properties_numbers, properties_front, properties, footer, form_number};
 
 use crate::NoMemory;
 use crate::handle::BlockHandle;
@@ -78,19 +78,43 @@ fn put_key(out: &mut Vec<u8>, key: &Key) -> Result<(), NoMemory>
     put_bytes(out, bytes)
 }
 
+#[tactic(auto, using(ts_key::proofs::Writing::extends_on, std::proofs::lemmas::List::append_assoc))]
+fn put_properties_head(out: &mut Vec<u8>, p: &Properties) -> Result<(), NoMemory>
+    ensures written { OnOk result (out.new.items ≡ out.old.items ++ properties_head p.now) }
+    ensures extends { Extends out.old.items out.new.items }
+{
+    put_u32(out, p.family.0)?;
+    put_u8(out, form_byte(p.form))?;
+    put_u64(out, p.count)
+}
+
+#[tactic(auto, using(ts_key::proofs::Writing::extends_on, std::proofs::lemmas::List::append_assoc))]
+fn put_properties_range(out: &mut Vec<u8>, p: &Properties) -> Result<(), NoMemory>
+    ensures written { OnOk result (out.new.items ≡ out.old.items ++ properties_range p.now) }
+    ensures extends { Extends out.old.items out.new.items }
+{
+    put_key(out, &p.least)?;
+    put_key(out, &p.greatest)
+}
+
+#[tactic(auto, using(ts_key::proofs::Writing::extends_on, std::proofs::lemmas::List::append_assoc))]
+fn put_properties_numbers(out: &mut Vec<u8>, p: &Properties) -> Result<(), NoMemory>
+    ensures written { OnOk result (out.new.items ≡ out.old.items ++ properties_numbers p.now) }
+    ensures extends { Extends out.old.items out.new.items }
+{
+    put_u64(out, p.least_seq.0)?;
+    put_u64(out, p.greatest_seq.0)?;
+    put_u64(out, p.greatest_ts.0)
+}
+
 #[tactic(auto, unfolding(crate::specs::Tables::properties_front), using(ts_key::proofs::Writing::extends_on, std::proofs::lemmas::List::append_assoc))]
 fn put_properties_front(out: &mut Vec<u8>, p: &Properties) -> Result<(), NoMemory>
     ensures written { OnOk result (out.new.items ≡ out.old.items ++ properties_front p.now) }
     ensures extends { Extends out.old.items out.new.items }
 {
-    put_u32(out, p.family.0)?;
-    put_u8(out, form_byte(p.form))?;
-    put_u64(out, p.count)?;
-    put_key(out, &p.least)?;
-    put_key(out, &p.greatest)?;
-    put_u64(out, p.least_seq.0)?;
-    put_u64(out, p.greatest_seq.0)?;
-    put_u64(out, p.greatest_ts.0)
+    put_properties_head(out, p)?;
+    put_properties_range(out, p)?;
+    put_properties_numbers(out, p)
 }
 
 /// Adds the properties.
