@@ -8,7 +8,7 @@ use Rattle.data_block.specs.declared.index.Index.{Index}
 use Rattle.data_block.specs.Grammar.{numbers, block, block_entries, block_restarts, AreShort, IsBlock}
 use Rattle.data_block.specs.Index.{IsWithin}
 use Rattle.data_block.specs.Regions.{IsRun, StopsAt, ReadsRegion, items_in}
-use Rattle.data_block.specs.Faults.{EndsAt, IsBlockFault}
+use Rattle.data_block.specs.Faults.{EndsAt, IsBlockFault, IsRead}
 use Rattle.data_block.specs.Faults.IsBlockFault.{bad_entry, bad_tail}
 use Rattle.data_block.proofs.Steps.{length-items_at}
 
@@ -41,8 +41,7 @@ tail_there form image region tail end x ends is tail-is h bad =
           bad (subst AreShort (sym r.2) b.offsets, tail-is ∙ rest ∙ ap numbers (sym r.2)));
     })
 
-pub all_there : (form : Form) (image region tail : List ℕ) (end : ℕ) (x : Index) → EndsAt image end → region ≡ take end image → tail ≡ drop end image → ReadsRegion form region x None → (length x.entries.items ≡ 0 → ⊥) → AreShort x.restarts.items × (tail ≡ numbers x.restarts.items)
-    → (end ≤ length image) × All (IsWithin x.keys.items (take end image)) x.entries.items × IsBlock form (items_in (take end image) x) × (image ≡ block form (items_in (take end image) x))
+pub all_there : (form : Form) (image region tail : List ℕ) (end : ℕ) (x : Index) → EndsAt image end → region ≡ take end image → tail ≡ drop end image → ReadsRegion form region x None → (length x.entries.items ≡ 0 → ⊥) → AreShort x.restarts.items × (tail ≡ numbers x.restarts.items) → IsRead form image end x
 all_there form image region tail end x ends is tail-is h some good =
     let r = run_of form image region end x is h in
     let vs = items_in (take end image) x in
@@ -50,4 +49,11 @@ all_there form image region tail end x ends is tail-is h some good =
     let w = ends.whole in
     let front : take end image ≡ block_entries form vs = r.1.parts ∙ append-nil (block_entries form vs) in
     let behind : drop end image ≡ numbers (block_restarts form vs) = sym tail-is ∙ good.1 ∙ ap numbers r.2 in
-    (omega arith, r.0, record { some = omega (arith, len, some); sorted = r.1.sorted; items = r.1.items; offsets = subst AreShort r.2 good.0 }, sym (take-append-drop end image) ∙ (λ i. front i ++ behind i))
+    record {
+      fits = omega arith;
+      within = r.0;
+      versions = record { some = omega (arith, len, some); sorted = r.1.sorted; items = r.1.items; offsets = subst AreShort r.2 good.0 };
+      spelled = sym (take-append-drop end image) ∙ (λ i. front i ++ behind i);
+      entries = sym (end_of form image end vs ends r.1);
+      begins = r.3;
+    }

@@ -11,3 +11,4 @@ pub mod Faulting
 pub mod Found
 pub mod Loops
 pub mod Images
+pub mod Moved

@@ -25,6 +25,7 @@ nothing_read form region x last k e r l =
       within = subst (λ (es : List Entry). All (IsWithin x.keys.items region) es) (sym e) within;
       run = subst (λ (vs : List Item). IsRun form region vs region) (sym none) run;
       restarts = r ∙ ap (block_restarts form) (sym none);
+      begins = λ before v e. absurd (omega (arith, ap length none, ap length e, length-append before (v ∷ [])));
       ends = l ∙ ap (last_key form []) (sym none);
     }
 
@@ -55,4 +56,4 @@ stopped form region at x last h lt none =
 pub whole : (form : Form) (region : List ℕ) (at : ℕ) (x : Index) (last : List ℕ) → HasRead form region at x last → length region ≤ at → ReadsRegion form region x None
 whole form region at x last h le =
     let end : drop at region ≡ [] = nil_from_length (drop at region) (omega (arith, length-drop at region)) in
-    (h.within, subst (IsRun form region (items_in region x)) end h.run, h.restarts)
+    (h.within, subst (IsRun form region (items_in region x)) end h.run, h.restarts, h.begins)

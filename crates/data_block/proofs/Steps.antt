@@ -1,5 +1,5 @@
 -- One step of reading a region.
-use Rattle.std.proofs.Common.{◌≡◌, ℕ, suc, ◌+◌, ◌-◌, ◌≤◌, List, [], ◌∷◌, ◌++◌, length, take, drop, refl, sym, ap, subst, ◌∙◌, All, append_assoc, length-append, length-drop, arith}
+use Rattle.std.proofs.Common.{◌≡◌, ℕ, suc, ◌+◌, zero-add, ◌-◌, ◌≤◌, List, [], ◌∷◌, ◌++◌, length, take, drop, refl, sym, ap, subst, ◌∙◌, All, append_assoc, length-append, length-drop, arith}
 use Rattle.std.specs.Prelude.{slice_range}
 use Rattle.std.proofs.lemmas.List.{take_at, drop_at, drop-drop}
 use Rattle.ts_key.specs.Items.{Item}
@@ -66,13 +66,18 @@ parts_at region at f le e =
       rest = ap (λ (n : ℕ). drop n region) end ∙ sym (drop-drop (length v) (at + (8 + length k)) region) ∙ ap (drop (length v)) behind ∙ drop_at v r (length v) refl;
     }
 
+snoc_front : (vs ws : List Item) (v w : Item) → vs ++ v ∷ [] ≡ ws ++ w ∷ [] → vs ≡ ws
+snoc_front vs ws v w e =
+    let len : length vs ≡ length ws = omega (arith, ap length e, length-append vs (v ∷ []), length-append ws (w ∷ [])) in
+    sym (take_at vs (v ∷ []) (length ws) len) ∙ ap (take (length ws)) e ∙ take_at ws (w ∷ []) (length ws) refl
+
 -- one more version was read
 pub read_more : (form : Form) (region : List ℕ) (at end : ℕ) (old new : Index) (last next-last rest : List ℕ) (v : Item)
     → HasRead form region at old last → IsNext form (length old.entries.items) last (drop at region) v rest → EndsBefore (items_in region old) v.sort_key
     → end ≤ length region → drop end region ≡ rest
-    → All (IsWithin new.keys.items region) new.entries.items → items_in region new ≡ items_in region old ++ v ∷ [] → new.restarts.items ≡ old.restarts.items ++ restart (length old.entries.items) at → next-last ≡ key_of form v
+    → All (IsWithin new.keys.items region) new.entries.items → items_in region new ≡ items_in region old ++ v ∷ [] → new.restarts.items ≡ old.restarts.items ++ restart (length old.entries.items) at → next-last ≡ key_of form v → new.last_at ≡ at
     → HasRead form region end new next-last
-read_more form region at end old new last next-last rest v h next ends fits rest-is within items-is restarts-is last-is =
+read_more form region at end old new last next-last rest v h next ends fits rest-is within items-is restarts-is last-is begins-is =
     let vs = items_in region old in
     let count : length old.entries.items ≡ length vs = sym (length-items_at old.keys.items region old.entries.items) in
     let next' : IsNext form (length vs) (last_key form [] vs) (drop at region) v rest = subst (λ (n : ℕ). IsNext form n (last_key form [] vs) (drop at region) v rest) count (subst (λ (l : List ℕ). IsNext form (length old.entries.items) l (drop at region) v rest) h.ends next) in
@@ -86,6 +91,7 @@ read_more form region at end old new last next-last rest v h next ends fits rest
       within = within;
       run = subst (λ (ws : List Item). IsRun form region ws (drop end region)) (sym items-is) run;
       restarts = starts ∙ ap (block_restarts form) (sym items-is);
+      begins = λ before w e. begins-is ∙ placed ∙ zero-add (length (block_entries form vs)) ∙ ap (λ (us : List Item). length (block_entries form us)) (snoc_front vs before v w (sym items-is ∙ e));
       ends = last-is ∙ sym (last_key_snoc form [] vs v) ∙ ap (last_key form []) (sym items-is);
     }
 

@@ -5,10 +5,10 @@ use Rattle.ts_key.specs.Numbers.{number_bytes}
 use Rattle.ts_key.specs.declared.version.Form.{Form}
 use Rattle.data_block.specs.declared.block.BlockFault.{BlockFault}
 use Rattle.data_block.specs.declared.block.BlockFault.TheVariants.{Bad, NoMemory}
-use Rattle.data_block.specs.Grammar.{block, IsBlock}
+use Rattle.data_block.specs.Grammar.{block_entries, block, IsBlock}
 use Rattle.data_block.specs.Index.{IsWithin}
 use Rattle.data_block.specs.declared.index.Index.{Index}
-use Rattle.data_block.specs.Regions.{IsRun, StopsAt, items_in}
+use Rattle.data_block.specs.Regions.{IsRun, StopsAt, LastBegins, items_in}
 
 -- n bytes of entries, and behind them as many restarts as the last four bytes say
 pub record EndsAt (image : List ℕ) (n : ℕ) : Type 0 where
@@ -52,8 +52,17 @@ FaultsAreSingle = (form : Form) (image : List ℕ) (a b : ℕ) → IsBlockFault 
 abbrev pub BlocksAreUnique : Type 0
 BlocksAreUnique = (form : Form) (vs ws : List Item) → IsBlock form vs → IsBlock form ws → block form vs ≡ block form ws → vs ≡ ws
 
--- the index stands for the versions of the image, whose entries end there; or the image leaves the grammar
+-- the index stands for the versions of the image, whose entries end there
+pub record IsRead (form : Form) (image : List ℕ) (end : ℕ) (x : Index) : Type 0 where
+  pub fits : end ≤ length image
+  pub within : All (IsWithin x.keys.items (take end image)) x.entries.items
+  pub versions : IsBlock form (items_in (take end image) x)
+  pub spelled : image ≡ block form (items_in (take end image) x)
+  pub entries : end ≡ length (block_entries form (items_in (take end image) x))
+  pub begins : LastBegins form (items_in (take end image) x) x.last_at
+
+-- so it does; or the image leaves the grammar
 abbrev pub ReadsImage : Form → List ℕ → Index → Result ℕ BlockFault → Type 0
-ReadsImage form image x (Ok end) = (end ≤ length image) × All (IsWithin x.keys.items (take end image)) x.entries.items × IsBlock form (items_in (take end image) x) × (image ≡ block form (items_in (take end image) x))
+ReadsImage form image x (Ok end) = IsRead form image end x
 ReadsImage form image x (Err (Bad at)) = IsBlockFault form image at
 ReadsImage form image x (Err NoMemory) = ⊤

@@ -6,3 +6,4 @@ pub mod Reading
 pub mod Regions
 pub mod Faults
 pub mod Cursors
+pub mod Gathered

@@ -35,12 +35,17 @@ items_in region x = items_at x.keys.items region x.entries.items
 abbrev pub item_in : List ℕ → ℕ → Fields → SortKey → Kind → Item
 item_in region at f k kind = record { sort_key = k; kind = kind; value = slice_range region (at + 8 + length f.key.now) (at + 8 + length f.key.now + length f.value.now) }
 
+-- the last of the versions begins at this offset
+abbrev pub LastBegins : Form → List Item → ℕ → Type 0
+LastBegins form vs at = (before : List Item) (v : Item) → vs ≡ before ++ v ∷ [] → at ≡ length (block_entries form before)
+
 -- the region was read up to an offset
 pub record HasRead (form : Form) (region : List ℕ) (offset : ℕ) (x : Index) (last : List ℕ) : Type 0 where
   pub fits : offset ≤ length region
   pub within : All (IsWithin x.keys.items region) x.entries.items
   pub run : IsRun form region (items_in region x) (drop offset region)
   pub restarts : x.restarts.items ≡ block_restarts form (items_in region x)
+  pub begins : LastBegins form (items_in region x) x.last_at
   pub ends : last ≡ last_key form [] (items_in region x)
 
 -- no entry stands at the offset that goes on
@@ -55,4 +60,4 @@ TakesNext form region offset old old_last new new_last None = NoneAt form region
 -- the whole region was read, or up to the first entry that isn't in the grammar
 abbrev pub ReadsRegion : Form → List ℕ → Index → Option ℕ → Type 0
 ReadsRegion form region x (Some at) = StopsAt form region at
-ReadsRegion form region x None = All (IsWithin x.keys.items region) x.entries.items × IsRun form region (items_in region x) [] × (x.restarts.items ≡ block_restarts form (items_in region x))
+ReadsRegion form region x None = All (IsWithin x.keys.items region) x.entries.items × IsRun form region (items_in region x) [] × (x.restarts.items ≡ block_restarts form (items_in region x)) × LastBegins form (items_in region x) x.last_at

@@ -1,10 +1,12 @@
 //! A block that was read: its image, which it shares, and an index of its entries.
 
-ghost use Rattle.std.specs.Prelude.{◌≡◌, ◌<◌, ◌≤◌, ◌^◌, [], IsOk, IfOk, length, slice_index_or};
+ghost use Rattle.std.specs.Prelude.{◌≡◌, ◌<◌, ◌≤◌, ◌^◌, [], All, IsOk, IfOk, length, slice_index_or};
 ghost use Rattle.ts_key.specs.Order.{sort_key_of};
 ghost use Rattle.ts_key.specs.Items.{Item, shown, found};
 ghost use Rattle.ts_key.specs.Lists.{below};
 ghost use Rattle.ts_key.specs.Visible.{visible};
+ghost use Rattle.ts_key.specs.Lists.{IsSorted};
+ghost use Rattle.data_block.specs.Index.{items_at, IsWithin};
 ghost use Rattle.data_block.specs.Faults.{ReadsBlock, ReadsImage};
 
 use crate::NoMemory;
@@ -61,7 +63,12 @@ impl Model for Block {
 }
 
 /// Reads the entries of an image and its tail into an index, and answers where the entries end.
-fn read_index(alloc: Global, form: Form, image: &[u8], x: &mut Index) -> Result<usize, BlockFault>
+pub(crate) fn read_index(
+    alloc: Global,
+    form: Form,
+    image: &[u8],
+    x: &mut Index,
+) -> Result<usize, BlockFault>
     requires keys { x.old.keys.items ≡ [] }
     requires entries { x.old.entries.items ≡ [] }
     requires restarts { x.old.restarts.items ≡ [] }
@@ -86,6 +93,19 @@ fn read_index(alloc: Global, form: Form, image: &[u8], x: &mut Index) -> Result<
 }
 
 impl Block {
+    /// The entries of an image.
+    pub(crate) fn of(entries_image: Bytes, keys: Vec<u8>, entries: Vec<Entry>) -> Block
+        requires within { All (IsWithin keys.items entries_image) entries.items }
+        requires sorted { IsSorted (items_at keys.items entries_image entries.items) }
+        ensures { result ≡ items_at keys.items entries_image entries.items }
+    {
+        Block {
+            entries_image,
+            keys,
+            entries,
+        }
+    }
+
     ghost use Rattle.data_block.specs.Cursors.{versions_of, place_of};
 
     /// Reads an image, which the block shares. `Bad` comes exactly where it is the block of no list of versions.
@@ -100,6 +120,7 @@ impl Block {
             keys,
             entries,
             restarts: _,
+            last_at: _,
         } = index;
         Ok(Block {
             entries_image,

@@ -32,6 +32,13 @@ impl<'a> BlockCursor<'a> {
 }
 
 impl Placed for BlockCursor<'_> {
+    ghost use Rattle.std.specs.Prelude.{List};
+    ghost use Rattle.ts_key.specs.Items.{Item};
+
+    ghost Over = { List Item };
+
+    ghost over = { λ c. c.block.now };
+
     ghost items = { λ c. c.block.now };
 
     ghost place = { λ c. c.place };

@@ -3,7 +3,7 @@
 ghost use Rattle.std.specs.Prelude.{◌≡◌, ◌≤◌, ◌<◌, ◌+◌, ◌^◌, [], ◌∷◌, ◌++◌, All, IsTrue, ◌↔◌, OnOk, length, nat_le, ◌&&◌};
 ghost use Rattle.std.specs.Str.{bytes_eq};
 ghost use Rattle.ts_key.specs.Order.{sort_key_of, is_before};
-ghost use Rattle.data_block.specs.Index.{key_at, value_at, sort_key_at, IsWithin};
+ghost use Rattle.data_block.specs.Index.{key_at, value_at, sort_key_at, items_at, IsWithin};
 ghost use Rattle.data_block.specs.Grammar.{restart};
 ghost use Rattle.data_block.specs.Reading.{EndsBefore};
 ghost use Rattle.data_block.specs.Regions.{items_in, item_in};
@@ -86,12 +86,13 @@ impl Entry {
     }
 }
 
-/// The entries that were read, their joined keys, and the offset of every sixteenth.
+/// The entries that were read, their joined keys, the offset of every sixteenth, and that of the last.
 #[derive(Debug, Drop)]
 pub(crate) struct Index {
     pub(crate) keys: Vec<u8>,
     pub(crate) entries: Vec<Entry>,
     pub(crate) restarts: Vec<usize>,
+    pub(crate) last_at: usize,
 }
 
 impl Index {
@@ -104,20 +105,28 @@ impl Index {
             keys: Vec::new(alloc),
             entries: Vec::new(alloc),
             restarts: Vec::new(alloc),
+            last_at: 0,
         }
     }
 }
 
-/// The sort key stands after the last entry.
+/// The last entry, if there is one, stands before the key.
+pub(crate) fn is_last_before(image: &[u8], keys: &[u8], entries: &[Entry], to: &KeyRef<'_>) -> bool
+    requires { All (IsWithin keys.now image.now) entries.now }
+    ensures { IsTrue result ↔ EndsBefore (items_at keys.now image.now entries.now) (sort_key_of to.now) }
+{
+    if entries.is_empty() {
+        return true;
+    }
+    entries[entries.len() - 1].is_before(keys, to)
+}
+
+/// The key stands after the last entry.
 pub(crate) fn is_after(image: &[u8], index: &Index, to: &KeyRef<'_>) -> bool
     requires { All (IsWithin index.now.keys.items image.now) index.now.entries.items }
     ensures { IsTrue result ↔ EndsBefore (items_in image.now index.now) (sort_key_of to.now) }
 {
-    if index.entries.is_empty() {
-        return true;
-    }
-    let last = index.entries.len() - 1;
-    index.entries[last].is_before(&index.keys, to)
+    is_last_before(image, &index.keys, &index.entries, to)
 }
 
 /// Notes the offset of the entry with index `count`, where it is a restart.
@@ -146,7 +155,7 @@ pub(crate) fn add(
     ensures within { OnOk result (All (IsWithin index.new.keys.items image.now) index.new.entries.items) }
     ensures items { OnOk result (items_in image.now index.new ≡ items_in image.now index.old ++ item_in image.now at f.now (sort_key_of k.now) kind ∷ []) }
     ensures restarts { OnOk result (index.new.restarts.items ≡ index.old.restarts.items ++ restart (length index.old.entries.items) at) }
-    ensures count { OnOk result (length index.new.entries.items ≡ length index.old.entries.items + 1) }
+    ensures last { OnOk result (index.new.last_at ≡ at) }
 {
     note_restart(&mut index.restarts, index.entries.len(), at)?;
     let key_from = index.keys.len();
@@ -160,5 +169,6 @@ pub(crate) fn add(
         key_len: k.key.len() as u16,
         kind,
     })?;
+    index.last_at = at;
     Ok(())
 }

@@ -5,6 +5,7 @@ pub mod block;
 pub mod cursor;
 mod entry;
 mod fields;
+pub mod gather;
 mod index;
 mod laws;
 mod region;
@@ -14,6 +15,7 @@ pub mod writer;
 
 pub use block::{Block, BlockFault};
 pub use cursor::BlockCursor;
+pub use gather::{Gathering, Piece};
 pub use laws::{blocks_are_unique, faults_are_right, faults_are_single};
 pub use writer::{BLOCK_TARGET, BlockWriter, RESTART_INTERVAL};
 

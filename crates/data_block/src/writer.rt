@@ -139,13 +139,14 @@ impl BlockWriter {
         })
     }
 
-    /// Adds a version, which the writer's form can spell, to a block that isn't full. Versions come in the stored order, each
-    /// after the last one: only then is what `finish` gives read again. After `NoMemory` the writer is as before.
+    /// Adds a version, which the writer's form can spell, to a block that isn't full. Versions come in the stored order,
+    /// each after the last one: only then is what `finish` gives read again. After `NoMemory` the writer is as before.
     pub fn push(&mut self, v: &Version) -> Result<(), NoMemory>
         requires room { length self.old.entries < block_target }
         requires stamp { IsStamp self.old.form v.now.ts.0 }
         requires sequence { IsSequence v.now.seq.0 }
-        ensures pushed { (vs : List Item) → HasWritten self.old vs → OnOk result (HasWritten self.new (vs ++ item_of v.now ∷ [])) }
+        ensures pushed { (vs : List Item) → HasWritten self.old vs
+            → OnOk result (HasWritten self.new (vs ++ item_of v.now ∷ [])) }
         ensures form { self.new.form ≡ self.old.form }
         ensures kept { OnErr result (self.new ≡ self.old) }
     {
@@ -170,9 +171,10 @@ impl BlockWriter {
         self.out.len() >= BLOCK_TARGET
     }
 
-    /// The block of the versions that were pushed. It is read again where they came in the stored order, and there was one.
+    /// The block of the versions that were pushed. It is read again where they came in the stored order and there is one.
     pub fn finish(self) -> Result<Vec<u8>, NoMemory>
-        ensures written { (vs : List Item) → HasWritten self vs → IfOk result (λ image. image.items ≡ block self.form vs) }
+        ensures written { (vs : List Item) → HasWritten self vs
+            → IfOk result (λ image. image.items ≡ block self.form vs) }
         ensures readable { (vs : List Item) → HasWritten self vs → IsSorted vs → 0 < length vs → IsBlock self.form vs }
     {
         let BlockWriter {

@@ -46,5 +46,5 @@ returns c =
     let key = c.in_ok-join.ensures ∙ (gives c.args.form (length old.entries.items) c.args.last.now.items f w f.rest.now c.in-Some.ensures.0 here).key in (
       omega arith,
       read_more c.args.form region c.args.at (c.args.at + 8 + length f.key.now + length f.value.now) old c.add.new.index c.args.last.now.items c.join.new.last.items f.rest.now w
-          (record { fits = c.requires.fits; within = c.requires.within; run = c.requires.run; restarts = c.requires.restarts; ends = c.requires.ends }) next (c.is_after.ensures.0 c.if-not-is_after.false) p.within p.rest c.in_ok-add.ensures.within items c.in_ok-add.ensures.restarts key,
+          (record { fits = c.requires.fits; within = c.requires.within; run = c.requires.run; restarts = c.requires.restarts; begins = c.requires.begins; ends = c.requires.ends }) next (c.is_after.ensures.0 c.if-not-is_after.false) p.within p.rest c.in_ok-add.ensures.within items c.in_ok-add.ensures.restarts key c.in_ok-add.ensures.last,
     )
