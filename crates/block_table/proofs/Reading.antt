@@ -15,8 +15,11 @@ use Rattle.block_table.specs.Contents.{Contents, properties_of}
 use Rattle.block_table.specs.Tables.{magic, footer, with_footer, blocks, handles, index, properties, AreBlocks, IsTable}
 use Rattle.block_table.specs.Parts.{FitsHead, FitsFound, IsHead}
 use Rattle.block_table.specs.Indexes.{IsHandle, AreHandles}
-use Rattle.block_table.specs.Gathering.{AreBlocksOf}
-use Rattle.block_table.specs.Reads.{contents_in, contents_with, IsOnlyTable}
+use Rattle.std.specs.Prelude.{Err}
+use Rattle.block_table.specs.declared.fault.TableFault.{TableFault}
+use Rattle.block_table.specs.declared.fault.TableFault.TheVariants.{Bad, NoMemory}
+use Rattle.block_table.specs.Gathering.{AreBlocksOf, ReadsBlocks}
+use Rattle.block_table.specs.Reads.{contents_in, contents_with, IsOnlyTable, ReadsContents}
 use Rattle.block_table.proofs.Cuts.{length-handles}
 use Rattle.block_table.proofs.Footers.{Split, footed, length-footer}
 use Rattle.block_table.proofs.Handles.{index_once}
@@ -108,6 +111,11 @@ module _ (image b i p : List ℕ) (is : image ≡ with_footer b i p) (small : le
           spelled = ap (take (length b)) is ∙ take_blocks b i p ∙ w.0;
         } in
         subst (λ (f : Form). AreBlocksOf f image (length b) hs h.cuts) (sym k.1) x
+
+    -- where no blocks stand there, the image is no table
+    pub blocks_failed : (e : TableFault) → ReadsBlocks head.form image (length b) hs (Err e) → ReadsContents image (Err e)
+    blocks_failed Bad none = λ t h. none h.cuts (its_blocks t h)
+    blocks_failed NoMemory none = tt
 
     module _ (items : List Item) (cuts : List (List Item)) (a : AreBlocksOf head.form image (length b) hs cuts) (items-are : items ≡ joined cuts) (only : (others : List (List Item)) → AreBlocksOf head.form image (length b) hs others → others ≡ cuts) (q : Properties) (q-is : q ≡ properties_of (contents_with head items)) where
       -- a table has these contents

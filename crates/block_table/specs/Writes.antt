@@ -12,6 +12,6 @@ use Rattle.block_table.specs.declared.fault.TableWriteFault.TheVariants.{DiskFau
 -- The table of these contents was written from offset 0 on and synced, and is answered; or a call of the file failed in
 -- that; or memory ran out, before any call of the file.
 abbrev pub WritesTable : {F : Type 0} (g : Ghosts F) → Contents → F → F → Result Held TableWriteFault → Type 0
-WritesTable g t old new (Ok table) = (table.contents ≡ t) × IsTable t table.image × WritesSynced g 0 table.image old new (Ok {E = Failed} tt)
+WritesTable g t old new (Ok table) = (table.contents ≡ t) × IsTable t table.image × WritesSynced {E = Failed} g 0 table.image old new (Ok tt)
 WritesTable g t old new (Err DiskFault) = (image : List ℕ) × (failed : Failed) × (IsTable t image × WritesSynced g 0 image old new (Err failed))
 WritesTable g t old new (Err NoMemory) = new ≡ old

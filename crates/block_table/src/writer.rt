@@ -122,7 +122,8 @@ impl TableWriter {
             versions: self.versions as u32,
         })?;
         self.versions = 0;
-        self.blocks.extend_from_slice(&bytes)
+        self.blocks.extend_from_slice(&bytes)?;
+        Ok(())
     }
 
     /// Takes the open block out, and puts an empty one in its place.
