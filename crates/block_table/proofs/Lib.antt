@@ -6,5 +6,6 @@ pub mod Footers
 pub mod Heads
 pub mod Handles
 pub mod Tallying
+pub mod Newest
 pub mod Reading
 pub mod Pushing

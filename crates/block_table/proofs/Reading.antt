@@ -23,6 +23,8 @@ use Rattle.block_table.specs.Reads.{contents_in, contents_with, IsOnlyTable, Rea
 use Rattle.block_table.proofs.Cuts.{length-handles}
 use Rattle.block_table.proofs.Footers.{Split, footed, length-footer}
 use Rattle.block_table.proofs.Handles.{index_once}
+use Rattle.block_table.proofs.Newest.{items_of_blocks}
+use Rattle.ts_key.specs.StoredKeys.{IsItem}
 
 -- an image has one split into parts
 pub parts_once : (b i p c j q : List ℕ) → with_footer b i p ≡ with_footer c j q → length (with_footer b i p) < 2 ^ 64 → (b ≡ c) × (i ≡ j) × (p ≡ q)
@@ -132,7 +134,7 @@ module _ (image b i p : List ℕ) (is : image ≡ with_footer b i p) (small : le
       own : contents_in q items ≡ contents_with head items
       own = ap (λ (r : Properties). contents_in r items) q-is
 
-      pub is_read : FitsFound head → p ≡ properties q → (q ≡ properties_of (contents_in q items)) × IsOnlyTable (contents_in q items) image
+      pub is_read : FitsFound head → p ≡ properties q → (q ≡ properties_of (contents_in q items)) × AllByRecursion (IsItem q.form) items × IsOnlyTable (contents_in q items) image
       is_read fits p-is =
           let t = contents_with head items in
           let n : length (handles head.form 0 cuts) ≡ length cuts = length-handles head.form 0 cuts in
@@ -159,4 +161,4 @@ module _ (image b i p : List ℕ) (is : image ≡ with_footer b i p) (small : le
             spelled = spelled;
           } in
           let only-table : IsOnlyTable t image = record { is = table; only = one } in
-          (q-is ∙ ap properties_of (sym own), subst (λ (u : Contents). IsOnlyTable u image) (sym own) only-table)
+          (q-is ∙ ap properties_of (sym own), subst (λ (r : Properties). AllByRecursion (IsItem r.form) items) (sym q-is) (subst (AllByRecursion (IsItem head.form)) (sym items-are) (items_of_blocks head.form cuts a.each)), subst (λ (u : Contents). IsOnlyTable u image) (sym own) only-table)

@@ -1,6 +1,8 @@
 -- What reading a table answers.
 use Rattle.std.specs.Prelude.{◌≡◌, ℕ, List, Result, Ok, Err, ⊤}
+use Rattle.std.specs.List.{AllByRecursion}
 use Rattle.ts_key.specs.Items.{Item}
+use Rattle.ts_key.specs.StoredKeys.{IsItem}
 use Rattle.block_table.specs.Contents.{Contents, properties_of}
 use Rattle.block_table.specs.Tables.{IsTable}
 use Rattle.block_table.specs.Held.{Held}
@@ -28,6 +30,6 @@ ReadsTable image (Err Bad) = (t : Contents) → IsTable t image → ⊥
 ReadsTable image (Err NoMemory) = ⊤
 
 abbrev pub ReadsContents : List ℕ → Result (Properties × List Item) TableFault → Type 0
-ReadsContents image (Ok x) = (x.0 ≡ properties_of (contents_in x.0 x.1)) × IsOnlyTable (contents_in x.0 x.1) image
+ReadsContents image (Ok x) = (x.0 ≡ properties_of (contents_in x.0 x.1)) × AllByRecursion (IsItem x.0.form) x.1 × IsOnlyTable (contents_in x.0 x.1) image
 ReadsContents image (Err Bad) = (t : Contents) → IsTable t image → ⊥
 ReadsContents image (Err NoMemory) = ⊤

@@ -34,6 +34,8 @@ pub struct Table {
 
 impl Model for Table {
     ghost use Rattle.std.specs.Prelude.{◌≡◌};
+    ghost use Rattle.std.specs.List.{AllByRecursion};
+    ghost use Rattle.ts_key.specs.StoredKeys.{IsItem};
     ghost use Rattle.block_table.specs.Contents.{properties_of};
     ghost use Rattle.block_table.specs.Held.{Held};
     ghost use Rattle.block_table.specs.Reads.{contents_in};
@@ -42,7 +44,7 @@ impl Model for Table {
 
     ghost view = { λ t. record { image = t.image; contents = contents_in t.properties t.versions } };
 
-    ghost invariant = { λ t. t.properties ≡ properties_of (contents_in t.properties t.versions) };
+    ghost invariant = { λ t. (t.properties ≡ properties_of (contents_in t.properties t.versions)) × AllByRecursion (IsItem t.properties.form) t.versions };
 }
 
 /// A walk over all versions of a table goes by the calls of a walk over one block.
@@ -152,6 +154,16 @@ impl Table {
         ensures { found key.now result ≡ visible self.now.contents.items key.now t.0 s.0 }
     {
         self.versions.find(key, t, s)
+    }
+
+    /// The greatest timestamp of the key, if it has a version.
+    pub fn newest(&self, key: &[u8]) -> Option<Ts>
+        ensures { option_map (λ ts. ts.0) result ≡ newest_ts self.now.contents.items key.now }
+    {
+        match self.find(key, Ts(u64::MAX), Seq(u64::MAX)) {
+            Some(hit) => Some(hit.ts),
+            None => None,
+        }
     }
 
     /// What it says of its versions.

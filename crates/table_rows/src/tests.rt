@@ -1,0 +1,4 @@
+//! Tests of tables.
+
+mod one_version;
+mod writing;
