@@ -27,7 +27,7 @@ use Rattle.ts_key.specs.declared.version.Version.{Version}
 use Rattle.udt_model.specs.declared.reply.KeySpan.{KeySpan}
 use Rattle.udt_model.specs.Versions.{is_newer, is_put, up_to}
 use Rattle.udt_model.specs.Orders.{is_below, is_before, is_in_some, with_version, stored}
-use Rattle.collection_laws.specs.Places.{HaveOnePlace, AreApart, AreOrdered, AreStored}
+use Rattle.collection_laws.specs.Places.{HaveOnePlace, AreApart, AreSortedByPlace, AreStored}
 use Rattle.udt_model.specs.Collecting.{hides, is_hidden, is_seen_at, is_seen, seen_of, is_put_below, is_useless, without_useless, collect}
 
 -- ---- the order
@@ -380,7 +380,7 @@ pub before_ranks : IsStrictWeakOrder is_before
 before_ranks = subst IsStrictWeakOrder (λ i x y. sym (before_is x y) i) (ranks_by version_cmp_total (λ (v : Version). v))
 
 -- versions apart that are sorted stand in the stored order
-pub stored_from : (vs : List Version) → AreOrdered vs → AreApart vs → AreStored vs
+pub stored_from : (vs : List Version) → AreSortedByPlace vs → AreApart vs → AreStored vs
 stored_from [] o a = tt
 stored_from (v ∷ vs) o a = (
   all_from (λ w. is_before v w ≡ true) vs (λ k d l. apart_before (get_or vs k d) v
@@ -474,7 +474,7 @@ pub apart_moved : (xs ys : List Version) → IsPermutation xs ys → AreApart xs
 apart_moved xs ys p a = apart_from_few ys (λ v. let f = few_at v xs a in let e = sum_by-IsPermutation (one_at v) xs ys p in omega (arith, f, e))
 
 -- versions apart, put in order in another way
-pub sorted_is_stored : (xs ys : List Version) → AreApart xs → IsPermutation xs ys → AreOrdered ys → ys ≡ stored xs
+pub sorted_is_stored : (xs ys : List Version) → AreApart xs → IsPermutation xs ys → AreSortedByPlace ys → ys ≡ stored xs
 sorted_is_stored xs ys a p o = sym (stored_by_holding xs ys a (stored_from ys o (apart_moved xs ys p a)) (same_from xs ys p))
 
 -- ---- as items

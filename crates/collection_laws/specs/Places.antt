@@ -24,5 +24,5 @@ AreStored [] = Unit {0}
 AreStored (v ∷ vs) = AllByRecursion (λ w. is_before v w ≡ true) vs × AreStored vs
 
 -- none stands before one that it comes after; two may have one place
-abbrev pub AreOrdered : List Version → Type 0
-AreOrdered vs = IsSortedBy is_before vs
+abbrev pub AreSortedByPlace : List Version → Type 0
+AreSortedByPlace vs = IsSortedBy is_before vs

@@ -12,7 +12,7 @@ use Rattle.ts_key.specs.declared.version.Op.TheVariants as ops
 use Rattle.ts_key.specs.StoredKeys.{IsItem}
 use Rattle.ts_key.specs.declared.version.Form.{Form}
 use Rattle.ts_key.specs.Lists.{IsSorted}
-use Rattle.data_block.specs.Grammar.{key_of, shared, entry, entry_of, entries, block_entries, block_restarts, restart, restarts, last_key, IsBlock}
+use Rattle.data_block.specs.Grammar.{key_of, shared, entry, entry_of, entries, block_entries, restart, restarts, last_key, IsBlock}
 use Rattle.data_block.specs.Written.{Written, HasWritten}
 
 pub last_key_snoc : (form : Form) (last : List ℕ) (vs : List Item) (v : Item) → last_key form last (vs ++ v ∷ []) ≡ key_of form v

@@ -17,7 +17,7 @@ use Rattle.ts_key.specs.declared.version.Version.{Version}
 use Rattle.udt_model.specs.Versions.{is_newer, is_of, up_to}
 use Rattle.udt_model.specs.Orders.{is_below, is_before}
 use Rattle.udt_model.specs.Collecting.{hides, is_hidden, is_seen_at, is_seen, seen_of}
-use Rattle.history_gc.specs.Pushed.{StandsBefore, IsNext, AreInOrder}
+use Rattle.history_gc.specs.Pushed.{StandsBefore, MayFollow, AreInOrder}
 use Rattle.history_gc.specs.Streaming.{Last, class_of, is_same, least_of, next_last, is_between, is_kept, kept_from}
 
 clash : (b : Bool) → b ≡ true → b ≡ false → ⊥
@@ -131,7 +131,7 @@ masks_is f v e u l =
           ∙ sym (ap (λ b. b && (upto e u.seq.0 && class_of f u == class_of f v)) n)
     ]
 
-any_masks : (f : Ts) (v : Version) (e : Option ℕ) (ps : List Version) → IsNext ps v → list_any (masks f v e) ps ≡ list_any (in_class f v e) ps
+any_masks : (f : Ts) (v : Version) (e : Option ℕ) (ps : List Version) → MayFollow ps v → list_any (masks f v e) ps ≡ list_any (in_class f v e) ps
 any_masks f v e [] h = refl
 any_masks f v e (u ∷ us) h = λ i. masks_is f v e u h.0 i || any_masks f v e us h.1 i
 
@@ -161,7 +161,7 @@ pub not_newer_itself : (v : Version) → is_newer v v ≡ false
 not_newer_itself v = grind (arith, nat_tests)
 
 -- only the ones before it can hide a version
-hidden_by : (f : Ts) (v : Version) (e : Option ℕ) (ps vs : List Version) → IsNext ps v → AreInOrder (v ∷ vs) → list_any (masks f v e) (ps ++ v ∷ vs) ≡ list_any (in_class f v e) ps
+hidden_by : (f : Ts) (v : Version) (e : Option ℕ) (ps vs : List Version) → MayFollow ps v → AreInOrder (v ∷ vs) → list_any (masks f v e) (ps ++ v ∷ vs) ≡ list_any (in_class f v e) ps
 hidden_by f v e ps vs b s =
     let own : list_any (masks f v e) (v ∷ vs) ≡ false = λ i. older_masks f v e v (not_newer_itself v) i || none_later f v e vs s.0 i in
     any_append (masks f v e) ps (v ∷ vs) ∙ ap (λ b. list_any (masks f v e) ps || b) own ∙ or_false (list_any (masks f v e) ps) ∙ any_masks f v e ps b
@@ -169,21 +169,21 @@ hidden_by f v e ps vs b s =
 -- ---- what is remembered of the versions so far
 
 pub record Sums (f : Ts) (ps : List Version) (o : Option Last) : Type 0 where
-  pub any : (v : Version) (e : Option ℕ) → IsNext ps v → list_any (in_class f v e) ps ≡ (is_same f o v && upto e (least_of o))
-  pub close : (v w : Version) → IsNext ps v → StandsBefore v w → is_same f o w ≡ true → is_same f o v ≡ true
+  pub any : (v : Version) (e : Option ℕ) → MayFollow ps v → list_any (in_class f v e) ps ≡ (is_same f o v && upto e (least_of o))
+  pub close : (v w : Version) → MayFollow ps v → StandsBefore v w → is_same f o w ≡ true → is_same f o v ≡ true
 
 sums_none : (f : Ts) → Sums f [] None
 sums_none f = record { any = λ v e b. refl; close = λ v w b l h. h }
 
-next_front : (ps : List Version) (v w : Version) → IsNext (ps ++ v ∷ []) w → IsNext ps w
+next_front : (ps : List Version) (v w : Version) → MayFollow (ps ++ v ∷ []) w → MayFollow ps w
 next_front [] v w h = tt
 next_front (u ∷ us) v w h = (h.0, next_front us v w h.1)
 
-last_before : (ps : List Version) (v w : Version) → IsNext (ps ++ v ∷ []) w → StandsBefore v w
+last_before : (ps : List Version) (v w : Version) → MayFollow (ps ++ v ∷ []) w → StandsBefore v w
 last_before [] v w h = h.0
 last_before (u ∷ us) v w h = last_before us v w h.1
 
-pub next_both : (ps : List Version) (v w : Version) → IsNext ps w → StandsBefore v w → IsNext (ps ++ v ∷ []) w
+pub next_both : (ps : List Version) (v w : Version) → MayFollow ps w → StandsBefore v w → MayFollow (ps ++ v ∷ []) w
 next_both [] v w h l = (l, tt)
 next_both (u ∷ us) v w h l = (h.0, next_both us v w h.1 l)
 
@@ -235,7 +235,7 @@ close_more f v x w a b e =
     and_from (bytes_eq v.key x.key) (class_of f v == class_of f x) ((bytes_eq-Decides v.key x.key).1 q)
     (middle v.ts.0 x.ts.0 w.ts.0 f.0 (later_ts v x q a) (later_ts x w (sym q ∙ k) b) r.1)
 
-any_more : (f : Ts) (ps : List Version) (o : Option Last) (s : Sums f ps o) (v w : Version) (e : Option ℕ) → IsNext ps v → StandsBefore v w → (b : Bool) → is_same f o v ≡ b
+any_more : (f : Ts) (ps : List Version) (o : Option Last) (s : Sums f ps o) (v w : Version) (e : Option ℕ) → MayFollow ps v → StandsBefore v w → (b : Bool) → is_same f o v ≡ b
     → ((is_same f o w && upto e (least_of o)) || in_class f w e v) ≡ ((bytes_eq v.key w.key && class_of f v == class_of f w) && upto e (if b then min (least_of o) v.seq.0 else v.seq.0))
 any_more f ps o s v w e bv l true y =
     ap (λ c. (c && upto e (least_of o)) || in_class f w e v) (same_through f o v w y)
@@ -249,7 +249,7 @@ any_more f ps o s v w e bv l false y =
     none true z = absurd (clash (is_same f o v) (s.close v w bv l z) y)
     none false z = refl
 
-sums_more : (f : Ts) (ps : List Version) (o : Option Last) (v : Version) → Sums f ps o → IsNext ps v → Sums f (ps ++ v ∷ []) (Some (next_last f o v))
+sums_more : (f : Ts) (ps : List Version) (o : Option Last) (v : Version) → Sums f ps o → MayFollow ps v → Sums f (ps ++ v ∷ []) (Some (next_last f o v))
 sums_more f ps o v s b = record {
   any = λ w e h. any_one (in_class f w e) ps v ∙ ap (λ c. c || in_class f w e v) (s.any w e (next_front ps v w h)) ∙ any_more f ps o s v w e b (last_before ps v w h) (is_same f o v) refl;
   close = λ x w h l e. close_more f v x w (last_before ps v x h) l e;
@@ -283,11 +283,11 @@ seen_on f ss w v least false h =
     let n : is_hidden w f v ≡ false = h None in
     ap (λ c. not c || list_any (is_seen_at w f v) ss) n
 
-pub seen_is : (f : Ts) (ss : List Seq) (ps vs : List Version) (o : Option Last) (v : Version) → Sums f ps o → IsNext ps v → AreInOrder (v ∷ vs) → is_seen (ps ++ v ∷ vs) f ss v ≡ is_kept f ss o v
+pub seen_is : (f : Ts) (ss : List Seq) (ps vs : List Version) (o : Option Last) (v : Version) → Sums f ps o → MayFollow ps v → AreInOrder (v ∷ vs) → is_seen (ps ++ v ∷ vs) f ss v ≡ is_kept f ss o v
 seen_is f ss ps vs o v s b so = seen_on f ss (ps ++ v ∷ vs) v (least_of o) (is_same f o v) (λ e. hidden_by f v e ps vs b so ∙ s.any v e b)
 
 abbrev pub AllNext : List Version → List Version → Type 0
-AllNext ps vs = AllByRecursion (λ v. IsNext ps v) vs
+AllNext ps vs = AllByRecursion (λ v. MayFollow ps v) vs
 
 pub next_more : (ps : List Version) (v : Version) (vs : List Version) → AllNext ps vs → AllByRecursion (λ w. StandsBefore v w) vs → AllNext (ps ++ v ∷ []) vs
 next_more ps v [] h l = tt

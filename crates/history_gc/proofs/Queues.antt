@@ -18,10 +18,10 @@ use Rattle.udt_model.specs.Orders.{is_before, is_in_some}
 use Rattle.collection_laws.specs.Places.{AreStored}
 use Rattle.udt_model.specs.Collecting.{is_hidden, is_seen, is_seen_at, collect, without_useless, seen_of}
 use Rattle.udt_model.specs.Orders.{stored}
-use Rattle.history_gc.specs.Pushed.{StandsBefore, IsNext, AreInOrder, IsFront, of_last_key, settled}
+use Rattle.history_gc.specs.Pushed.{StandsBefore, MayFollow, AreInOrder, IsFront, of_last_key, of_other_keys}
 use Rattle.history_gc.specs.Streaming.{AreAscending, Last, is_same, next_last, is_kept, is_between, least_of, is_old_delete, is_low, trim, trim_on, ends_so}
-use Rattle.history_gc.specs.States.{State, Has, is_key, AllOf}
-use Rattle.history_gc.specs.Collecting.{CollectsAlike, remembered, last_of_run, state_at, HasCollected, HasFinished, HasGiven, HasGivenSettled, HasGivenAll, floor_of, snapshots_of, spans_of, held_of}
+use Rattle.history_gc.specs.States.{State, AccountsFor, is_key, AllOf}
+use Rattle.history_gc.specs.Collecting.{CollectsAlike, remembered, last_of_run, state_at, HasCollected, HasFinished, HasGiven, HasGivenSettled, HasGivenAll, collection_floor, collection_snapshots, collection_spans, held_of}
 use Rattle.history_gc.specs.declared.collector.Collector.{Collector}
 use Rattle.history_gc.proofs.Steps.{one_if, start_has, pop_has, none_ready, push_other, push_same, of_last_is, settled_front, given_front}
 
@@ -201,26 +201,26 @@ none_some h = cc
 -- ---- states
 
 module _ (f : Ts) (ss : List Seq) (deeper : List KeySpan) where
-  pub start_is : (q : List Version) → q ≡ [] → Has f ss deeper (state_at 0 0 0 q) [] []
-  start_is q e = subst (λ xs. Has f ss deeper (state_at 0 0 0 xs) [] []) (sym e) (start_has f ss deeper)
+  pub start_is : (q : List Version) → q ≡ [] → AccountsFor f ss deeper (state_at 0 0 0 q) [] []
+  start_is q e = subst (λ xs. AccountsFor f ss deeper (state_at 0 0 0 xs) [] []) (sym e) (start_has f ss deeper)
 
-  pop_some : (class least d : ℕ) (x : Version) (xs : List Version) (ps qs : List Version) → 0 < d → Has f ss deeper (state_at class least d (x ∷ xs)) ps qs → Has f ss deeper (state_at class least (d - 1) xs) ps (qs ++ x ∷ [])
+  pop_some : (class least d : ℕ) (x : Version) (xs : List Version) (ps qs : List Version) → 0 < d → AccountsFor f ss deeper (state_at class least d (x ∷ xs)) ps qs → AccountsFor f ss deeper (state_at class least (d - 1) xs) ps (qs ++ x ∷ [])
   pop_some class least zero x xs ps qs l h = absurd (omega arith)
   pop_some class least (suc n) x xs ps qs l h =
       let e : suc n - 1 ≡ n = omega arith in
-      subst (λ m. Has f ss deeper (state_at class least m xs) ps (qs ++ x ∷ [])) (sym e)
+      subst (λ m. AccountsFor f ss deeper (state_at class least m xs) ps (qs ++ x ∷ [])) (sym e)
       (pop_has f ss deeper (state_at class least (suc n) (x ∷ xs)) ps qs x (take n xs) refl h)
 
-  pub pop_is : (class least d : ℕ) (q r : List Version) (o : Option Version) (ps qs : List Version) (P : Type 0) → 0 < d → q ≡ option_to_list o ++ r → IsSome o → Has f ss deeper (state_at class least d q) ps qs
-      → MatchOption o P (λ v. Has f ss deeper (state_at class least (d - 1) r) ps (qs ++ v ∷ []))
+  pub pop_is : (class least d : ℕ) (q r : List Version) (o : Option Version) (ps qs : List Version) (P : Type 0) → 0 < d → q ≡ option_to_list o ++ r → IsSome o → AccountsFor f ss deeper (state_at class least d q) ps qs
+      → MatchOption o P (λ v. AccountsFor f ss deeper (state_at class least (d - 1) r) ps (qs ++ v ∷ []))
   pop_is class least d q r None ps qs P l e n h = absurd (none_some n)
-  pop_is class least d q r (Some x) ps qs P l e n h = pop_some class least d x r ps qs l (subst (λ xs. Has f ss deeper (state_at class least d xs) ps qs) e h)
+  pop_is class least d q r (Some x) ps qs P l e n h = pop_some class least d x r ps qs l (subst (λ xs. AccountsFor f ss deeper (state_at class least d xs) ps qs) e h)
 
-  pub pop_none : (class least d : ℕ) (q : List Version) (ps qs : List Version) → d ≡ 0 → Has f ss deeper (state_at class least d q) ps qs → qs ≡ collect (settled ps) f ss deeper
+  pub pop_none : (class least d : ℕ) (q : List Version) (ps qs : List Version) → d ≡ 0 → AccountsFor f ss deeper (state_at class least d q) ps qs → qs ≡ collect (of_other_keys ps) f ss deeper
   pop_none class least zero q ps qs z h = none_ready f ss deeper (state_at class least zero q) ps qs refl h
   pop_none class least (suc d) q ps qs z h = absurd (omega (arith, z))
 
-  pub run_within : (class least d : ℕ) (q : List Version) (ps qs : List Version) → d ≡ 0 → Has f ss deeper (state_at class least d q) ps qs → length q ≤ length (of_last_key ps)
+  pub run_within : (class least d : ℕ) (q : List Version) (ps qs : List Version) → d ≡ 0 → AccountsFor f ss deeper (state_at class least d q) ps qs → length q ≤ length (of_last_key ps)
   run_within class least zero q ps qs z h =
       let b = h.bound in
       let e = ap length (of_last_is f ps (remembered class least (last_of_run q)) h.last) in
@@ -241,13 +241,13 @@ not_same f None v e = refl
 not_same f (Some l) v e = rw e refl
 
 module _ (f : Ts) (ss : List Seq) (deeper : List KeySpan) (class least d : ℕ) (q : List Version) (ps qs : List Version) (v : Version)
-    (h : Has f ss deeper (state_at class least d q) ps qs) (b : IsNext ps v)
+    (h : AccountsFor f ss deeper (state_at class least d q) ps qs) (b : MayFollow ps v)
   where
     abbrev st : State
     st = state_at class least d q
 
     -- of another key
-    pub push_new : (q1 : List Version) → is_key st.last v ≡ false → q1 ≡ take d q ++ trim (is_low f deeper) (drop d q) → Has f ss deeper (state_at (max v.ts.0 f.0) v.seq.0 (length q1) (q1 ++ v ∷ [])) (ps ++ v ∷ []) qs
+    pub push_new : (q1 : List Version) → is_key st.last v ≡ false → q1 ≡ take d q ++ trim (is_low f deeper) (drop d q) → AccountsFor f ss deeper (state_at (max v.ts.0 f.0) v.seq.0 (length q1) (q1 ++ v ∷ [])) (ps ++ v ∷ []) qs
     push_new q1 k e =
         let front : take (length q1) (q1 ++ v ∷ []) ≡ q1 = take_at q1 (v ∷ []) (length q1) refl in
         let back : drop (length q1) (q1 ++ v ∷ []) ≡ v ∷ [] = drop_at q1 (v ∷ []) (length q1) refl in
@@ -256,7 +256,7 @@ module _ (f : Ts) (ss : List Seq) (deeper : List KeySpan) (class least d : ℕ) 
         ap (λ xs. remembered (max v.ts.0 f.0) v.seq.0 (last_of_run xs)) back ∙ sym (ap (λ c. Some (record { key = v.key; class = max v.ts.0 f.0; least = if c then min (least_of st.last) v.seq.0 else v.seq.0 })) n) in
         let same : state_at (max v.ts.0 f.0) v.seq.0 (length q1) (q1 ++ v ∷ []) ≡ record { ready = st.ready ++ trim (is_low f deeper) st.run; run = v ∷ []; last = Some (next_last f st.last v) } =
         λ i. record { ready = (front ∙ e) i; run = back i; last = last i } in
-        subst (λ x. Has f ss deeper x (ps ++ v ∷ []) qs) (sym same) (push_other f ss deeper st ps qs v h b k)
+        subst (λ x. AccountsFor f ss deeper x (ps ++ v ∷ []) qs) (sym same) (push_other f ss deeper st ps qs v h b k)
 
     -- of the last key: what is remembered
     keyed : (o : Option Version) → is_key (remembered class least o) v ≡ true → (u : Version) × (o ≡ Some u) × (u.key ≡ v.key)
@@ -288,7 +288,7 @@ module _ (f : Ts) (ss : List Seq) (deeper : List KeySpan) (class least d : ℕ) 
         ap (λ c. record { key = v.key; class = max v.ts.0 f.0; least = if c then min (least_of st.last) v.seq.0 else v.seq.0 }) (same_is o k)
         ∙ ap (λ m. record { key = v.key; class = max v.ts.0 f.0; least = if class == max v.ts.0 f.0 then min m v.seq.0 else v.seq.0 }) (least_is o k)
 
-    pub push_kept : d ≤ length q → is_key st.last v ≡ true → kept_test ≡ true → Has f ss deeper (state_at (max v.ts.0 f.0) least_next d (q ++ v ∷ [])) (ps ++ v ∷ []) qs
+    pub push_kept : d ≤ length q → is_key st.last v ≡ true → kept_test ≡ true → AccountsFor f ss deeper (state_at (max v.ts.0 f.0) least_next d (q ++ v ∷ [])) (ps ++ v ∷ []) qs
     push_kept l k y =
         let front : take d (q ++ v ∷ []) ≡ take d q = take-append-le d q (v ∷ []) l in
         let back : drop d (q ++ v ∷ []) ≡ drop d q ++ v ∷ [] = drop-append-le d q (v ∷ []) l in
@@ -298,9 +298,9 @@ module _ (f : Ts) (ss : List Seq) (deeper : List KeySpan) (class least d : ℕ) 
         back ∙ sym (ap (λ c. st.run ++ one_if c v) (kept_same k ∙ y)) in
         let same : state_at (max v.ts.0 f.0) least_next d (q ++ v ∷ []) ≡ record { ready = st.ready; run = st.run ++ one_if (is_kept f ss st.last v) v; last = Some (next_last f st.last v) } =
         λ i. record { ready = front i; run = run i; last = last i } in
-        subst (λ x. Has f ss deeper x (ps ++ v ∷ []) qs) (sym same) (push_same f ss deeper st ps qs v h b k)
+        subst (λ x. AccountsFor f ss deeper x (ps ++ v ∷ []) qs) (sym same) (push_same f ss deeper st ps qs v h b k)
 
-    pub push_left : is_key st.last v ≡ true → kept_test ≡ false → Has f ss deeper (state_at (max v.ts.0 f.0) least_next d q) (ps ++ v ∷ []) qs
+    pub push_left : is_key st.last v ≡ true → kept_test ≡ false → AccountsFor f ss deeper (state_at (max v.ts.0 f.0) least_next d q) (ps ++ v ∷ []) qs
     push_left k y =
         let u = keyed (last_of_run (drop d q)) k in
         let last : remembered (max v.ts.0 f.0) least_next (last_of_run (drop d q)) ≡ Some (next_last f st.last v) =
@@ -308,44 +308,44 @@ module _ (f : Ts) (ss : List Seq) (deeper : List KeySpan) (class least d : ℕ) 
         let run : st.run ≡ st.run ++ one_if (is_kept f ss st.last v) v = sym (append-nil st.run) ∙ sym (ap (λ c. st.run ++ one_if c v) (kept_same k ∙ y)) in
         let same : state_at (max v.ts.0 f.0) least_next d q ≡ record { ready = st.ready; run = st.run ++ one_if (is_kept f ss st.last v) v; last = Some (next_last f st.last v) } =
         λ i. record { ready = st.ready; run = run i; last = last i } in
-        subst (λ x. Has f ss deeper x (ps ++ v ∷ []) qs) (sym same) (push_same f ss deeper st ps qs v h b k)
+        subst (λ x. AccountsFor f ss deeper x (ps ++ v ∷ []) qs) (sym same) (push_same f ss deeper st ps qs v h b k)
 
 pub push_is : (f : Ts) (ss : List Seq) (deeper : List KeySpan) (class least d : ℕ) (q : List Version) (ps qs : List Version) (v : Version)
-    → Has f ss deeper (state_at class least d q) ps qs → IsNext ps v → d ≤ length q
+    → AccountsFor f ss deeper (state_at class least d q) ps qs → MayFollow ps v → d ≤ length q
     → (same_key : Bool) → same_key ≡ is_key (state_at class least d q).last v
     → (q1 : List Version) (d1 : ℕ) → (same_key ≡ true → (q1 ≡ q) × (d1 ≡ d))
     → (same_key ≡ false → (k : List ℕ) → AllOf k (drop d q) → (q1 ≡ take d q ++ trim (is_low f deeper) (drop d q)) × (d1 ≡ length q1))
     → (kept : Bool) → kept ≡ (not (same_key && class == max v.ts.0 f.0) || list_any (is_between v.seq.0 least) ss)
     → (class1 least1 : ℕ) → class1 ≡ max v.ts.0 f.0 → least1 ≡ (if same_key && class == max v.ts.0 f.0 then min least v.seq.0 else v.seq.0)
     → (q2 : List Version) → q2 ≡ (if kept then q1 ++ v ∷ [] else q1)
-    → Has f ss deeper (state_at class1 least1 d1 q2) (ps ++ v ∷ []) qs
+    → AccountsFor f ss deeper (state_at class1 least1 d1 q2) (ps ++ v ∷ []) qs
 push_is f ss deeper class least d q ps qs v h b l true k q1 d1 t n true y class1 least1 ce le q2 qe =
     let s = t refl in
     let path : state_at class1 least1 d1 q2 ≡ state_at (max v.ts.0 f.0) (least_next f ss deeper class least d q ps qs v h b) d (q ++ v ∷ []) = λ i. state_at (ce i) (le i) (s.1 i) ((qe ∙ ap (λ xs. xs ++ v ∷ []) s.0) i) in
-    subst (λ x. Has f ss deeper x (ps ++ v ∷ []) qs) (sym path) (push_kept f ss deeper class least d q ps qs v h b l (sym k) (sym y))
+    subst (λ x. AccountsFor f ss deeper x (ps ++ v ∷ []) qs) (sym path) (push_kept f ss deeper class least d q ps qs v h b l (sym k) (sym y))
 push_is f ss deeper class least d q ps qs v h b l true k q1 d1 t n false y class1 least1 ce le q2 qe =
     let s = t refl in
     let path : state_at class1 least1 d1 q2 ≡ state_at (max v.ts.0 f.0) (least_next f ss deeper class least d q ps qs v h b) d q = λ i. state_at (ce i) (le i) (s.1 i) ((qe ∙ s.0) i) in
-    subst (λ x. Has f ss deeper x (ps ++ v ∷ []) qs) (sym path) (push_left f ss deeper class least d q ps qs v h b (sym k) (sym y))
+    subst (λ x. AccountsFor f ss deeper x (ps ++ v ∷ []) qs) (sym path) (push_left f ss deeper class least d q ps qs v h b (sym k) (sym y))
 push_is f ss deeper class least d q ps qs v h b l false k q1 d1 t n true y class1 least1 ce le q2 qe =
     let s = n refl h.key h.of_run in
     let path : state_at class1 least1 d1 q2 ≡ state_at (max v.ts.0 f.0) v.seq.0 (length q1) (q1 ++ v ∷ []) = λ i. state_at (ce i) (le i) (s.1 i) (qe i) in
-    subst (λ x. Has f ss deeper x (ps ++ v ∷ []) qs) (sym path) (push_new f ss deeper class least d q ps qs v h b q1 (sym k) s.0)
+    subst (λ x. AccountsFor f ss deeper x (ps ++ v ∷ []) qs) (sym path) (push_new f ss deeper class least d q ps qs v h b q1 (sym k) s.0)
 push_is f ss deeper class least d q ps qs v h b l false k q1 d1 t n false y class1 least1 ce le q2 qe = absurd cc
 
-pub moved : (f g : Ts) (ss rr : List Seq) (dd ee : List KeySpan) (st : State) (ps qs : List Version) → f ≡ g → ss ≡ rr → dd ≡ ee → Has f ss dd st ps qs → Has g rr ee st ps qs
+pub moved : (f g : Ts) (ss rr : List Seq) (dd ee : List KeySpan) (st : State) (ps qs : List Version) → f ≡ g → ss ≡ rr → dd ≡ ee → AccountsFor f ss dd st ps qs → AccountsFor g rr ee st ps qs
 moved f g ss rr dd ee st ps qs a b c h =
-    subst (λ x. Has g rr x st ps qs) c (subst (λ x. Has g x dd st ps qs) b (subst (λ x. Has x ss dd st ps qs) a h))
+    subst (λ x. AccountsFor g rr x st ps qs) c (subst (λ x. AccountsFor g x dd st ps qs) b (subst (λ x. AccountsFor x ss dd st ps qs) a h))
 
 -- ---- a collector
 
-pub collected_from : (c : Collector) (ps qs : List Version) → Has (floor_of c) (snapshots_of c) (spans_of c) (state_at c.class c.least c.decided c.queue.items) ps qs → HasCollected c ps qs
-collected_from c ps qs h = record { front = given_front (floor_of c) (snapshots_of c) (spans_of c) (state_at c.class c.least c.decided c.queue.items) ps qs h; has = h }
+pub collected_from : (c : Collector) (ps qs : List Version) → AccountsFor (collection_floor c) (collection_snapshots c) (collection_spans c) (state_at c.class c.least c.decided c.queue.items) ps qs → HasCollected c ps qs
+collected_from c ps qs h = record { front = given_front (collection_floor c) (collection_snapshots c) (collection_spans c) (state_at c.class c.least c.decided c.queue.items) ps qs h; inside = h }
 
 pub none_popped : (c : Collector) (ps qs : List Version) → c.decided ≡ 0 → HasCollected c ps qs → HasGivenSettled c ps qs
 none_popped c ps qs z h = record {
-  given = pop_none (floor_of c) (snapshots_of c) (spans_of c) c.class c.least c.decided c.queue.items ps qs z h.has;
-  held = run_within (floor_of c) (snapshots_of c) (spans_of c) c.class c.least c.decided c.queue.items ps qs z h.has;
+  given = pop_none (collection_floor c) (collection_snapshots c) (collection_spans c) c.class c.least c.decided c.queue.items ps qs z h.inside;
+  held = run_within (collection_floor c) (collection_snapshots c) (collection_spans c) c.class c.least c.decided c.queue.items ps qs z h.inside;
   collected = h;
 }
 
@@ -353,9 +353,9 @@ pub match_map : (o : Option Version) (P : Type 0) (A B : Version → Type 0) →
 match_map None P A B h m = m
 match_map (Some v) P A B h m = h v m
 
-pub given_from : (c : Collector) (ps qs : List Version) (v : Version) → Has (floor_of c) (snapshots_of c) (spans_of c) (state_at c.class c.least c.decided c.queue.items) ps (qs ++ v ∷ []) → HasGiven c ps qs v
+pub given_from : (c : Collector) (ps qs : List Version) (v : Version) → AccountsFor (collection_floor c) (collection_snapshots c) (collection_spans c) (state_at c.class c.least c.decided c.queue.items) ps (qs ++ v ∷ []) → HasGiven c ps qs v
 given_from c ps qs v h = record {
-  settled = settled_front (floor_of c) (snapshots_of c) (spans_of c) (state_at c.class c.least c.decided c.queue.items) ps (qs ++ v ∷ []) h;
+  others = settled_front (collection_floor c) (collection_snapshots c) (collection_spans c) (state_at c.class c.least c.decided c.queue.items) ps (qs ++ v ∷ []) h;
   collected = collected_from c ps (qs ++ v ∷ []) h;
 }
 
@@ -364,10 +364,10 @@ all_on : (qs q r : List Version) (v : Version) (ws : List Version) → q ≡ v �
 all_on qs q r v ws e h = append_assoc qs (v ∷ []) r ∙ ap (λ (xs : List Version). qs ++ xs) (sym e) ∙ h
 
 pub popped_finished : (c : Collector) (r : List Version) (o : Option Version) (ps qs : List Version) (P : Type 0) → c.queue.items ≡ option_to_list o ++ r → IsSome o → HasFinished c ps qs
-    → MatchOption o P (λ v. ((qs ++ v ∷ []) ++ r ≡ collect ps (floor_of c) (snapshots_of c) (spans_of c)) × (c.decided - 1 ≡ length r))
+    → MatchOption o P (λ v. ((qs ++ v ∷ []) ++ r ≡ collect ps (collection_floor c) (collection_snapshots c) (collection_spans c)) × (c.decided - 1 ≡ length r))
 popped_finished c r None ps qs P e n h = absurd (none_some n)
 popped_finished c r (Some v) ps qs P e n h = (
-  all_on qs c.queue.items r v (collect ps (floor_of c) (snapshots_of c) (spans_of c)) e h.all,
+  all_on qs c.queue.items r v (collect ps (collection_floor c) (collection_snapshots c) (collection_spans c)) e h.all,
   let d = h.decided in let l = ap length e in omega (arith, d, l),
 )
 
@@ -387,11 +387,11 @@ mid_all : (P : Version → Type 0) (us : List Version) (v : Version) (vs : List 
 mid_all P [] v vs h = h.0
 mid_all P (u ∷ us) v vs h = mid_all P us v vs h.1
 
-mid_next : (us : List Version) (v : Version) (vs : List Version) → AreInOrder (us ++ v ∷ vs) → IsNext us v
+mid_next : (us : List Version) (v : Version) (vs : List Version) → AreInOrder (us ++ v ∷ vs) → MayFollow us v
 mid_next [] v vs s = tt
 mid_next (u ∷ us) v vs s = (mid_all (λ w. StandsBefore u w) us v vs s.0, mid_next us v vs s.1)
 
-pub next_of : (front : List Version) (v : Version) (rest all : List Version) → front ++ v ∷ rest ≡ all → AreInOrder all → IsNext front v
+pub next_of : (front : List Version) (v : Version) (rest all : List Version) → front ++ v ∷ rest ≡ all → AreInOrder all → MayFollow front v
 next_of front v rest all e s = mid_next front v rest (subst AreInOrder (sym e) s)
 
 pub one_on : (front rest more all : List Version) (o : Option Version) (v : Version) → o ≡ Some v → rest ≡ option_to_list o ++ more → front ++ rest ≡ all → front ++ v ∷ more ≡ all

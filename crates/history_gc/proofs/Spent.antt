@@ -13,7 +13,7 @@ use Rattle.udt_model.specs.declared.reply.KeySpan.{KeySpan}
 use Rattle.udt_model.specs.Versions.{is_newer, is_of, is_put}
 use Rattle.udt_model.specs.Orders.{is_in_some}
 use Rattle.udt_model.specs.Collecting.{is_put_below, is_useless, without_useless}
-use Rattle.history_gc.specs.Pushed.{StandsBefore, IsNext, AreInOrder}
+use Rattle.history_gc.specs.Pushed.{StandsBefore, MayFollow, AreInOrder}
 use Rattle.history_gc.specs.Streaming.{is_old_delete, is_low, trim_on, trim}
 use Rattle.history_gc.specs.States.{AllOf, NoneOf}
 use Rattle.history_gc.proofs.Kept.{any_append, earlier_newer, later_not_newer, later_ts, next_both, not_newer_itself}
@@ -55,7 +55,7 @@ module _ (f : Ts) (deeper : List KeySpan) where
       nothing false = refl
 
   -- an earlier one of the key isn't below
-  none_earlier : (k : List ℕ) (v : Version) (us : List Version) → v.key ≡ k → AllOf k us → IsNext us v → list_any (is_put_below v) us ≡ false
+  none_earlier : (k : List ℕ) (v : Version) (us : List Version) → v.key ≡ k → AllOf k us → MayFollow us v → list_any (is_put_below v) us ≡ false
   none_earlier k v [] e a b = refl
   none_earlier k v (u ∷ us) e a b = λ i. not_below u v (later_not_newer u v (a.0 ∙ sym e) b.0) i || none_earlier k v us e a.1 b.1 i
 
@@ -149,7 +149,7 @@ module _ (f : Ts) (deeper : List KeySpan) where
 
   -- ---- several keys
 
-  next_snoc : (ds : List Version) (v : Version) (ws : List Version) → AllByRecursion (λ w. IsNext ds w) ws → AllByRecursion (λ w. StandsBefore v w) ws → AllByRecursion (λ w. IsNext (ds ++ v ∷ []) w) ws
+  next_snoc : (ds : List Version) (v : Version) (ws : List Version) → AllByRecursion (λ w. MayFollow ds w) ws → AllByRecursion (λ w. StandsBefore v w) ws → AllByRecursion (λ w. MayFollow (ds ++ v ∷ []) w) ws
   next_snoc ds v [] h l = tt
   next_snoc ds v (w ∷ ws) h l = (next_both ds v w h.0 l.0, next_snoc ds v ws h.1 l.1)
 
@@ -160,7 +160,7 @@ module _ (f : Ts) (deeper : List KeySpan) where
   branch v false true e xs ys r = absurd cc
 
   -- the useless ones among all, in a run behind others
-  run_of : (k : List ℕ) (es ds vs : List Version) → NoneOf k es → AllOf k ds → AllOf k vs → AreInOrder vs → AllByRecursion (λ v. IsNext ds v) vs → filter (λ v. not (is_useless (es ++ (ds ++ vs)) f deeper v)) vs ≡ unspent_run vs
+  run_of : (k : List ℕ) (es ds vs : List Version) → NoneOf k es → AllOf k ds → AllOf k vs → AreInOrder vs → AllByRecursion (λ v. MayFollow ds v) vs → filter (λ v. not (is_useless (es ++ (ds ++ vs)) f deeper v)) vs ≡ unspent_run vs
   run_of k es ds [] n d a so b = refl
   run_of k es ds (v ∷ vs) n d a so b =
       let none : list_any (is_put_below v) es ≡ false = none_put v es (subst (λ m. NoneOf m es) (sym a.0) n) in
@@ -195,7 +195,7 @@ module _ (f : Ts) (deeper : List KeySpan) where
   none_all k rs h [] n = tt
   none_all k rs h (a ∷ es) n = (none_swap k rs h a.key n.0, none_all k rs h es n.1)
 
-  free : (rs : List Version) → AllByRecursion (λ v. IsNext [] v) rs
+  free : (rs : List Version) → AllByRecursion (λ v. MayFollow [] v) rs
   free [] = tt
   free (r ∷ rs) = (tt, free rs)
 

@@ -15,9 +15,9 @@ use Rattle.udt_model.specs.Orders.{is_before}
 use Rattle.collection_laws.specs.Places.{AreStored}
 use Rattle.udt_model.specs.Collecting.{is_seen, is_useless, seen_of, without_useless, collect}
 use Rattle.collection_laws.proofs.Storing.{stored_filter, stored_is}
-use Rattle.history_gc.specs.Pushed.{StandsBefore, IsNext, AreInOrder, IsFront, last_from, has_key_of, of_last_key, settled}
+use Rattle.history_gc.specs.Pushed.{StandsBefore, MayFollow, AreInOrder, IsFront, last_from, has_key_of, of_last_key, of_other_keys}
 use Rattle.history_gc.specs.Streaming.{Last, next_last, is_low, is_kept, kept_from, kept_of, trim}
-use Rattle.history_gc.specs.States.{State, Has, is_key, last_of, AllOf, NoneOf}
+use Rattle.history_gc.specs.States.{State, AccountsFor, is_key, last_of, AllOf, NoneOf}
 use Rattle.history_gc.proofs.Kept.{AllNext, next_more, all_free, kept_is_seen, between_keys}
 use Rattle.history_gc.proofs.Spent.{all_snoc, useless_more}
 
@@ -77,7 +77,7 @@ after_snoc : (u v : Version) (us : List Version) → AllByRecursion (λ w. Stand
 after_snoc u v [] h l = (l, tt)
 after_snoc u v (w ∷ ws) h l = (h.0, after_snoc u v ws h.1 l)
 
-pub order_snoc : (ps : List Version) (v : Version) → AreInOrder ps → IsNext ps v → AreInOrder (ps ++ v ∷ [])
+pub order_snoc : (ps : List Version) (v : Version) → AreInOrder ps → MayFollow ps v → AreInOrder (ps ++ v ∷ [])
 order_snoc [] v s b = (tt, tt)
 order_snoc (u ∷ us) v s b = (after_snoc u v us s.0 b.0, order_snoc us v s.1 b.1)
 
@@ -93,7 +93,7 @@ none_filter k p (u ∷ us) h =
       | inr y ↦ rw y (none_filter k p us h.1)
     ]
 
-next_filter : (p : Version → Bool) (v : Version) (ps : List Version) → IsNext ps v → IsNext (filter p ps) v
+next_filter : (p : Version → Bool) (v : Version) (ps : List Version) → MayFollow ps v → MayFollow (filter p ps) v
 next_filter p v [] h = tt
 next_filter p v (u ∷ us) h =
     elim (cases_Bool (p u)) [
@@ -101,16 +101,16 @@ next_filter p v (u ∷ us) h =
       | inr y ↦ rw y (next_filter p v us h.1)
     ]
 
-next_tail : (xs ys : List Version) (v : Version) → IsNext (xs ++ ys) v → IsNext ys v
+next_tail : (xs ys : List Version) (v : Version) → MayFollow (xs ++ ys) v → MayFollow ys v
 next_tail [] ys v h = h
 next_tail (x ∷ xs) ys v h = next_tail xs ys v h.1
 
 -- v stands between u and w: then u of w's key is of v's key
-none_between : (ps : List Version) (v w : Version) → IsNext ps v → StandsBefore v w → (v.key ≡ w.key → ⊥) → NoneOf w.key ps
+none_between : (ps : List Version) (v w : Version) → MayFollow ps v → StandsBefore v w → (v.key ≡ w.key → ⊥) → NoneOf w.key ps
 none_between [] v w b l n = tt
 none_between (u ∷ us) v w b l n = ((λ e. n (sym (between_keys u v w b.0 l e) ∙ e)), none_between us v w b.1 l n)
 
-split_front : (ps : List Version) (v w : Version) → IsNext (ps ++ v ∷ []) w → IsNext ps w × StandsBefore v w
+split_front : (ps : List Version) (v w : Version) → MayFollow (ps ++ v ∷ []) w → MayFollow ps w × StandsBefore v w
 split_front [] v w h = (tt, h.0)
 split_front (u ∷ us) v w h = let r = split_front us v w h.1 in ((h.0, r.0), r.1)
 
@@ -131,7 +131,7 @@ filter_others v (u ∷ us) h =
 
 -- ---- the settled ones with one more
 
-settled_other : (ps : List Version) (v : Version) → NoneOf v.key ps → settled (ps ++ v ∷ []) ≡ ps
+settled_other : (ps : List Version) (v : Version) → NoneOf v.key ps → of_other_keys (ps ++ v ∷ []) ≡ ps
 settled_other ps v n =
     ap (λ l. filter (λ u. not (has_key_of l u)) (ps ++ v ∷ [])) (last_is None ps v)
     ∙ filter-append (λ u. not (has_key_of (Some v) u)) ps (v ∷ [])
@@ -147,14 +147,14 @@ filter_alike : (o : Option Version) (v : Version) (ps : List Version) → has_ke
 filter_alike o v [] e = refl
 filter_alike o v (u ∷ us) e = λ i. cond (not (key_alike o v u e i)) (u ∷ filter_alike o v us e i) (filter_alike o v us e i)
 
-settled_same : (ps : List Version) (v : Version) → has_key_of (last_from None ps) v ≡ true → settled (ps ++ v ∷ []) ≡ settled ps
+settled_same : (ps : List Version) (v : Version) → has_key_of (last_from None ps) v ≡ true → of_other_keys (ps ++ v ∷ []) ≡ of_other_keys ps
 settled_same ps v e =
     let o = last_from None ps in
     ap (λ l. filter (λ u. not (has_key_of l u)) (ps ++ v ∷ [])) (last_is None ps v)
     ∙ filter-append (λ u. not (has_key_of (Some v) u)) ps (v ∷ [])
     ∙ ap (λ xs. xs ++ filter (λ u. not (has_key_of (Some v) u)) (v ∷ [])) (filter_alike o v ps e)
-    ∙ ap (λ b. settled ps ++ cond (not b) (v ∷ []) []) (own_key v)
-    ∙ append-nil (settled ps)
+    ∙ ap (λ b. of_other_keys ps ++ cond (not b) (v ∷ []) []) (own_key v)
+    ∙ append-nil (of_other_keys ps)
 
 -- ---- how many are of the last key
 
@@ -190,28 +190,28 @@ run_key : (c : Bool) (xs : List Version) (v : Version) (k : List ℕ) → AllOf 
 run_key true xs v k h e = all_snoc k xs v h e
 run_key false xs v k h e = subst (AllOf k) (sym (append-nil xs)) h
 
-run_sorted : (c : Bool) (xs : List Version) (v : Version) → AreInOrder xs → IsNext xs v → AreInOrder (xs ++ one_if c v)
+run_sorted : (c : Bool) (xs : List Version) (v : Version) → AreInOrder xs → MayFollow xs v → AreInOrder (xs ++ one_if c v)
 run_sorted true xs v h b = order_snoc xs v h b
 run_sorted false xs v h b = subst AreInOrder (sym (append-nil xs)) h
 
 module _ (f : Ts) (ss : List Seq) (deeper : List KeySpan) where
-  kept_more : (ps : List Version) (v : Version) → AreInOrder ps → IsNext ps v → seen_of (ps ++ v ∷ []) f ss ≡ seen_of ps f ss ++ one_if (is_kept f ss (last_of f None ps) v) v
+  kept_more : (ps : List Version) (v : Version) → AreInOrder ps → MayFollow ps v → seen_of (ps ++ v ∷ []) f ss ≡ seen_of ps f ss ++ one_if (is_kept f ss (last_of f None ps) v) v
   kept_more ps v s b =
       sym (kept_is_seen f ss (ps ++ v ∷ []) (order_snoc ps v s b))
       ∙ kept_snoc f ss None ps v
       ∙ ap (λ xs. xs ++ one_if (is_kept f ss (last_of f None ps) v) v) (kept_is_seen f ss ps s)
 
   -- what all of ps give is what was given, what is ready, and the run without its end
-  pub whole : (st : State) (ps qs : List Version) → Has f ss deeper st ps qs → (qs ++ st.ready) ++ trim (is_low f deeper) st.run ≡ kept_of f ss deeper ps
+  pub whole : (st : State) (ps qs : List Version) → AccountsFor f ss deeper st ps qs → (qs ++ st.ready) ++ trim (is_low f deeper) st.run ≡ kept_of f ss deeper ps
   whole st ps qs h =
       ap (λ xs. xs ++ trim (is_low f deeper) st.run) h.out
-      ∙ sym (ap (without_useless f deeper) h.kept ∙ useless_more f deeper h.key (seen_of (settled ps) f ss) st.run h.of_old h.of_run h.sorted_run)
+      ∙ sym (ap (without_useless f deeper) h.kept ∙ useless_more f deeper h.key (seen_of (of_other_keys ps) f ss) st.run h.of_old h.of_run h.sorted_run)
 
   not_same_key : (o : Option Last) (v : Version) → is_key o v ≡ false → is_kept f ss o v ≡ true
   not_same_key None v e = refl
   not_same_key (Some l) v e = rw e refl
 
-  others_more : (ps : List Version) (v : Version) → IsNext ps v → (o : Option Last) (w : Version) → IsNext (ps ++ v ∷ []) w → is_key (Some (next_last f o v)) w ≡ false → NoneOf w.key (ps ++ v ∷ [])
+  others_more : (ps : List Version) (v : Version) → MayFollow ps v → (o : Option Last) (w : Version) → MayFollow (ps ++ v ∷ []) w → is_key (Some (next_last f o v)) w ≡ false → NoneOf w.key (ps ++ v ∷ [])
   others_more ps v b o w bw e =
       let r = split_front ps v w bw in
       let n : v.key ≡ w.key → ⊥ = λ q. falls (bytes_eq v.key w.key) ((bytes_eq-Decides v.key w.key).1 q) e in
@@ -220,11 +220,11 @@ module _ (f : Ts) (ss : List Seq) (deeper : List KeySpan) where
       falls : (b : Bool) → b ≡ true → b ≡ false → ⊥
       falls b x y = cc
 
-  pub push_other : (st : State) (ps qs : List Version) (v : Version) → Has f ss deeper st ps qs → IsNext ps v → is_key st.last v ≡ false
-      → Has f ss deeper (record { ready = st.ready ++ trim (is_low f deeper) st.run; run = v ∷ []; last = Some (next_last f st.last v) }) (ps ++ v ∷ []) qs
+  pub push_other : (st : State) (ps qs : List Version) (v : Version) → AccountsFor f ss deeper st ps qs → MayFollow ps v → is_key st.last v ≡ false
+      → AccountsFor f ss deeper (record { ready = st.ready ++ trim (is_low f deeper) st.run; run = v ∷ []; last = Some (next_last f st.last v) }) (ps ++ v ∷ []) qs
   push_other st ps qs v h b e =
       let n = h.others v b e in
-      let old : settled (ps ++ v ∷ []) ≡ ps = settled_other ps v n in
+      let old : of_other_keys (ps ++ v ∷ []) ≡ ps = settled_other ps v n in
       let k : is_kept f ss (last_of f None ps) v ≡ true = ap (λ o. is_kept f ss o v) h.last ∙ not_same_key st.last v e in
       record {
         sorted = order_snoc ps v h.sorted b;
@@ -240,18 +240,18 @@ module _ (f : Ts) (ss : List Seq) (deeper : List KeySpan) where
         bound = omega (arith, of_key_snoc (Some (next_last f st.last v)) ps v (own_key v));
       }
 
-  pub push_same : (st : State) (ps qs : List Version) (v : Version) → Has f ss deeper st ps qs → IsNext ps v → is_key st.last v ≡ true
-      → Has f ss deeper (record { ready = st.ready; run = st.run ++ one_if (is_kept f ss st.last v) v; last = Some (next_last f st.last v) }) (ps ++ v ∷ []) qs
+  pub push_same : (st : State) (ps qs : List Version) (v : Version) → AccountsFor f ss deeper st ps qs → MayFollow ps v → is_key st.last v ≡ true
+      → AccountsFor f ss deeper (record { ready = st.ready; run = st.run ++ one_if (is_kept f ss st.last v) v; last = Some (next_last f st.last v) }) (ps ++ v ∷ []) qs
   push_same st ps qs v h b e =
-      let old : settled (ps ++ v ∷ []) ≡ settled ps = settled_same ps v (sym (key_is f ps v) ∙ ap (λ o. is_key o v) h.last ∙ e) in
+      let old : of_other_keys (ps ++ v ∷ []) ≡ of_other_keys ps = settled_same ps v (sym (key_is f ps v) ∙ ap (λ o. is_key o v) h.last ∙ e) in
       let key : v.key ≡ h.key = h.same v b e in
-      let run_next : IsNext st.run v = next_tail (seen_of (settled ps) f ss) st.run v (subst (λ xs. IsNext xs v) h.kept (next_filter (is_seen ps f ss) v ps b)) in
+      let run_next : MayFollow st.run v = next_tail (seen_of (of_other_keys ps) f ss) st.run v (subst (λ xs. MayFollow xs v) h.kept (next_filter (is_seen ps f ss) v ps b)) in
       record {
         sorted = order_snoc ps v h.sorted b;
         last = last_snoc f None ps v ∙ ap (λ o. Some (next_last f o v)) h.last;
         out = h.out ∙ sym (ap (kept_of f ss deeper) old);
         kept = kept_more ps v h.sorted b ∙ ap (λ o. seen_of ps f ss ++ one_if (is_kept f ss o v) v) h.last ∙ ap (λ xs. xs ++ one_if (is_kept f ss st.last v) v) h.kept
-            ∙ append_assoc (seen_of (settled ps) f ss) st.run (one_if (is_kept f ss st.last v) v)
+            ∙ append_assoc (seen_of (of_other_keys ps) f ss) st.run (one_if (is_kept f ss st.last v) v)
             ∙ ap (λ xs. seen_of xs f ss ++ (st.run ++ one_if (is_kept f ss st.last v) v)) (sym old);
         key = h.key;
         of_run = run_key (is_kept f ss st.last v) st.run v h.key h.of_run key;
@@ -266,7 +266,7 @@ module _ (f : Ts) (ss : List Seq) (deeper : List KeySpan) where
       }
 
   -- a version more: the state after it has what was pushed
-  pub push_has : (st : State) (ps qs : List Version) (v : Version) → Has f ss deeper st ps qs → IsNext ps v → Has f ss deeper (pushed f ss deeper st v) (ps ++ v ∷ []) qs
+  pub push_has : (st : State) (ps qs : List Version) (v : Version) → AccountsFor f ss deeper st ps qs → MayFollow ps v → AccountsFor f ss deeper (pushed f ss deeper st v) (ps ++ v ∷ []) qs
   push_has st ps qs v h b =
       elim (cases_Bool (is_key st.last v)) [
         | inl y ↦ rw y (push_same st ps qs v h b y)
@@ -274,7 +274,7 @@ module _ (f : Ts) (ss : List Seq) (deeper : List KeySpan) where
       ]
 
   -- at the beginning
-  pub start_has : Has f ss deeper (record { ready = []; run = []; last = None }) [] []
+  pub start_has : AccountsFor f ss deeper (record { ready = []; run = []; last = None }) [] []
   start_has = record {
     sorted = tt;
     last = refl;
@@ -290,7 +290,7 @@ module _ (f : Ts) (ss : List Seq) (deeper : List KeySpan) where
   }
 
   -- one of the ready ones is given
-  pub pop_has : (st : State) (ps qs : List Version) (x : Version) (xs : List Version) → st.ready ≡ x ∷ xs → Has f ss deeper st ps qs → Has f ss deeper (record { ready = xs; run = st.run; last = st.last }) ps (qs ++ x ∷ [])
+  pub pop_has : (st : State) (ps qs : List Version) (x : Version) (xs : List Version) → st.ready ≡ x ∷ xs → AccountsFor f ss deeper st ps qs → AccountsFor f ss deeper (record { ready = xs; run = st.run; last = st.last }) ps (qs ++ x ∷ [])
   pop_has st ps qs x xs e h = record {
     sorted = h.sorted;
     last = h.last;
@@ -307,23 +307,23 @@ module _ (f : Ts) (ss : List Seq) (deeper : List KeySpan) where
 
   -- ---- against the collection
 
-  stored_settled : (ps : List Version) → AreInOrder ps → collect (settled ps) f ss deeper ≡ kept_of f ss deeper (settled ps)
+  stored_settled : (ps : List Version) → AreInOrder ps → collect (of_other_keys ps) f ss deeper ≡ kept_of f ss deeper (of_other_keys ps)
   stored_settled ps s =
       let t = stored_filter (λ u. not (has_key_of (last_from None ps) u)) ps (in_order_stored ps s) in
-      stored_is (kept_of f ss deeper (settled ps)) (stored_filter (λ v. not (is_useless (seen_of (settled ps) f ss) f deeper v)) (seen_of (settled ps) f ss) (stored_filter (is_seen (settled ps) f ss) (settled ps) t))
+      stored_is (kept_of f ss deeper (of_other_keys ps)) (stored_filter (λ v. not (is_useless (seen_of (of_other_keys ps) f ss) f deeper v)) (seen_of (of_other_keys ps) f ss) (stored_filter (is_seen (of_other_keys ps) f ss) (of_other_keys ps) t))
 
   -- where none is ready all of the settled keys is given
-  pub none_ready : (st : State) (ps qs : List Version) → st.ready ≡ [] → Has f ss deeper st ps qs → qs ≡ collect (settled ps) f ss deeper
+  pub none_ready : (st : State) (ps qs : List Version) → st.ready ≡ [] → AccountsFor f ss deeper st ps qs → qs ≡ collect (of_other_keys ps) f ss deeper
   none_ready st ps qs e h = sym (append-nil qs) ∙ ap (λ ys. qs ++ ys) (sym e) ∙ h.out ∙ sym (stored_settled ps h.sorted)
 
   -- what was given is a front of what the settled keys give
-  pub settled_front : (st : State) (ps qs : List Version) → Has f ss deeper st ps qs → IsFront qs (collect (settled ps) f ss deeper)
+  pub settled_front : (st : State) (ps qs : List Version) → AccountsFor f ss deeper st ps qs → IsFront qs (collect (of_other_keys ps) f ss deeper)
   settled_front st ps qs h = (st.ready, h.out ∙ sym (stored_settled ps h.sorted))
 
   -- and of what all give
-  pub given_front : (st : State) (ps qs : List Version) → Has f ss deeper st ps qs → IsFront qs (collect ps f ss deeper)
+  pub given_front : (st : State) (ps qs : List Version) → AccountsFor f ss deeper st ps qs → IsFront qs (collect ps f ss deeper)
   given_front st ps qs h = (st.ready ++ trim (is_low f deeper) st.run, sym (append_assoc qs st.ready (trim (is_low f deeper) st.run)) ∙ whole st ps qs h ∙ sym (collect_is f ss deeper ps h.sorted))
 
   -- all that is given and held, once the end of the run is trimmed
-  pub finished_is : (st : State) (ps qs : List Version) → Has f ss deeper st ps qs → qs ++ (st.ready ++ trim (is_low f deeper) st.run) ≡ collect ps f ss deeper
+  pub finished_is : (st : State) (ps qs : List Version) → AccountsFor f ss deeper st ps qs → qs ++ (st.ready ++ trim (is_low f deeper) st.run) ≡ collect ps f ss deeper
   finished_is st ps qs h = sym (append_assoc qs st.ready (trim (is_low f deeper) st.run)) ∙ whole st ps qs h ∙ sym (collect_is f ss deeper ps h.sorted)

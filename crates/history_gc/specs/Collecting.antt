@@ -6,9 +6,9 @@ use Rattle.ts_key.specs.declared.numbers.Ts.{Ts}
 use Rattle.ts_key.specs.declared.version.Version.{Version}
 use Rattle.udt_model.specs.declared.reply.KeySpan.{KeySpan}
 use Rattle.udt_model.specs.Collecting.{collect}
-use Rattle.history_gc.specs.Pushed.{IsFront, of_last_key, settled}
+use Rattle.history_gc.specs.Pushed.{IsFront, of_last_key, of_other_keys}
 use Rattle.history_gc.specs.Streaming.{Last}
-use Rattle.history_gc.specs.States.{State, Has}
+use Rattle.history_gc.specs.States.{State, AccountsFor}
 use Rattle.history_gc.specs.declared.collector.Collector.{Collector}
 
 -- what is remembered of the last version that is kept and not decided
@@ -28,14 +28,14 @@ abbrev pub state : Collector → State
 state c = state_at c.class c.least c.decided c.queue.items
 
 -- the floor, the snapshots' sequences and the deeper spans that it collects by
-abbrev pub floor_of : Collector → Ts
-floor_of c = c.floor
+abbrev pub collection_floor : Collector → Ts
+collection_floor c = c.floor
 
-abbrev pub snapshots_of : Collector → List Seq
-snapshots_of c = c.seqs.items
+abbrev pub collection_snapshots : Collector → List Seq
+collection_snapshots c = c.seqs.items
 
-abbrev pub spans_of : Collector → List KeySpan
-spans_of c = c.deeper.now
+abbrev pub collection_spans : Collector → List KeySpan
+collection_spans c = c.deeper.now
 
 -- how many versions it holds, and for how many it has room
 abbrev pub held_of : Collector → ℕ
@@ -46,18 +46,18 @@ room_of c = deque_capacity c.queue
 
 -- what it collects of versions that are pushed in order
 abbrev pub collection : Collector → List Version → List Version
-collection c ps = collect ps (floor_of c) (snapshots_of c) (spans_of c)
+collection c ps = collect ps (collection_floor c) (collection_snapshots c) (collection_spans c)
 
 -- both collect by the same floor, snapshots and deeper spans
 pub record CollectsAlike (c d : Collector) : Type 0 where
-  pub floor : floor_of d ≡ floor_of c
-  pub snapshots : snapshots_of d ≡ snapshots_of c
-  pub spans : spans_of d ≡ spans_of c
+  pub floor : collection_floor d ≡ collection_floor c
+  pub snapshots : collection_snapshots d ≡ collection_snapshots c
+  pub spans : collection_spans d ≡ collection_spans c
 
 -- The versions ps were pushed and qs were given. These are a front of the collection of all that was pushed.
 pub record HasCollected (c : Collector) (ps qs : List Version) : Type 0 where
   pub front : IsFront qs (collection c ps)
-  pub has : Has (floor_of c) (snapshots_of c) (spans_of c) (state c) ps qs
+  pub inside : AccountsFor (collection_floor c) (collection_snapshots c) (collection_spans c) (state c) ps qs
 
 -- After the end everything is decided: what was given and what is held are the collection of all that was pushed.
 pub record HasFinished (c : Collector) (ps qs : List Version) : Type 0 where
@@ -66,13 +66,13 @@ pub record HasFinished (c : Collector) (ps qs : List Version) : Type 0 where
 
 -- It has nothing to give: what was given is the collection of all keys but the last, and it holds only versions of the last.
 pub record HasGivenSettled (c : Collector) (ps qs : List Version) : Type 0 where
-  pub given : qs ≡ collection c (settled ps)
+  pub given : qs ≡ collection c (of_other_keys ps)
   pub held : held_of c ≤ length (of_last_key ps)
   pub collected : HasCollected c ps qs
 
 -- It gave v as the next: with it what was given is a front of the collection of all keys but the last, too.
 pub record HasGiven (c : Collector) (ps qs : List Version) (v : Version) : Type 0 where
-  pub settled : IsFront (qs ++ v ∷ []) (collection c (settled ps))
+  pub others : IsFront (qs ++ v ∷ []) (collection c (of_other_keys ps))
   pub collected : HasCollected c ps (qs ++ v ∷ [])
 
 -- After the end it has nothing to give: what was given is the collection of all that was pushed, and it holds none.

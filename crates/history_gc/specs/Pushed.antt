@@ -10,8 +10,8 @@ abbrev pub StandsBefore : Version → Version → Type 0
 StandsBefore u v = (u.family.0 ≡ v.family.0) × (is_before u v ≡ true)
 
 -- v may be pushed after ps: each of them stands before it
-abbrev pub IsNext : List Version → Version → Type 0
-IsNext ps v = AllByRecursion (λ u. StandsBefore u v) ps
+abbrev pub MayFollow : List Version → Version → Type 0
+MayFollow ps v = AllByRecursion (λ u. StandsBefore u v) ps
 
 -- each may be pushed after the ones before it
 abbrev pub AreInOrder : List Version → Type 0
@@ -32,8 +32,8 @@ abbrev pub of_last_key : List Version → List Version
 of_last_key ps = filter (has_key_of (last_from None ps)) ps
 
 -- the versions of all other keys: no more of them come
-abbrev pub settled : List Version → List Version
-settled ps = filter (λ u. not (has_key_of (last_from None ps) u)) ps
+abbrev pub of_other_keys : List Version → List Version
+of_other_keys ps = filter (λ u. not (has_key_of (last_from None ps) u)) ps
 
 -- the list begins with these
 abbrev pub IsFront : List Version → List Version → Type 0

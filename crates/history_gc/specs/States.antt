@@ -7,7 +7,7 @@ use Rattle.ts_key.specs.declared.numbers.Ts.{Ts}
 use Rattle.ts_key.specs.declared.version.Version.{Version}
 use Rattle.udt_model.specs.declared.reply.KeySpan.{KeySpan}
 use Rattle.udt_model.specs.Collecting.{seen_of}
-use Rattle.history_gc.specs.Pushed.{AreInOrder, IsNext, of_last_key, settled}
+use Rattle.history_gc.specs.Pushed.{AreInOrder, MayFollow, of_last_key, of_other_keys}
 use Rattle.history_gc.specs.Streaming.{Last, next_last, kept_of}
 
 -- what is decided and not yet given, what is kept of the last key, and what is remembered of it
@@ -33,15 +33,15 @@ NoneOf k vs = AllByRecursion (λ v. v.key ≡ k → ⊥) vs
 
 -- After the versions ps were pushed and qs were given: these and the ready ones are what is kept of all keys but the last,
 -- and the run is what may be kept of the last.
-pub record Has (floor : Ts) (seqs : List Seq) (deeper : List KeySpan) (st : State) (ps qs : List Version) : Type 0 where
+pub record AccountsFor (floor : Ts) (seqs : List Seq) (deeper : List KeySpan) (st : State) (ps qs : List Version) : Type 0 where
   pub sorted : AreInOrder ps
   pub last : last_of floor None ps ≡ st.last
-  pub out : qs ++ st.ready ≡ kept_of floor seqs deeper (settled ps)
-  pub kept : seen_of ps floor seqs ≡ seen_of (settled ps) floor seqs ++ st.run
+  pub out : qs ++ st.ready ≡ kept_of floor seqs deeper (of_other_keys ps)
+  pub kept : seen_of ps floor seqs ≡ seen_of (of_other_keys ps) floor seqs ++ st.run
   pub key : List ℕ
   pub of_run : AllOf key st.run
-  pub of_old : NoneOf key (seen_of (settled ps) floor seqs)
+  pub of_old : NoneOf key (seen_of (of_other_keys ps) floor seqs)
   pub sorted_run : AreInOrder st.run
-  pub others : (v : Version) → IsNext ps v → is_key st.last v ≡ false → NoneOf v.key ps
-  pub same : (v : Version) → IsNext ps v → is_key st.last v ≡ true → v.key ≡ key
+  pub others : (v : Version) → MayFollow ps v → is_key st.last v ≡ false → NoneOf v.key ps
+  pub same : (v : Version) → MayFollow ps v → is_key st.last v ≡ true → v.key ≡ key
   pub bound : length st.run ≤ length (filter (is_key st.last) ps)

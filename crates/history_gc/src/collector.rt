@@ -137,12 +137,12 @@ impl<'a> Collector<'a> {
     ghost use Rattle.std.specs.Prelude.{◌≡◌, ◌≤◌, ◌<◌, ◌+◌, ◌++◌, ◌∷◌, [], List, ℕ, length, take, drop, true, false, not, ◌&&◌, ◌||◌, ◌==◌, max, min, if◌then◌else◌, IfOk, IfErr, IsOk, OnErr, MatchOption, MatchResult};
     ghost use Rattle.std.specs.VecDeque.{deque_capacity};
     ghost use Rattle.std.specs.List.{list_any};
-    ghost use Rattle.std.specs.List.Sorted.{IsPermutation};
+    ghost use Rattle.udt_model.specs.Collecting.{collect};
     ghost use Rattle.ts_key.specs.declared.version.Version.{Version as VersionOf};
-    ghost use Rattle.history_gc.specs.Pushed.{IsNext};
+    ghost use Rattle.history_gc.specs.Pushed.{MayFollow};
     ghost use Rattle.history_gc.specs.Streaming.{is_between, is_low, trim};
     ghost use Rattle.history_gc.specs.States.{AllOf, is_key};
-    ghost use Rattle.history_gc.specs.Collecting.{CollectsAlike, HasCollected, HasFinished, HasGiven, HasGivenAll, HasGivenSettled, IsAsBefore, floor_of, held_of, room_of, snapshots_of, spans_of, state};
+    ghost use Rattle.history_gc.specs.Collecting.{CollectsAlike, HasCollected, HasFinished, HasGiven, HasGivenAll, HasGivenSettled, IsAsBefore, collection, held_of, room_of, state};
 
     /// A collector that has no version yet: by the history floor, by the sequences of the registered snapshots, in any order, and
     /// by the spans of keys that may have versions deeper.
@@ -153,9 +153,7 @@ impl<'a> Collector<'a> {
         deeper: &'a [KeySpan],
     ) -> Result<Collector<'a>, NoMemory>
         ensures collected { IfOk result (λ c. HasCollected c [] []) }
-        ensures floor { IfOk result (λ c. floor_of c ≡ floor) }
-        ensures snapshots { IfOk result (λ c. IsPermutation seqs.now (snapshots_of c)) }
-        ensures spans { IfOk result (λ c. spans_of c ≡ deeper.now) }
+        ensures collects { IfOk result (λ c. (ps : List VersionOf) → collection c ps ≡ collect ps floor seqs.now deeper.now) }
         ensures held { IfOk result (λ c. held_of c ≡ 0) }
     {
         Collector::with_capacity(alloc, 0, floor, seqs, deeper)
@@ -170,9 +168,7 @@ impl<'a> Collector<'a> {
         deeper: &'a [KeySpan],
     ) -> Result<Collector<'a>, NoMemory>
         ensures collected { IfOk result (λ c. HasCollected c [] []) }
-        ensures floor { IfOk result (λ c. floor_of c ≡ floor) }
-        ensures snapshots { IfOk result (λ c. IsPermutation seqs.now (snapshots_of c)) }
-        ensures spans { IfOk result (λ c. spans_of c ≡ deeper.now) }
+        ensures collects { IfOk result (λ c. (ps : List VersionOf) → collection c ps ≡ collect ps floor seqs.now deeper.now) }
         ensures held { IfOk result (λ c. held_of c ≡ 0) }
         ensures room { IfOk result (λ c. capacity ≤ room_of c) }
     {
@@ -192,7 +188,7 @@ impl<'a> Collector<'a> {
     /// Takes a version that is of the family of those before and stands behind them. Where memory is wanting it is given back,
     /// and all is as before; where there is room for it, it is taken. It takes the logarithm of the number of snapshots.
     pub fn push(&mut self, version: Version) -> Result<(), (Version, NoMemory)>
-        ensures collected { (ps qs : List VersionOf) → HasCollected self.old ps qs → IsNext ps version → MatchResult result
+        ensures collected { (ps qs : List VersionOf) → HasCollected self.old ps qs → MayFollow ps version → MatchResult result
             (λ _. HasCollected self.new (ps ++ version ∷ []) qs)
             (λ _. HasCollected self.new ps qs) }
         ensures refused { IfErr result (λ refused. refused.0 ≡ version) }

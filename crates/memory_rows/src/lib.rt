@@ -1,4 +1,4 @@
-//! Tests of the crates over memory, by their public calls.
+//! Tests of sorted runs and memtables, by their public calls.
 #![tactic(auto)]
 
 #[cfg(test)]

@@ -1,10 +1,5 @@
-//! Tests of the crates over memory, one module each.
+//! Tests of sorted runs and memtables, one module each.
 
-mod cursors;
-mod gate;
-mod keys;
-mod lanes;
 mod memtables;
-mod model;
 mod runs;
 mod versions;

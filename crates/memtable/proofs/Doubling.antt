@@ -1,5 +1,5 @@
 -- Runs that are at least twice as long as the next newer one.
-use Rattle.std.proofs.Common.{◌≡◌, ℕ, zero, suc, ◌+◌, ◌-◌, ◌*◌, ◌/◌, ◌^◌, ◌<◌, ◌≤◌, ◌⊎◌, List, [], ◌∷◌, ◌++◌, length, map, take, drop, Option, Some, None, refl, sym, ap, subst, ◌∙◌, inl, inr, arith, length-append}
+use Rattle.std.proofs.Common.{◌≡◌, ℕ, zero, suc, ◌+◌, ◌-◌, ◌*◌, ◌/◌, ◌^◌, ◌<◌, ◌≤◌, ◌⊎◌, List, [], ◌∷◌, ◌++◌, length, get_or, map, take, drop, Option, Some, None, refl, sym, ap, subst, ◌∙◌, inl, inr, arith, length-append}
 use Rattle.std.specs.Prelude.{slice_get}
 use Rattle.std.proofs.Math.Nat.{pow-suc}
 use Rattle.std.proofs.Math.Pow.{pow_mono}
@@ -77,3 +77,14 @@ pub get-map : {A : Type 0} (f : A → List Version) (xs : List A) (i : ℕ) (x :
 get-map f [] i x e = absurd cc
 get-map f (y ∷ ys) zero x e = let q : y ≡ x = cc in ap (λ z. Some (f z)) q
 get-map f (y ∷ ys) (suc i) x e = get-map f ys i x e
+
+pub got_at : {A : Type 0} (f : A → List Version) (xs : List A) (i : ℕ) (x : A) → i < length xs → x ≡ get_or xs i x → slice_get (map f xs) i ≡ Some (f x)
+got_at f [] i x l e = absurd (omega arith)
+got_at f (y ∷ ys) zero x l e = ap (λ z. Some (f z)) (sym e)
+got_at f (y ∷ ys) (suc i) x l e = got_at f ys i x (omega arith) e
+
+-- a run before one that isn't twice as long
+pub not_doubled : (run older : List Version) (rs : List (List Version)) (n : ℕ) → slice_get rs n ≡ Some older → length older / 2 < length run → AreDoubled (run ∷ drop n rs) → ⊥
+not_doubled run older [] n e l h = absurd cc
+not_doubled run older (xs ∷ rs) zero e l h = let q : xs ≡ older = cc in let d = h.1 in let z = ap length q in omega (arith, d, z, l)
+not_doubled run older (xs ∷ rs) (suc n) e l h = not_doubled run older rs n e l h

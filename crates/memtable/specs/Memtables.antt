@@ -1,5 +1,5 @@
 -- Memtables: lists of runs of one family, the newest first.
-use Rattle.std.specs.Prelude.{◌≡◌, ℕ, ◌+◌, ◌*◌, ◌≤◌, Bool, false, nat_le, nat_lt, if◌then◌else◌, List, [], ◌∷◌, ◌++◌, length, take, drop, min, max, slice_get, Option, Some, None}
+use Rattle.std.specs.Prelude.{◌≡◌, ℕ, ◌+◌, ◌*◌, ◌<◌, ◌≤◌, Bool, false, nat_le, nat_lt, if◌then◌else◌, List, [], ◌∷◌, ◌++◌, length, take, drop, min, max, slice_get, Option, Some, None}
 use Rattle.std.specs.List.{AllByRecursion}
 use Rattle.ts_key.specs.declared.numbers.Family.{Family}
 use Rattle.ts_key.specs.declared.version.Version.{Version}
@@ -54,11 +54,25 @@ abbrev pub KeepsRuns : List Version → List (List Version) → List (List Versi
 KeepsRuns batch [] new = new ≡ sorted batch ∷ []
 KeepsRuns batch (first ∷ rest) new = 2 * length batch ≤ length first → new ≡ sorted batch ∷ first ∷ rest
 
--- The run is the batch with the newest n runs merged in; what is left is twice as long, and a run that was it already isn't merged.
+-- the runs after a batch into which the newest n runs are merged: its run, and the other old ones as they were
+abbrev pub with_batch : List Version → List (List Version) → ℕ → List (List Version)
+with_batch batch old n = sorted (batch ++ joined (take n old)) ∷ drop n old
+
+-- The new runs are the old ones after the batch. Of the counts of merged runs with which each run is at least twice as long
+-- as the next newer one it is the least.
+pub record MergesLeast (batch : List Version) (old new : List (List Version)) : Type 0 where
+  pub count : ℕ
+  pub within : count ≤ length old
+  pub are : new ≡ with_batch batch old count
+  pub doubled : AreDoubled (with_batch batch old count)
+  pub least : (k : ℕ) → k < count → AreDoubled (with_batch batch old k) → ⊥
+
+-- The run is the batch with the newest n runs merged in; with it and what is left each is twice as long, with fewer merged it isn't.
 pub record IsAbsorbed (batch : List Version) (runs : List (List Version)) (run : List Version) (n : ℕ) : Type 0 where
   pub within : n ≤ length runs
   pub is : run ≡ sorted (batch ++ joined (take n runs))
   pub doubled : AreDoubled (run ∷ drop n runs)
+  pub least : (k : ℕ) → k < n → AreDoubled (with_batch batch runs k) → ⊥
   pub keeps : (first : List Version) → slice_get runs 0 ≡ Some first → 2 * length batch ≤ length first → n ≡ 0
 
 -- ---- the best so far

@@ -7,7 +7,7 @@ ghost use Rattle.ts_key.specs.Lists.{IsOrdered};
 ghost use Rattle.ts_key.specs.Visible.{newest_ts, visible};
 ghost use Rattle.sorted_run.specs.Runs.{latest_of};
 ghost use Rattle.sorted_run.specs.Sorts.{sorted};
-ghost use Rattle.memtable.specs.Memtables.{AreDoubled, KeepsRuns, Memtable, bytes_of, joined, versions_of};
+ghost use Rattle.memtable.specs.Memtables.{AreDoubled, KeepsRuns, Memtable, MergesLeast, bytes_of, joined, versions_of};
 
 use crate::limits::BYTES_LIMIT;
 use crate::runs;
@@ -62,6 +62,7 @@ impl Mem {
         ensures versions { IfOk result (λ mem. versions_of mem ≡ sorted (versions.now ++ versions_of self.now)) }
         ensures copy { versions.now ≡ [] → IfOk result (λ mem. mem ≡ self.now) }
         ensures keeps { 1 ≤ length versions.now → IfOk result (λ mem. KeepsRuns versions.now self.now.runs mem.runs) }
+        ensures merges { 1 ≤ length versions.now → IfOk result (λ mem. MergesLeast versions.now self.now.runs mem.runs) }
     {
         if versions.is_empty() {
             return self.copy();

@@ -97,3 +97,28 @@ lent_some P (Some x) o e h = subst (λ (q : Option _). IfSome q P) (sym e) h
 pub option_map-twice : {X Y Z : Type 0} (f : Y → Z) (g : X → Y) (o : Option X) → option_map f (option_map g o) ≡ option_map (λ x. f (g x)) o
 option_map-twice f g None = refl
 option_map-twice f g (Some x) = refl
+
+-- ---- a list in two parts
+
+pub within-take : {X : Type 0} (P : X → Type 0) (xs : List X) (n : ℕ) → n ≤ length xs → AllWithin P (take n xs) 0 (length (take n xs)) → AllWithin P xs 0 n
+within-take P xs zero l h = λ k d a b. absurd (omega arith)
+within-take P [] (suc n) l h = absurd (omega arith)
+within-take P (x ∷ xs) (suc n) l h = front (h 0 x (omega arith) (omega arith)) (within-take P xs n (omega arith) (λ k d a b. h (suc k) d (omega arith) (omega arith)))
+  where
+    front : P x → AllWithin P xs 0 n → AllWithin P (x ∷ xs) 0 (suc n)
+    front p g zero d a b = p
+    front p g (suc k) d a b = g k d (omega arith) (omega arith)
+
+pub within-back : {X : Type 0} (P : X → Type 0) (xs : List X) (n : ℕ) → AllWithin P (drop n xs) 0 (length (drop n xs)) → AllWithin P xs n (length xs)
+within-back P xs zero h = h
+within-back P [] (suc n) h = λ k d a b. absurd (omega arith)
+within-back P (x ∷ xs) (suc n) h = later (within-back P xs n h)
+  where
+    later : AllWithin P xs n (length xs) → AllWithin P (x ∷ xs) (suc n) (length (x ∷ xs))
+    later g zero d a b = absurd (omega arith)
+    later g (suc k) d a b = g k d (omega arith) (omega arith)
+
+pub at_index : {X : Type 0} (xs : List X) (i : ℕ) (x d : X) → Some x ≡ slice_get xs i → get_or xs i d ≡ x
+at_index [] i x d e = absurd cc
+at_index (y ∷ ys) zero x d e = cc
+at_index (y ∷ ys) (suc i) x d e = at_index ys i x d e

@@ -1,10 +1,10 @@
 -- The versions of a key stand together in the stored order, the larger timestamps first.
-use Rattle.std.proofs.Common.{◌≡◌, ℕ, zero, suc, ◌+◌, ◌<◌, ◌≤◌, Bool, true, false, not, ◌&&◌, cond, List, [], ◌∷◌, length, get_or, take, drop, map, Option, Some, None, refl, sym, ap, subst, ◌∙◌, ◌⊎◌, inl, inr, arith}
-use Rattle.std.specs.Prelude.{find, nat_le, nat_lt, ◌==◌, ◌||◌}
+use Rattle.std.proofs.Common.{◌≡◌, ℕ, zero, suc, ◌+◌, ◌-◌, ◌<◌, ◌≤◌, Bool, true, false, not, ◌&&◌, cond, List, [], ◌∷◌, length, get_or, take, drop, map, Option, Some, None, refl, sym, ap, subst, ◌∙◌, ◌⊎◌, inl, inr, arith}
+use Rattle.std.specs.Prelude.{find, slice_get, nat_le, nat_lt, ◌==◌, ◌||◌}
 use Rattle.std.specs.List.{AllByRecursion, AllWithin}
 use Rattle.std.specs.List.Sorted.{IsPartitionedBy}
 use Rattle.std.specs.Str.{bytes_eq}
-use Rattle.std.specs.Ordering.{is_lt, nat_cmp}
+use Rattle.std.specs.Ordering.{is_ge, is_lt, nat_cmp}
 use Rattle.std.specs.Cmp.Lexicographic.{slice_cmp, nat_list_cmp_total}
 use Rattle.std.specs.declared.cmp.Ordering.{Ordering}
 use Rattle.std.specs.declared.cmp.Ordering.TheVariants.{Less, Equal, Greater}
@@ -17,6 +17,7 @@ use Rattle.ts_key.specs.Orders.{is_Less}
 use Rattle.ts_key.specs.Items.{item_of, items_of}
 use Rattle.ts_key.specs.Lists.{IsOrdered}
 use Rattle.ts_key.specs.Firsts.{slice_self, key_upto, later_not_newer}
+use Rattle.sorted_run.proofs.Finds.{at_index}
 use Rattle.sorted_run.specs.Runs.{is_below, has_key, sees, stamps_of}
 
 abbrev sort_key : Version → SortKey
@@ -125,3 +126,21 @@ ordered-take (v ∷ vs) (suc n) so = (all-take (λ w. is_before w.sort_key (sort
     all-take P vs zero h = tt
     all-take P [] (suc n) h = tt
     all-take P (v ∷ vs) (suc n) h = (h.0, all-take P vs n h.1)
+
+-- ---- what the ends tell
+
+not_ge : (o : Ordering) → is_ge o ≡ true → is_lt o ≡ false
+not_ge Less e = absurd cc
+not_ge Equal e = refl
+not_ge Greater e = refl
+
+pub all_below : (key : List ℕ) (vs : List Version) (v : Version) → IsOrdered (items_of vs) → Some v ≡ slice_get vs (length vs - 1) → is_lt (slice_cmp nat_cmp v.key key) ≡ true → AllWithin (λ w. is_below key w ≡ true) vs 0 (length vs)
+all_below key vs v so e h k d l m = below_parts key vs so k (length vs - 1) d (omega (arith, m)) (omega (arith, m)) (ap (is_below key) (at_index vs (length vs - 1) v d e) ∙ h)
+
+pub none_below : (key : List ℕ) (vs : List Version) (v : Version) → IsOrdered (items_of vs) → Some v ≡ slice_get vs 0 → is_ge (slice_cmp nat_cmp v.key key) ≡ true → AllWithin (λ w. is_below key w ≡ false) vs 0 (length vs)
+none_below key vs v so e h k d l m =
+    not_so (is_below key (get_or vs k d)) (λ y. both (is_below key v) (ap (is_below key) (sym (at_index vs 0 v d e)) ∙ below_parts key vs so 0 k d (omega arith) m y) (not_ge (slice_cmp nat_cmp v.key key) h))
+
+pub none_of_key : (key : List ℕ) (vs : List Version) (v : Version) → IsOrdered (items_of vs) → AllWithin (λ w. is_below key w ≡ false) vs 0 (length vs) → Some v ≡ slice_get vs 0 → has_key key v ≡ false → AllWithin (λ w. has_key key w ≡ false) vs 0 (length vs)
+none_of_key key vs v so from e h k d l m =
+    not_so (has_key key (get_or vs k d)) (λ y. both (has_key key v) (ap (has_key key) (sym (at_index vs 0 v d e)) ∙ key_parts key vs so from 0 k d (omega arith) m y) h)

@@ -12,7 +12,7 @@ use Rattle.ts_key.specs.Visible.{is_of, newest_ts}
 use Rattle.ts_key.specs.Firsts.{newest_is_first}
 use Rattle.sorted_run.specs.Runs.{first_seen, has_key, is_below, sees, stamps_of}
 use Rattle.sorted_run.proofs.Finds.{find-drop, find_none, find-take, find_alike, find_items, head_none, head_some, drop_past, option_map-twice}
-use Rattle.sorted_run.proofs.Keys.{below_other, key_parts, other_unseen, above_unseen, upto_seen, stamps_fall, ordered-take}
+use Rattle.sorted_run.proofs.Keys.{below_other, key_parts, none_of_key, other_unseen, above_unseen, upto_seen, stamps_fall, ordered-take}
 
 -- ---- where a search of numbers ends
 
@@ -111,6 +111,10 @@ module _ (key : List ℕ) (t s : ℕ) where
   -- from the key on
   pub from_key : (vs : List Version) (n : ℕ) → AllWithin (λ v. is_below key v ≡ true) vs 0 n → first_seen (drop n vs) key t s ≡ first_seen vs key t s
   from_key vs n below = find-drop seen vs n (λ k d l m. other_unseen key t s (get_or vs k d) (below_other key (get_or vs k d) (below k d l m)))
+
+  -- where the first version from the key on is of another key
+  pub none_there : (vs : List Version) (v : Version) → IsOrdered (items_of vs) → AllWithin (λ v. is_below key v ≡ false) vs 0 (length vs) → Some v ≡ slice_get vs 0 → has_key key v ≡ false → first_seen vs key t s ≡ None
+  none_there vs v so from e h = find_none seen vs (λ k d l m. other_unseen key t s (get_or vs k d) (none_of_key key vs v so from e h k d l m))
 
 -- ---- the newest of a key
 

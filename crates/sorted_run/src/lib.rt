@@ -4,6 +4,7 @@
 //! of its key and its value.
 #![tactic(auto)]
 
+mod hints;
 mod merging;
 mod run;
 mod search;

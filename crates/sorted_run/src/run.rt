@@ -7,6 +7,7 @@ ghost use Rattle.ts_key.specs.Visible.{newest_ts, visible};
 ghost use Rattle.sorted_run.specs.Runs.{latest_of, stamps_of};
 ghost use Rattle.sorted_run.specs.Sorts.{sorted as sorted_versions};
 
+use crate::hints::Hints;
 use crate::steps::Steps;
 use crate::{merging, search};
 use std::alloc::Global;
@@ -21,6 +22,7 @@ pub struct Run {
     versions: Vec<Version>,
     stamps: Vec<u64>,
     latest: u64,
+    hints: Hints,
 }
 
 impl Model for Run {
@@ -48,10 +50,12 @@ impl Run {
             stamps.push(v.ts.0)?;
             latest = latest.max(v.ts.0);
         }
+        let hints = Hints::of(alloc, &versions)?;
         Ok(Run {
             versions,
             stamps,
             latest,
+            hints,
         })
     }
 
@@ -75,7 +79,14 @@ impl Run {
         ensures visible { option_map item_of (option_copied result) ≡ visible (items_of self.now) key.now t.0 s.0 }
         ensures among { IfSome result (λ v. Contains self.now v.now) }
     {
-        search::find_in(&self.versions, &self.stamps, key, t, s)
+        search::find_in(
+            &self.versions,
+            &self.stamps,
+            self.hints.place_of(key),
+            key,
+            t,
+            s,
+        )
     }
 
     /// As `find`, in one step.
@@ -98,7 +109,7 @@ impl Run {
     pub fn newest(&self, key: &[u8]) -> Option<Ts>
         ensures { option_map (λ ts. ts.0) result ≡ newest_ts (items_of self.now) key.now }
     {
-        search::newest_in(&self.versions, key)
+        search::newest_in(&self.versions, self.hints.place_of(key), key)
     }
 
     /// The versions, in the stored order.
@@ -118,6 +129,7 @@ impl Run {
             versions,
             stamps: _stamps,
             latest: _,
+            hints: _hints,
         } = self;
         versions
     }

@@ -3,7 +3,7 @@
 
 ghost use Rattle.std.specs.Prelude.{◌≡◌, ◌-◌, ◌^◌, min, map};
 ghost use Rattle.std.specs.List.Sorted.{IsPermutation};
-ghost use Rattle.collection_laws.specs.Places.{AreApart, AreOrdered};
+ghost use Rattle.collection_laws.specs.Places.{AreApart, AreSortedByPlace};
 ghost use Rattle.udt_model.specs.Collecting as collecting;
 
 use ts_key::{Ts, Version, compare};
@@ -21,7 +21,7 @@ fn clear_timestamps(versions: &mut Vec<Version>)
 /// result is fixed. It takes no memory, and the time of a sort.
 pub fn strip_versions(versions: &mut Vec<Version>)
     ensures stripped { AreApart (map collecting.without_ts versions.old.items) → versions.new.items ≡ collecting.stripped versions.old.items }
-    ensures ordered { AreOrdered versions.new.items }
+    ensures ordered { AreSortedByPlace versions.new.items }
     ensures same { IsPermutation (map collecting.without_ts versions.old.items) versions.new.items }
 {
     clear_timestamps(versions);

@@ -16,6 +16,11 @@ abbrev pub settled_before : Option FileData → Image
 settled_before None = None
 settled_before (Some f) = Some (settled f.bytes.items (reverse f.calls.items))
 
+-- what stood under a name before its file was made, and stands there again where that file is lost
+abbrev pub image_before : Option Entry → Image
+image_before None = None
+image_before (Some e) = settled_before e.before
+
 -- a file that was created or emptied and not synced is lost, and what stood there before is back
 abbrev pub lost_birth : Bool → Bool → Image → List ℕ → Image
 lost_birth may_miss may_differ None now = cond may_miss None (Some now)

@@ -10,7 +10,7 @@ use Rattle.udt_disk.specs.declared.name.FileName.{FileName}
 use Rattle.udt_disk.specs.declared.tree.Place.{Place}
 use Rattle.udt_disk.specs.declared.tree.Place.TheVariants.{Out}
 use Rattle.udt_disk.specs.declared.outcome.Outcome.TheVariants.{Lost}
-use Rattle.udt_disk.specs.Crashed.{entry_crash}
+use Rattle.udt_disk.specs.Crashed.{image_before, entry_crash}
 use Rattle.udt_disk.specs.declared.directory.Directory.{Directory}
 use Rattle.udt_disk.specs.declared.directory.Late.{Late, Never, After'}
 use Rattle.udt_disk.specs.Late.{late_long, late_since}
@@ -49,10 +49,15 @@ pub record Moved (name : FileName) (place : Place) (old new : Directory) : Type 
   pub same_long : long new ≡ long old
   pub same_since : (n : FileName) → since new n ≡ since old n
 
--- the name has an entry where its file is held, which keeps what it may leave once that file is lost
+-- what stands under a name again where its file is lost
+abbrev pub comes_back : Directory → FileName → Image
+comes_back dir n = image_before (entry_of dir.tree n)
+
+-- the file of the name is held, and what stood there comes back where that file is lost
 pub record Made (name : FileName) (old new : Directory) : Type 0 where
   pub moved : Moved name Out old new
-  pub lost : entry_crash Lost (entry_of new.tree name) ≡ entry_crash Lost (entry_of old.tree name)
+  pub back : comes_back new name ≡ entry_crash Lost (entry_of old.tree name)
+  pub back_others : (n : FileName) → n ≢ name → comes_back new n ≡ comes_back old n
 
 -- nothing stands under the name, and a crash leaves nothing there or what it may have left before
 pub record Removed (name : FileName) (old new : Directory) : Type 0 where

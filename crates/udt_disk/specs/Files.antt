@@ -1,5 +1,5 @@
 -- What stands at the place of a file in memory, and what a crash may leave of it.
-use Rattle.std.specs.Prelude.{◌≡◌, ◌⊎◌, ℕ, Bool, ⊤, List, [], reverse, Option, Some, None, IsTrue}
+use Rattle.std.specs.Prelude.{◌≡◌, ◌⊎◌, ℕ, Bool, false, ⊤, List, [], reverse, Option, Some, None, IsTrue}
 use Rattle.std.specs.Borrow.{Bor}
 use Rattle.std.proofs.Common.{refl, inl}
 use Rattle.udt_disk.specs.Crash.{Image}
@@ -65,6 +65,8 @@ pub record IsFresh (asked : FileName) (f : FileData) (may_miss may_differ : Bool
   pub was_emptied : f.emptied ≡ emptied
   pub calls : f.calls.items ≡ []
   pub empty : f.bytes.items ≡ []
+  pub unsettled : f.is_settled ≡ false
+  pub unused : f.uses ≡ 0
   pub no_trouble : f.troubled ≡ 0
   pub no_want : f.starved ≡ 0
 
@@ -75,6 +77,9 @@ pub record IsGiven (asked : FileName) (was f : FileData) : Type 0 where
   pub calls : f.calls.items ≡ was.calls.items
   pub miss : f.may_miss ≡ was.may_miss
   pub differ : f.may_differ ≡ was.may_differ
+  pub emptied : f.emptied ≡ was.emptied
+  pub is_settled : f.is_settled ≡ was.is_settled
+  pub unused : f.uses ≡ 0
   pub no_trouble : f.troubled ≡ 0
   pub no_want : f.starved ≡ 0
 

@@ -1,11 +1,11 @@
 -- What a host in memory tells.
-use Rattle.std.specs.Prelude.{◌≡◌, ℕ, Bool, true, List, Option, Some, None, option_map, is_some, position}
+use Rattle.std.specs.Prelude.{◌≡◌, ℕ, Bool, true, List, [], Option, Some, None, option_map, is_some, position}
 use Rattle.udt_disk.specs.Crash.{Image}
 use Rattle.udt_disk.specs.Causes.{plus_faults}
 use Rattle.udt_disk.specs.Opens.{Standing}
-use Rattle.udt_disk.specs.OpensFolder.{Holding}
+use Rattle.udt_disk.specs.OpensFolder.{Holding, MayStay}
 use Rattle.udt_disk.specs.Files.{place_stands}
-use Rattle.udt_disk.specs.Directory.{NameLeaves, place_at}
+use Rattle.udt_disk.specs.Directory.{NameLeaves, name_stays, place_at}
 use Rattle.udt_disk.specs.Memory.{Reading}
 use Rattle.udt_disk.specs.Places.{has_path, stands_in, source_of, folder_of}
 use Rattle.udt_disk.specs.declared.name.FileName.{FileName}
@@ -25,12 +25,14 @@ pub record IsOpening (opened stood : MemDisk) : Type 0 where
   pub stands : (n : FileName) → contents_of opened n ≡ contents_of stood n
   pub clean : (n : FileName) (c : Image) → NameLeaves opened.directory n c → c ≡ contents_of opened n
   pub faults : faults_of opened ≡ faults_of stood
+  pub troubles : opened.troubles.items ≡ stood.troubles.items
 
--- a new folder is empty and clean, and its count is 0
+-- a new folder is empty and clean, its count is 0, and nothing is to go wrong in it
 pub record IsNewFolder (disk : MemDisk) : Type 0 where
   pub stands : (n : FileName) → contents_of disk n ≡ None
   pub clean : (n : FileName) (c : Image) → NameLeaves disk.directory n c → c ≡ contents_of disk n
   pub faults : faults_of disk ≡ 0
+  pub troubles : disk.troubles.items ≡ []
 
 -- the source that stands under a path
 abbrev pub source_at : MemHost → List ℕ → Option Reading
@@ -51,6 +53,11 @@ folder_standing host path = Some (option_map contents_of (folder_in host path))
 abbrev pub leaves_of : Option MemDisk → FileName → Image → Type 0
 leaves_of None n c = ⊥
 leaves_of (Some disk) n c = NameLeaves disk.directory n c
+
+-- what stands there is one of the images
+pub folder_stays : (folder : Option MemDisk) → MayStay (Some (option_map contents_of folder)) (leaves_of folder)
+folder_stays None = tt
+folder_stays (Some disk) = λ n. name_stays disk.directory n
 
 abbrev pub folder_leaves : MemHost → List ℕ → FileName → Image → Type 0
 folder_leaves host path = leaves_of (folder_in host path)

@@ -12,6 +12,12 @@ abbrev pub IsNoFolder : Holding → Type 0
 IsNoFolder None = ⊤
 IsNoFolder (Some folder) = folder ≡ None
 
+-- a crash may leave what stands under the names of the folder that is told
+abbrev pub MayStay : Holding → (FileName → Image → Type 0) → Type 0
+MayStay None leaves = ⊤
+MayStay (Some None) leaves = ⊤
+MayStay (Some (Some folder)) leaves = (n : FileName) → leaves n (folder n)
+
 -- what stands there once the folder is taken out
 abbrev pub without_folder : Holding → Holding
 without_folder None = None

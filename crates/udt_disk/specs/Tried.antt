@@ -1,5 +1,5 @@
 -- When a call of a file or a folder in memory fails, and that it then changes nothing but counts.
-use Rattle.std.specs.Prelude.{◌≡◌, ◌&&◌, ◌++◌, ◌∷◌, [], ℕ, Bool, List, Vec, length, take, drop, not, if◌then◌else◌, map, IsTrue, IsErr, is_err, OnErr, Result}
+use Rattle.std.specs.Prelude.{◌≡◌, ◌&&◌, ◌++◌, ◌∷◌, [], ℕ, Bool, true, List, Vec, length, take, drop, not, if◌then◌else◌, map, IsTrue, IsErr, is_err, OnErr, Result}
 use Rattle.std.specs.List.{list_any}
 use Rattle.udt_disk.specs.Causes.{plus_faults}
 use Rattle.udt_disk.specs.Troubles.{is_due, counted_by}
@@ -38,6 +38,8 @@ pub record IsWritten (at : ℕ) (bytes : List ℕ) (old new : FileData) : Type 0
   pub noted : (over : Vec ℕ Global) × (over.items ≡ take (length bytes) (drop at old.bytes.items)) × (new.calls.items ≡ old.calls.items ++ Wrote at (length bytes) over ∷ [])
   pub miss : new.may_miss ≡ old.may_miss
   pub differ : new.may_differ ≡ old.may_differ
+  pub emptied : new.emptied ≡ old.emptied
+  pub is_settled : new.is_settled ≡ old.is_settled
 
 -- a sync was noted
 pub record IsSynced (old new : FileData) : Type 0 where
@@ -45,6 +47,8 @@ pub record IsSynced (old new : FileData) : Type 0 where
   pub noted : new.calls.items ≡ old.calls.items ++ Synced ∷ []
   pub miss : new.may_miss ≡ old.may_miss
   pub differ : new.may_differ ≡ old.may_differ
+  pub emptied : new.emptied ≡ old.emptied
+  pub is_settled : new.is_settled ≡ true
 
 -- a call of a folder on a name
 pub record FolderTried {T E : Type 0} (name : FileName) (old new : MemDisk) (result : Result T E) : Type 0 where

@@ -1,6 +1,6 @@
 //! The names of a folder in memory, with what stands under each and what a crash may leave there.
 
-ghost use Rattle.std.specs.Prelude.{◌≡◌, ◌≢◌, ◌<◌, ◌≤◌, ℕ, ◌+◌, Option, Some, None, IfSome, IfNone, IfOk};
+ghost use Rattle.std.specs.Prelude.{◌≡◌, ◌≢◌, ◌<◌, ◌≤◌, ℕ, ◌+◌, if◌then◌else◌, Option, Some, None, IfSome, IfNone, IfOk};
 ghost use Rattle.udt_disk.specs.declared.name.FileName.{FileName as NameOf};
 ghost use Rattle.udt_disk.specs.declared.tree.Place.TheVariants.{Home, Out};
 ghost use Rattle.udt_disk.specs.Tree.{entry_of, place_of, early};
@@ -58,11 +58,12 @@ impl Room {
 }
 
 impl Directory {
-    ghost use Rattle.udt_disk.specs.Directory.{Put, Moved, Removed, Same, Made, NameLeaves, place_at};
+    ghost use Rattle.udt_disk.specs.Directory.{Put, Moved, Removed, Same, Made, NameLeaves, comes_back, place_at};
     ghost use Rattle.udt_disk.specs.AfterCrash.{IsReopened};
 
     pub(crate) fn new() -> Directory
-        ensures { (n : NameOf) → place_at result n ≡ None }
+        ensures places { (n : NameOf) → place_at result n ≡ None }
+        ensures back { (n : NameOf) → comes_back result n ≡ None }
     {
         Directory {
             tree: Tree::Empty,
@@ -109,6 +110,7 @@ impl Directory {
         ensures taken { IfSome result (λ f. (place_at self.old name ≡ Some (Home f)) × Moved name Out self.old self.new) }
         ensures missing { IfNone result (place_stands (place_at self.old name) ≡ None) }
         ensures same { IfNone result (Same self.old self.new) }
+        ensures back { (n : NameOf) → comes_back self.new n ≡ comes_back self.old n }
     {
         let (entry, file) = self.tree.exchange(Entry::new(name))?.take_out();
         self.tree.exchange(entry);
@@ -117,7 +119,8 @@ impl Directory {
 
     /// Removes the file of a name, which may come back.
     pub(crate) fn remove(&mut self, name: FileName)
-        ensures { Removed name self.old self.new }
+        ensures removed { Removed name self.old self.new }
+        ensures back { (n : NameOf) → comes_back self.new n ≡ comes_back self.old n }
     {
         if let Some(entry) = self.tree.exchange(Entry::new(name)) {
             self.tree.exchange(entry.remove());
@@ -126,7 +129,9 @@ impl Directory {
 
     /// Puts a file back under a name, in the room that is given.
     pub(crate) fn put_back(&mut self, name: FileName, file: FileData, room: Room)
-        ensures { Put name (Home file) self.old self.new }
+        ensures put { Put name (Home file) self.old self.new }
+        ensures back { comes_back self.new name ≡ (if file.is_settled then None else comes_back self.old name) }
+        ensures back_others { (n : NameOf) → n ≢ name → comes_back self.new n ≡ comes_back self.old n }
     {
         let Room { fork, late } = room;
         let since = count_return(&mut self.returns, &mut self.late, name, late);

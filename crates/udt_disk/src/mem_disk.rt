@@ -1,6 +1,6 @@
 //! Folders and their files in memory.
 
-ghost use Rattle.std.specs.Prelude.{◌≡◌, ◌≢◌, ◌⊎◌, ◌↔◌, IsErr, IsTrue, IfNone, OnSome, ℕ, ◌+◌, ◌-◌, ◌^◌, ◌≤◌, length, take, drop, true, List, reverse, Option, Some, None, IfOk, IfSome, OnOk, OnErr, MatchOption};
+ghost use Rattle.std.specs.Prelude.{◌≡◌, ◌≢◌, ◌⊎◌, ◌↔◌, [], if◌then◌else◌, IsErr, IsTrue, IfNone, OnSome, ℕ, ◌+◌, ◌-◌, ◌^◌, ◌≤◌, length, take, drop, true, List, reverse, Option, Some, None, IfOk, IfSome, OnOk, OnErr, MatchOption};
 ghost use Rattle.std.proofs.Common.{refl, inl};
 ghost use Rattle.udt_disk.specs.Causes.{plus_faults};
 ghost use Rattle.udt_disk.specs.History.{LeftSince, counts_since, only_since};
@@ -143,7 +143,7 @@ impl MemDisk {
     ghost use Rattle.std.specs.Prelude.{map};
     ghost use Rattle.udt_disk.specs.Folder.{opened};
     ghost use Rattle.udt_disk.specs.Files.{IsGiven};
-    ghost use Rattle.udt_disk.specs.Directory.{Put, Moved, Removed, Same};
+    ghost use Rattle.udt_disk.specs.Directory.{Put, Moved, Removed, Same, comes_back};
     ghost use Rattle.udt_disk.specs.declared.mem_file.FileData.{FileData as DataOf};
 
     /// An empty folder, with what is to go wrong in it.
@@ -151,6 +151,8 @@ impl MemDisk {
         ensures empty { IfOk result (λ d. (n : NameOf) → ⟦<MemDisk as Disk>⟧.stands d n ≡ None) }
         ensures clean { IfOk result (λ d. (n : NameOf) (c : Image) → ⟦<MemDisk as Disk>⟧.may_leave d n c → c ≡ None) }
         ensures faults { IfOk result (λ d. ⟦<MemDisk as Disk>⟧.faults d ≡ 0) }
+        ensures back { IfOk result (λ d. (n : NameOf) → comes_back d.directory n ≡ None) }
+        ensures troubles { IfOk result (λ d. d.troubles.items ≡ troubles.items) }
     {
         Ok(MemDisk {
             alloc,
@@ -169,6 +171,7 @@ impl MemDisk {
         ensures outcome { IfOk result (λ d. (n : NameOf) → ⟦<MemDisk as Disk>⟧.stands d n ≡ left_by outcome self n) }
         ensures clean { IfOk result (λ d. (n : NameOf) (c : Image) → ⟦<MemDisk as Disk>⟧.may_leave d n c → c ≡ ⟦<MemDisk as Disk>⟧.stands d n) }
         ensures faults { IfOk result (λ d. ⟦<MemDisk as Disk>⟧.faults d ≡ 0) }
+        ensures troubles { IfOk result (λ d. d.troubles.items ≡ []) }
     {
         Ok(MemDisk {
             alloc,
@@ -186,6 +189,7 @@ impl MemDisk {
         ensures file { IfOk result (λ f. IsFresh name f.data f.data.may_miss f.data.may_differ (emptied_by (place_at self.old.directory name))) }
         ensures birth { IfOk result (λ f. LeavesBirth f.data.may_miss f.data.may_differ (NameLeaves self.old.directory name)) }
         ensures made { OnOk result (Made name self.old.directory self.new.directory) }
+        ensures troubles { IfOk result (λ f. f.data.troubles.items ≡ self.new.troubles.items) }
     {
         if count_call(&mut self.troubles, name) {
             self.troubled = self.troubled.saturating_add(1);
@@ -207,6 +211,8 @@ impl MemDisk {
         ensures held { OnSome (opened result) (Moved name Out self.old.directory self.new.directory) }
         ensures missing { IfOk result (λ o. IfNone o (place_stands (place_at self.old.directory name) ≡ None)) }
         ensures same { IfOk result (λ o. IfNone o (Same self.old.directory self.new.directory)) }
+        ensures back { (n : NameOf) → comes_back self.new.directory n ≡ comes_back self.old.directory n }
+        ensures troubles { IfSome (opened result) (λ f. f.data.troubles.items ≡ self.new.troubles.items) }
     {
         if count_call(&mut self.troubles, name) {
             self.troubled = self.troubled.saturating_add(1);
@@ -236,6 +242,7 @@ impl MemDisk {
         ensures tried { FolderTried name self.old self.new result }
         ensures exactly { IsErr result ↔ IsTrue (list_any (is_due name) self.old.troubles.items) }
         ensures removed { OnOk result (Removed name self.old.directory self.new.directory) }
+        ensures back { (n : NameOf) → comes_back self.new.directory n ≡ comes_back self.old.directory n }
     {
         if count_call(&mut self.troubles, name) {
             self.troubled = self.troubled.saturating_add(1);
@@ -248,6 +255,9 @@ impl MemDisk {
     /// `Disk::retire`. It takes no memory and never fails, and has no number of its own: the calls of the file count now.
     pub fn retire(&mut self, file: MemFile)
         ensures put { Put file.data.name (Home file.data) self.old.directory self.new.directory }
+        // What stood there before the file was made comes back where it is lost, until it is synced.
+        ensures back { comes_back self.new.directory file.data.name ≡ (if file.data.is_settled then None else comes_back self.old.directory file.data.name) }
+        ensures back_others { (n : NameOf) → n ≢ file.data.name → comes_back self.new.directory n ≡ comes_back self.old.directory n }
         ensures given_back { self.new.given_back ≡ plus_faults self.old.given_back (plus_faults file.data.troubled file.data.starved) }
         ensures troubled { self.new.troubled ≡ self.old.troubled }
         ensures starved { folder_starved self.new ≡ folder_starved self.old }
@@ -273,6 +283,7 @@ impl MemDisk {
         ensures stands { (n : NameOf) → ⟦<MemDisk as Disk>⟧.stands self.new n ≡ ⟦<MemDisk as Disk>⟧.stands self.old n }
         ensures only { (n : NameOf) (c : Image) → ⟦<MemDisk as Disk>⟧.may_leave self.new n c → c ≡ ⟦<MemDisk as Disk>⟧.stands self.new n }
         ensures faults { ⟦<MemDisk as Disk>⟧.faults self.new ≡ ⟦<MemDisk as Disk>⟧.faults self.old }
+        ensures troubles { self.new.troubles.items ≡ self.old.troubles.items }
     {
         self.directory.clean();
     }
@@ -301,7 +312,8 @@ fn new_file(
     birth: Birth,
     troubles: &[Trouble],
 ) -> Result<MemFile, NoMemory>
-    ensures { IfOk result (λ f. IsFresh name f.data birth.may_miss birth.may_differ birth.emptied) }
+    ensures fresh { IfOk result (λ f. IsFresh name f.data birth.may_miss birth.may_differ birth.emptied) }
+    ensures troubles { IfOk result (λ f. f.data.troubles.items ≡ troubles.now) }
 {
     let room = Room::new(alloc)?;
     let data = FileData {
@@ -332,6 +344,7 @@ fn create_in(
     ensures birth { IfOk result (λ f. LeavesBirth f.data.may_miss f.data.may_differ (NameLeaves directory.old name)) }
     ensures made { OnOk result (Made name directory.old directory.new) }
     ensures err { OnErr result (directory.new ≡ directory.old) }
+    ensures troubles { IfOk result (λ f. f.data.troubles.items ≡ troubles.now) }
 {
     let file = new_file(alloc, name, directory.birth(name), troubles)?;
     directory.create(name, new_fork(alloc)?);
@@ -339,7 +352,9 @@ fn create_in(
 }
 
 /// What a file needs to be given out: the room to be given back in, and what is to go wrong.
-fn outfit(alloc: Global, troubles: &[Trouble]) -> Result<(Room, Vec<Trouble>), NoMemory> {
+fn outfit(alloc: Global, troubles: &[Trouble]) -> Result<(Room, Vec<Trouble>), NoMemory>
+    ensures { IfOk result (λ o. o.1.items ≡ troubles.now) }
+{
     Ok((Room::new(alloc)?, Vec::from_slice(alloc, troubles)?))
 }
 

@@ -1,6 +1,7 @@
 //! Hosts in memory: what stands under their paths.
 
-ghost use Rattle.std.specs.Prelude.{◌≡◌, ◌≢◌, ◌<◌, ◌≤◌, ℕ, List, Option, Some, None, IsTrue, IsSome, IfOk, IfSome, MatchOption, OnOk, OnErr, OnSome, if◌then◌else◌, is_err, length, position, slice_index_or, slice_set};
+ghost use Rattle.std.specs.Prelude.{◌≡◌, ◌≢◌, ◌<◌, ◌≤◌, ℕ, List, Option, Some, None, IsTrue, IsSome, IfOk, IfNone, IfSome, MatchOption, OnOk, OnErr, OnSome, if◌then◌else◌, is_err, length, position, slice_index_or, slice_set};
+ghost use Rattle.std.proofs.Common.{refl};
 ghost use Rattle.udt_disk.specs.Causes.{HasCause, plus_faults};
 ghost use Rattle.udt_disk.specs.Places.{has_path, stands_in, kind_in, source_of, folder_of, with_stands};
 ghost use Rattle.udt_disk.specs.Hosting.{IsOpening, IsNewFolder};
@@ -242,7 +243,7 @@ impl MemHost {
 }
 
 impl Host for MemHost {
-    ghost use Rattle.udt_disk.specs.Hosting.{source_at, source_standing, folder_standing, folder_leaves, has_place, keeps_model, given_back_to, starved_in};
+    ghost use Rattle.udt_disk.specs.Hosting.{source_at, folder_in, folder_stays, source_standing, folder_standing, folder_leaves, has_place, keeps_model, given_back_to, starved_in};
     ghost use Rattle.udt_disk.specs.Opens.{Opens, StaysBut};
     ghost use Rattle.udt_disk.specs.OpensFolder.{OpensFolder, KeepsFolders, KeepsFoldersBut, LeavesNoMore, LeavesNoMoreBut};
     ghost use Rattle.udt_disk.specs.Folder.{opened};
@@ -265,6 +266,10 @@ impl Host for MemHost {
 
     ghost faults = { λ h. plus_faults h.given_back h.starved };
 
+    ghost model_tells = { λ _ _ _. refl };
+
+    ghost now_stays = { λ h path _. folder_stays (folder_in h path) };
+
     /// Fails only for want of memory, of which a folder that stands there needs none.
     fn open_folder(&mut self, path: &Text, make: bool) -> Result<Option<MemDisk>, Failed>
         ensures opens { OpensFolder (⟦<MemDisk as Disk>⟧.is_told) (⟦<MemDisk as Disk>⟧.faults) (⟦<MemDisk as Disk>⟧.stands) (folder_standing self.old) (folder_standing self.new) path.now make result }
@@ -272,6 +277,7 @@ impl Host for MemHost {
         ensures place { OnSome (opened result) (IsTrue (has_place self.new path.now)) }
         ensures folder_model { IfSome (opened result) (λ d. ⟦<MemDisk as Disk>⟧.keeps_model d ≡ keeps_model self.old) }
         ensures leaves { LeavesNoMoreBut path.now (folder_leaves self.old) (folder_leaves self.new) }
+        ensures stays_crash { IfNone (opened result) (LeavesNoMore (folder_leaves self.old) (folder_leaves self.new)) }
         ensures sources { (p : List ℕ) → source_standing self.new p ≡ source_standing self.old p }
         ensures places { (p : List ℕ) → IsTrue (has_place self.old p) → IsTrue (has_place self.new p) }
         ensures model { keeps_model self.new ≡ keeps_model self.old }
@@ -315,7 +321,7 @@ impl Host for MemHost {
     fn open_source(&mut self, path: &Text) -> Result<Option<MemSource>, Failed>
         ensures opens { Opens (λ s. Some s.left) (source_standing self.old) (source_standing self.new) path.now result }
         ensures folders { KeepsFolders (folder_standing self.old) (folder_standing self.new) }
-        ensures leaves { LeavesNoMoreBut path.now (folder_leaves self.old) (folder_leaves self.new) }
+        ensures leaves { LeavesNoMore (folder_leaves self.old) (folder_leaves self.new) }
         ensures places { (p : List ℕ) → IsTrue (has_place self.old p) → IsTrue (has_place self.new p) }
         ensures model { keeps_model self.new ≡ keeps_model self.old }
         ensures cause { HasCause (plus_faults (given_back_to self.old) (starved_in self.old)) (plus_faults (given_back_to self.new) (starved_in self.new)) result }

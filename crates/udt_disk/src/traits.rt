@@ -1,12 +1,12 @@
 //! The traits of sources, sinks and hosts.
 
-ghost use Rattle.std.specs.Prelude.{◌≡◌, ◌≤◌, ℕ, Bool, List, Option, Some, IsTrue, IsSome, IfSome, OnSome, is_some};
+ghost use Rattle.std.specs.Prelude.{◌≡◌, ◌≤◌, ℕ, Bool, List, Option, Some, IsTrue, IsSome, IfNone, IfSome, OnSome, is_some};
 ghost use Rattle.std.specs.Io.{ReadsAtMost};
 ghost use Rattle.std.specs.Io.KnownBytes.{ReadConsumes, WriteAppends};
 ghost use Rattle.udt_disk.specs.Causes.{HasCause, plus_faults};
 ghost use Rattle.udt_disk.specs.Flows.{TakesSome};
 ghost use Rattle.udt_disk.specs.Opens.{Standing, Opens, StaysBut};
-ghost use Rattle.udt_disk.specs.OpensFolder.{Holding, OpensFolder, KeepsFolders, KeepsFoldersBut, LeavesNoMore, LeavesNoMoreBut};
+ghost use Rattle.udt_disk.specs.OpensFolder.{Holding, MayStay, OpensFolder, KeepsFolders, KeepsFoldersBut, LeavesNoMore, LeavesNoMoreBut};
 ghost use Rattle.udt_disk.specs.Folder.{opened};
 ghost use Rattle.udt_disk.specs.Crash.{Image, NoMore};
 ghost use Rattle.udt_disk.specs.declared.name.FileName.{FileName as NameOf};
@@ -85,6 +85,7 @@ pub trait Host {
         ensures place { OnSome (opened result) (IsTrue (has_place self.new path.now)) }
         ensures folder_model { IfSome (opened result) (λ d. Self.Folder.keeps_model d ≡ keeps_model self.old) }
         ensures leaves { LeavesNoMoreBut path.now (leaves_at self.old) (leaves_at self.new) }
+        ensures stays_crash { IfNone (opened result) (LeavesNoMore (leaves_at self.old) (leaves_at self.new)) }
         ensures sources { (p : List ℕ) → standing self.new p ≡ standing self.old p }
         ensures places { (p : List ℕ) → IsTrue (has_place self.old p) → IsTrue (has_place self.new p) }
         ensures model { keeps_model self.new ≡ keeps_model self.old }
@@ -108,7 +109,7 @@ pub trait Host {
     fn open_source(&mut self, path: &Text) -> Result<Option<Self::Input>, Failed>
         ensures opens { Opens (Self.Input.left) (standing self.old) (standing self.new) path.now result }
         ensures folders { KeepsFolders (folder_at self.old) (folder_at self.new) }
-        ensures leaves { LeavesNoMoreBut path.now (leaves_at self.old) (leaves_at self.new) }
+        ensures leaves { LeavesNoMore (leaves_at self.old) (leaves_at self.new) }
         ensures places { (p : List ℕ) → IsTrue (has_place self.old p) → IsTrue (has_place self.new p) }
         ensures model { keeps_model self.new ≡ keeps_model self.old }
         ensures cause { HasCause (faults self.old) (faults self.new) result };
@@ -122,4 +123,10 @@ pub trait Host {
         ensures model { keeps_model self.new ≡ keeps_model self.old }
         ensures faults { faults self.new ≡ plus_faults (faults self.old) (Self.Input.faults input) }
         ensures later { faults self.old ≤ faults self.new };
+
+    /// A host whose folders keep the model tells what folder stands under each path.
+    ghost model_tells: { (host : Self) (path : List ℕ) → IsTrue (keeps_model host) → IsSome (folder_at host path) };
+
+    /// What stands under the names of a folder now is one of the images that a crash may leave there now.
+    ghost now_stays: { (host : Self) (path : List ℕ) → IsTrue (keeps_model host) → MayStay (folder_at host path) (leaves_at host path) };
 }

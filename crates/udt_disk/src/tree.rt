@@ -1,10 +1,10 @@
 //! The entries of a folder in memory, by their names.
 
-ghost use Rattle.std.specs.Prelude.{◌≡◌, ◌≢◌, ℕ, Some, None, IfSome, option_map};
+ghost use Rattle.std.specs.Prelude.{◌≡◌, ◌≢◌, ℕ, if◌then◌else◌, Some, None, IfSome, option_map};
 ghost use Rattle.udt_disk.specs.declared.name.FileName.{FileName as NameOf};
 ghost use Rattle.udt_disk.specs.Tree.{entry_from, entry_of, early, lent, Changed};
 ghost use Rattle.udt_disk.specs.Files.{PlaceLeaves, LeavesBirth, place_stands, without_home, removed, file_at};
-ghost use Rattle.udt_disk.specs.Crashed.{IsCleanPlace, IsCleaned, emptied_by, settled_before, file_crash, place_crash, entry_crash};
+ghost use Rattle.udt_disk.specs.Crashed.{IsCleanPlace, IsCleaned, emptied_by, image_before, settled_before, file_crash, place_crash, entry_crash};
 ghost use Rattle.udt_disk.specs.declared.tree.Place.TheVariants.{Home, Out, Missing};
 ghost use Rattle.udt_disk.specs.declared.outcome.Outcome.TheVariants.{Lost};
 
@@ -59,6 +59,7 @@ impl Entry {
         ensures name { result.name ≡ name }
         ensures place { result.place ≡ Missing }
         ensures since { result.since ≡ 0 }
+        ensures back { image_before (Some result) ≡ None }
     {
         Entry {
             name,
@@ -202,7 +203,7 @@ impl Entry {
         ensures name { result.name ≡ self.name }
         ensures place { result.place ≡ Out }
         ensures since { result.since ≡ self.since }
-        ensures lost { entry_crash Lost (Some result) ≡ entry_crash Lost (Some self) }
+        ensures back { image_before (Some result) ≡ entry_crash Lost (Some self) }
     {
         Entry {
             name: self.name,
@@ -217,6 +218,7 @@ impl Entry {
         ensures name { result.name ≡ self.name }
         ensures place { result.place ≡ Home file }
         ensures since { result.since ≡ since }
+        ensures back { image_before (Some result) ≡ (if file.is_settled then None else image_before (Some self)) }
     {
         let is_settled = file.is_settled;
         Entry {
@@ -310,6 +312,7 @@ impl Tree {
         ensures name { result.name ≡ name }
         ensures since { result.since ≡ early (entry_of self.old name) }
         ensures lost { entry_crash Lost (Some result) ≡ entry_crash Lost (entry_of self.old name) }
+        ensures back { image_before (Some result) ≡ image_before (entry_of self.old name) }
         ensures others { (n : NameOf) → n ≢ name → entry_of self.new n ≡ entry_of self.old n }
     {
         match self.exchange(Entry::new(name)) {

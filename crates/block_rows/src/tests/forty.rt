@@ -157,23 +157,32 @@ fn spelled(alloc: Global, form: Form, block: &Block) -> Result<Vec<u8>, Fail> {
     writing.finish()
 }
 
-/// With a bit of a byte turned it is bad, or means what its bytes spell.
-fn is_bad_or_spelled(alloc: Global, form: Form, altered: &[u8]) -> Result<bool, Fail> {
-    match read(alloc, altered, form)? {
-        Err(_) => is_bad(alloc, altered, form),
-        Ok(block) => Ok(spelled(alloc, form, &block)?.as_slice() == altered),
+/// The image with a bit of one byte turned.
+fn turned(alloc: Global, image: &[u8], i: usize) -> Result<Vec<u8>, Fail> {
+    let mut altered = Vec::from_slice(alloc, image)?;
+    if let Some(byte) = altered.get_mut(i) {
+        *byte ^= 1 << (i % 8);
     }
+    Ok(altered)
+}
+
+/// It is bad, or means what its bytes spell.
+fn is_bad_or_spelled(alloc: Global, form: Form, altered: &[u8]) -> Result<bool, Fail> {
+    if is_bad(alloc, altered, form)? {
+        return Ok(true);
+    }
+    let block = read(alloc, altered, form)??;
+    let bytes = spelled(alloc, form, &block)?;
+    Ok(bytes.as_slice() == altered)
 }
 
 fn turn_each_byte(alloc: Global, form: Form) -> Result<bool, Fail> {
-    let mut image = image(alloc, form)?;
+    let image = image(alloc, form)?;
     for i in 0..image.len() {
-        let byte = image[i];
-        image[i] = byte ^ (1 << (i % 8));
-        if !is_bad_or_spelled(alloc, form, &image)? {
+        let altered = turned(alloc, &image, i)?;
+        if !is_bad_or_spelled(alloc, form, &altered)? {
             return Ok(false);
         }
-        image[i] = byte;
     }
     Ok(true)
 }

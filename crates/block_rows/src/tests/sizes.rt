@@ -69,15 +69,22 @@ fn key_by_hand(i: u16) -> [u8; 18] {
     [high, low, 1, 0, 0, 0, 0, 0, 0, 0, 1, 1, 0, 0, 0, 0, 0, 0]
 }
 
+fn put_parts(image: &mut Vec<u8>, shared: u16, key: &[u8]) -> Result<(), Fail> {
+    put_u16(image, shared)?;
+    put_u16(image, u16::try_from(key.len())?)?;
+    put_u32(image, 0)?;
+    put_bytes(image, key)?;
+    Ok(())
+}
+
 /// An entry by hand that shares the first byte of its key with the one before, unless it is a restart.
 fn put_entry(image: &mut Vec<u8>, i: u16) -> Result<(), Fail> {
     let key = key_by_hand(i);
-    let shared: u16 = if i % 16 == 0 { 0 } else { 1 };
-    put_u16(image, shared)?;
-    put_u16(image, 18 - shared)?;
-    put_u32(image, 0)?;
-    put_bytes(image, if i % 16 == 0 { &key[..] } else { &key[1..] })?;
-    Ok(())
+    if i % 16 == 0 {
+        put_parts(image, 0, &key)
+    } else {
+        put_parts(image, 1, &key[1..])
+    }
 }
 
 fn by_hand(alloc: Global) -> Result<Vec<u8>, Fail> {

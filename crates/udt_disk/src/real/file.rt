@@ -1,5 +1,6 @@
 //! Files of the operating system.
-ghost use Rattle.std.specs.Prelude.{◌≡◌, [], true, false};
+ghost use Rattle.std.specs.Prelude.{◌≡◌, ◌≤◌, [], length, IfOk, true, false};
+ghost use Rattle.udt_disk.specs.Causes.{HasCause};
 ghost use Rattle.udt_disk.specs.Real.{not_told};
 
 use super::Faults;
@@ -14,6 +15,44 @@ pub struct HostFile {
     pub(super) file: File,
     pub(super) name: FileName,
     pub(super) faults: Faults,
+    /// An earlier process may have written what it holds.
+    pub(super) is_found: bool,
+}
+
+impl HostFile {
+    /// What the system hands out. A read that a signal interrupts is tried again.
+    fn read_once(&mut self, at: u64, into: &mut [u8]) -> Result<usize, Failed>
+        ensures bound { IfOk result (λ n. n ≤ length into.old) }
+        ensures cause { HasCause self.old.faults.count self.new.faults.count result }
+        ensures name { self.new.name ≡ self.old.name }
+    {
+        let mut done = 0;
+        for _ in 0..u64::MAX {
+            if done == into.len() {
+                return Ok(done);
+            }
+            let from = at.saturating_add(done as u64);
+            match self.file.read_at(&mut into[done..], from) {
+                Ok(0) => return Ok(done),
+                Ok(count) => done += count,
+                Err(e) if e.kind() == ErrorKind::Interrupted => {}
+                Err(e) => return self.faults.counted(Err(e)),
+            }
+        }
+        self.faults.counted(Err(ErrorKind::Interrupted.into()))
+    }
+
+    /// Brings what was just read to the device. Where a sync of an earlier process failed, the system may hand out bytes
+    /// that never reached it and call them clean, so that a sync alone would pass them over. Written again, at the same
+    /// place, they are dirty: the sync reaches the device with them, or fails. A crash between the two leaves at each place
+    /// what was there or these bytes.
+    fn settle(&mut self, at: u64, bytes: &[u8]) -> Result<(), Failed>
+        ensures cause { HasCause self.old.faults.count self.new.faults.count result }
+        ensures name { self.new.name ≡ self.old.name }
+    {
+        self.write_at(at, bytes)?;
+        self.sync()
+    }
 }
 
 impl DiskFile for HostFile {
@@ -46,22 +85,13 @@ impl DiskFile for HostFile {
         Ok(metadata.len())
     }
 
-    /// A read that a signal interrupts is tried again.
+    /// What is read of a file that was found is settled before it is handed out.
     fn read_at(&mut self, at: u64, into: &mut [u8]) -> Result<usize, Failed> {
-        let mut done = 0;
-        for _ in 0..u64::MAX {
-            if done == into.len() {
-                return Ok(done);
-            }
-            let from = at.saturating_add(done as u64);
-            match self.file.read_at(&mut into[done..], from) {
-                Ok(0) => return Ok(done),
-                Ok(count) => done += count,
-                Err(e) if e.kind() == ErrorKind::Interrupted => {}
-                Err(e) => return self.faults.counted(Err(e)),
-            }
+        let count = self.read_once(at, into)?;
+        if self.is_found && count > 0 {
+            self.settle(at, &into[..count])?;
         }
-        self.faults.counted(Err(ErrorKind::Interrupted.into()))
+        Ok(count)
     }
 
     fn write_at(&mut self, at: u64, bytes: &[u8]) -> Result<(), Failed> {

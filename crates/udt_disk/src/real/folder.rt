@@ -1,5 +1,5 @@
-//! Folders of the operating system. One that is open is locked, and what is opened in it is synced before it is read, since
-//! an earlier process may have been stopped between a write and its sync.
+//! Folders of the operating system. One that is open is locked, and what is opened in it is synced before it is read, and
+//! settled as it is read, since an earlier process may have been stopped between a write and its sync, or its sync failed.
 ghost use Rattle.std.specs.Prelude.{◌≡◌, None, IfOk, IfSome, true, false};
 ghost use Rattle.udt_disk.specs.Folder.{opened};
 ghost use Rattle.udt_disk.specs.Real.{not_told};
@@ -51,6 +51,7 @@ impl<'a, R: Files<File = File>> HostFolder<'a, R> {
             file,
             name,
             faults: Faults::new(),
+            is_found: false,
         })
     }
 
@@ -68,13 +69,15 @@ impl<'a, R: Files<File = File>> HostFolder<'a, R> {
             file => file?,
         };
         // A table is named only once its sync answered Ok.
-        if !matches!(name, FileName::Table(_)) {
+        let is_found = !matches!(name, FileName::Table(_));
+        if is_found {
             file.sync_all()?;
         }
         Ok(Some(HostFile {
             file,
             name,
             faults: Faults::new(),
+            is_found,
         }))
     }
 

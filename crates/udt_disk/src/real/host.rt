@@ -1,5 +1,6 @@
 //! The host of the process: the files and folders of the operating system by their paths.
 ghost use Rattle.std.specs.Prelude.{◌≡◌, None, true, false};
+ghost use Rattle.udt_disk.specs.Real.{not_told};
 
 use super::{Faults, HostFolder, HostSource};
 use crate::{Failed, Host, Text};
@@ -104,6 +105,10 @@ impl<'a, R: Files<File = File> + AllocGlobal + Sync> Host for RealHost<'a, R> {
     ghost keeps_model = { λ _. false };
 
     ghost faults = { λ h. h.faults.count };
+
+    ghost model_tells = { λ _ _ told. not_told told };
+
+    ghost now_stays = { λ _ _ told. not_told told };
 
     /// Fails too where another process holds the folder, and where the path is no UTF-8: such a folder can't be named
     /// here, though there may be one.

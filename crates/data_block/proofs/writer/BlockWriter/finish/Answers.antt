@@ -1,4 +1,4 @@
-use Rattle.std.proofs.Common.{◌≡◌, length, ap, arith}
+use Rattle.std.proofs.Common.{length, ap, arith}
 use Rattle.data_block.specs.Written.{Written}
 use Rattle.data_block.proofs.Written.{is_block}
 use Rattle.data_block.proofs.writer.BlockWriter.finish.Goals as goal

@@ -11,7 +11,7 @@ returns-clause-finished c = λ ps qs h.
     let s = c.settle.ensures in
     record {
       decided = s.decided;
-      all = ap (λ (xs : List Version). qs ++ xs) (s.trimmed h.has.key h.has.of_run)
-          ∙ finished_is x.floor x.seqs.items x.deeper.now (state x) ps qs h.has
+      all = ap (λ (xs : List Version). qs ++ xs) (s.trimmed h.inside.key h.inside.of_run)
+          ∙ finished_is x.floor x.seqs.items x.deeper.now (state x) ps qs h.inside
           ∙ (λ i. collect ps (sym s.alike.floor i) (sym s.alike.snapshots i) (sym s.alike.spans i));
     }

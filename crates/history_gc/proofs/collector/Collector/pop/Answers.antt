@@ -13,7 +13,7 @@ pub returns-clause-collected : goal.returns-clause-collected
 returns-clause-collected c = λ ps qs h.
     let x = c.args.self.now in
     match_map c.pop_front.result _ _ _ (λ v y. given_from _ ps qs v y)
-    (pop_is x.floor x.seqs.items x.deeper.now x.class x.least x.decided x.queue.items c.pop_front.new.self.items c.pop_front.result ps qs _ (omega arith) c.pop_front.ensures.items (c.pop_front.ensures.variant.1 (let n = x.queue.ok.0 in let w = x.within in omega arith)) h.has)
+    (pop_is x.floor x.seqs.items x.deeper.now x.class x.least x.decided x.queue.items c.pop_front.new.self.items c.pop_front.result ps qs _ (omega arith) c.pop_front.ensures.items (c.pop_front.ensures.variant.1 (let n = x.queue.ok.0 in let w = x.within in omega arith)) h.inside)
 
 pub returns-clause-finished : goal.returns-clause-finished
 returns-clause-finished c = λ ps qs h.

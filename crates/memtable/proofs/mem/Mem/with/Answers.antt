@@ -8,7 +8,7 @@ use Rattle.std.proofs.lemmas.Result.{IfOk-weaker}
 use Rattle.ts_key.specs.declared.version.Version.{Version}
 use Rattle.sorted_run.specs.Sorts.{sorted}
 use Rattle.sorted_run.proofs.Sorting.{sorted_again}
-use Rattle.memtable.specs.Memtables.{Memtable, IsAbsorbed, IsMemtable, joined, versions_of}
+use Rattle.memtable.specs.Memtables.{AreDoubled, Memtable, MergesLeast, IsAbsorbed, IsMemtable, joined, versions_of}
 use Rattle.memtable.specs.declared.limits.TheConstants.{BYTES_LIMIT}
 use Rattle.memtable.proofs.Sums.{empty_is, absorbs, absorbs_all, absorbs_bytes, new_runs}
 use Rattle.memtable.proofs.mem.Mem.with.Goals as goal
@@ -55,3 +55,23 @@ returns-clause-versions c =
     ap (λ (rs : List (List Version)). sorted (joined rs)) new
     ∙ absorbs vs old n run got.is
     ∙ ap (λ (rs : List (List Version)). sorted (vs ++ sorted (joined rs))) runs
+
+pub returns-clause-merges : goal.returns-clause-merges
+returns-clause-merges c = λ some.
+    let vs = c.args.versions.now in
+    let items = c.self.inside.runs.items in
+    let old = map arc_value items in
+    let run = c.in_ok-absorbed.absorbed.0 in
+    let n = c.in_ok-absorbed.absorbed.1 in
+    let got : IsAbsorbed vs old run n = subst (λ (rs : List (List Version)). IsAbsorbed vs rs run n) (ap (map arc_value) c.deref.ensures.value) c.in_ok-absorbed.ensures in
+    let new : map arc_value c.share.new.out.items ≡ run ∷ drop n old = new_runs arc_value c.share.new.out.items c.push.new.self.items c.in_ok-runs.runs.items c.split_at.result.1.now items c.in_ok-new.field-0 n run
+    c.in_ok-share.ensures c.in_ok-push.ensures.items c.in_ok-runs.ensures.items c.in_ok-new.ensures.ok (c.split_at.ensures.back ∙ ap (drop n) c.deref-2.ensures.value) in
+    let runs : old ≡ c.args.self.now.runs = ap (λ (m : Memtable). m.runs) c.self.view_is in
+    let it : MergesLeast vs old (map arc_value c.share.new.out.items) = record {
+      count = n;
+      within = got.within;
+      are = new ∙ ap (λ (r : List Version). r ∷ drop n old) got.is;
+      doubled = subst (λ (r : List Version). AreDoubled (r ∷ drop n old)) got.is got.doubled;
+      least = got.least;
+    } in
+    subst (λ (rs : List (List Version)). MergesLeast vs rs (map arc_value c.share.new.out.items)) runs it

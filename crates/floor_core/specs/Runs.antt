@@ -1,0 +1,86 @@
+-- What the core shows over every list of events.
+use Rattle.std.specs.Prelude.{◌≡◌, ℕ, ◌+◌, ◌≤◌, ◌&&◌, true, false, length, is_some, if◌then◌else◌, List, [], ◌∷◌, All, Option, Some, None}
+use Rattle.ts_key.specs.declared.numbers.Family.{Family}
+use Rattle.ts_key.specs.declared.numbers.Ts.{Ts}
+use Rattle.ts_key.specs.declared.numbers.Seq.{Seq}
+use Rattle.ts_key.specs.declared.version.Form.{Form}
+use Rattle.udt_model.specs.Reads.{read}
+use Rattle.udt_model.specs.State.{State, FamilyState, family_at, sight}
+use Rattle.udt_model.specs.Names.{View, pinned}
+use Rattle.floor_laws.specs.Sound.{IsSoundState, IsSoundOpening}
+use Rattle.floor_core.specs.declared.event.CoreEvent.{CoreEvent}
+use Rattle.floor_core.specs.declared.event.CoreEvent.TheVariants.{Get, Pin, PinnedGet}
+use Rattle.floor_core.specs.declared.event.CoreReply.{CoreReply}
+use Rattle.floor_core.specs.declared.event.CoreReply.TheVariants as replies
+use Rattle.floor_core.specs.Cores.{CoreState, fresh_core}
+use Rattle.floor_core.specs.Machine.{behind_event, is_taken, is_there, told, view_now}
+
+-- the core behind these events
+abbrev pub behind_all : CoreState → List CoreEvent → CoreState
+behind_all c [] = c
+behind_all c (e ∷ es) = behind_all (behind_event c e) es
+
+-- In the core each family's lists stand for the list of every version that was written, at its floor and with the registered snapshots, and
+-- its jobs run rightly; its views have the numbers of earlier events.
+pub record IsSoundCore (c : CoreState) : Type 0 where
+  pub store : IsSoundState c.store
+  pub pins : All (λ (v : View). v.number ≤ c.events) c.pins
+
+-- it begins with an opened store
+pub record IsOpenedCore (c : CoreState) : Type 0 where
+  pub store : IsSoundOpening c.store
+  pub pins : c.pins ≡ []
+
+-- a read of every version that was ever written
+abbrev pub read_writes : State → Family → Option FamilyState → List ℕ → Ts → Seq → CoreReply
+read_writes m family None key t s = replies.Refused
+read_writes m family (Some f) key t s = replies.Read (read m.versions f.head.floor family key t s)
+
+-- the reply that the list of every version gives to a get
+abbrev pub got_from_writes : CoreState → Family → List ℕ → Ts → Option ℕ → CoreReply
+got_from_writes c family key t snap =
+    if is_some (family_at c.store family) && is_there c.store snap then read_writes c.store family (family_at c.store family) key t (sight c.store snap) else replies.Refused
+
+-- the sequence up to which a read in a view of the state `at` sees, with the snapshots of now
+abbrev pub sight_then : State → State → ℕ → Option ℕ → Seq
+sight_then at now number snap = sight (pinned now (Some (view_now at number))) snap
+
+-- the reply that the list of every version of the state `at` gives to a get in a view that was pinned there
+abbrev pub got_at_pin : State → State → ℕ → Family → List ℕ → Ts → Option ℕ → CoreReply
+got_at_pin at now number family key t snap =
+    if is_some (family_at at family) && is_there now snap then read_writes at family (family_at at family) key t (sight_then at now number snap) else replies.Refused
+
+-- ---- the laws
+
+-- the core is sound behind every list of events
+abbrev pub IsSoundBehindAll : Type 0
+IsSoundBehindAll = (c : CoreState) (es : List CoreEvent) → IsSoundCore c → IsSoundCore (behind_all c es)
+
+-- a get answers as the list that was never collected
+abbrev pub GetsAnswer : Type 0
+GetsAnswer = (c : CoreState) (es : List CoreEvent) (family : Family) (key : List ℕ) (t : Ts) (snap : Option ℕ)
+    → IsSoundCore c → told (behind_all c es) (Get family key t snap) ≡ got_from_writes (behind_all c es) family key t snap
+
+-- a pinned get answers as the list that there was at its pin, whatever followed
+abbrev pub PinnedGetsAnswer : Type 0
+PinnedGetsAnswer = (c : CoreState) (es : List CoreEvent) (family : Family) (key : List ℕ) (t : Ts) (snap : Option ℕ)
+    → IsSoundCore c → let d = behind_all (behind_event c Pin) es in told d (PinnedGet (c.events + 1) family key t snap) ≡ got_at_pin c.store d.store (c.events + 1) family key t snap
+
+-- every core is sound that is fresh or opened
+abbrev pub FreshIsSound : Type 0
+FreshIsSound = (forms : List Form) → IsSoundCore (fresh_core forms)
+
+abbrev pub OpenedIsSound : Type 0
+OpenedIsSound = (c : CoreState) → IsOpenedCore c → IsSoundCore c
+
+-- an event is answered `Refused` exactly where it is refused
+abbrev pub RefusesExactly : Type 0
+RefusesExactly = (c : CoreState) (e : CoreEvent) → (is_taken c e ≡ false → told c e ≡ replies.Refused) × (is_taken c e ≡ true → told c e ≡ replies.Refused → ⊥)
+
+-- and then nothing changes but the count of events
+abbrev pub RefusedChangesNothing : Type 0
+RefusedChangesNothing = (c : CoreState) (e : CoreEvent) → is_taken c e ≡ false → behind_event c e ≡ record c { events = c.events + 1 }
+
+-- every event is counted
+abbrev pub CountsEvents : Type 0
+CountsEvents = (c : CoreState) (es : List CoreEvent) → (behind_all c es).events ≡ c.events + length es

@@ -1,0 +1,21 @@
+//! What the core shows over every list of events. A function states the laws; it does nothing.
+ghost use Rattle.floor_core.specs.Runs.{CountsEvents, FreshIsSound, GetsAnswer, IsSoundBehindAll, OpenedIsSound, PinnedGetsAnswer, RefusedChangesNothing, RefusesExactly};
+
+/// A fresh core is sound, and so is one that begins with an opened store. Behind every list of events a sound core is sound:
+/// each family's lists stand for every version that was ever written, at its floor and with the registered snapshots. So each
+/// get answers as the list that was never collected, and each pinned get as that list was at its pin, by the floor there.
+pub fn core_is_safe()
+    ensures fresh { FreshIsSound }
+    ensures opened { OpenedIsSound }
+    ensures sound { IsSoundBehindAll }
+    ensures gets { GetsAnswer }
+    ensures pinned { PinnedGetsAnswer }
+{}
+
+/// `Refused` is the answer exactly where an event is refused, and then nothing changes but the count of events, which every
+/// event raises by one.
+pub fn core_refuses_exactly()
+    ensures exactly { RefusesExactly }
+    ensures kept { RefusedChangesNothing }
+    ensures counted { CountsEvents }
+{}

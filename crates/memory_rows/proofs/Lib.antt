@@ -1,2 +1,0 @@
-pub mod Committed
-mod Ordered

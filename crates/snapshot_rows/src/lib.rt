@@ -1,0 +1,5 @@
+//! Tests of the registered snapshots and of stripping, by their public calls.
+#![tactic(auto)]
+
+#[cfg(test)]
+mod tests;

@@ -1,0 +1,4 @@
+//! One module for each thing under test.
+
+mod snapshots;
+mod stripping;
