@@ -65,7 +65,7 @@ pub admitting_more : (m : State) (last : ℕ) (ops : List WriteOp) (i : ℕ) (o 
     → ((k : ℕ) → false ≡ is_some (op_refusal w k (place_at m o.family) o)) → v ≡ version_of o (last + i + 1) → new ≡ w ++ v ∷ [] → Admitting m last ops i w → Admitting m last ops (i + 1) new
 admitting_more m last ops i o v w new lt at ok made_is new_is a =
     let rest = drop (i + 1) ops in
-    let here : drop i ops ≡ o ∷ rest = at_drop_more (λ (z : List WriteOp). z) ops i o lt at ∙ ap (λ (z : WriteOp). z ∷ rest) (sym at) in
+    let here : drop i ops ≡ o ∷ rest = at_drop_more (λ (z : List WriteOp). z) ops i o lt ∙ ap (λ (z : WriteOp). z ∷ rest) (sym at) in
     let w1 = w ++ version_of o (last + i + 1) ∷ [] in
     let new_w : new ≡ w1 = new_is ∙ ap (λ (z : Version). w ++ z ∷ []) made_is in
     record {
@@ -92,7 +92,7 @@ pub admitting_stops : (m : State) (last : ℕ) (ops : List WriteOp) (i : ℕ) (o
     → ((k : ℕ) → true ≡ is_some (op_refusal w k (place_at m o.family) o)) → Admitting m last ops i w → None ≡ admitted m ops
 admitting_stops m last ops i o w lt at below a =
     let rest = drop (i + 1) ops in
-    let here : drop i ops ≡ o ∷ rest = at_drop_more (λ (z : List WriteOp). z) ops i o lt at ∙ ap (λ (z : WriteOp). z ∷ rest) (sym at) in
+    let here : drop i ops ≡ o ∷ rest = at_drop_more (λ (z : List WriteOp). z) ops i o lt ∙ ap (λ (z : WriteOp). z ∷ rest) (sym at) in
     let r = some_from (op_refusal w (i + 1) (place_at m o.family) o) (below (i + 1)) in
     let stop : refused m w (last + i) (i + 1) (drop i ops) ≡ Some r.0 = ap (refused m w (last + i) (i + 1)) here ∙ ap (λ z. z or_else refused m (w ++ version_of o (last + i + 1) ∷ []) (last + i + 1) (i + 1 + 1) rest) r.1 in
     let all : refused m m.versions m.last.0 1 ops ≡ Some r.0 = ap (λ n. refused m m.versions n 1 ops) (sym a.last_is) ∙ sym a.rest ∙ stop in

@@ -5,3 +5,5 @@ pub mod CoreRows
 pub mod Admitting
 pub mod Judging
 pub mod Refusing
+pub mod Places
+pub mod Flushes

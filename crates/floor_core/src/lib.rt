@@ -2,6 +2,7 @@
 #![tactic(auto)]
 
 mod event;
+mod flushing;
 mod laws;
 mod lists;
 mod machine;

@@ -2,7 +2,8 @@
 ghost use Rattle.std.specs.Prelude.{◌≡◌, ℕ, ◌+◌, ◌^◌, ◌<◌, ◌≤◌, ◌++◌, [], ◌∷◌, is_none, is_some, IfOk, OnErr, OnOk, Option, length, None, Some, if◌then◌else◌};
 ghost use Rattle.std.specs.Option.{option_copied};
 ghost use Rattle.ts_key.specs.Batches.{IsBatch};
-ghost use Rattle.udt_model.specs.State.{family_at, floors_of, place_at, seqs_of};
+ghost use Rattle.udt_model.specs.State.{family_at, floor_at, floors_of, form_at, is_registered as registers, place_at, seqs_of, through_at};
+ghost use Rattle.udt_model.specs.Jobs.{flush_floor, flush_kept, has_number, taken as taken_by};
 ghost use Rattle.udt_model.specs.Versions.{made, version_of as version_made};
 ghost use Rattle.udt_model.specs.Refusals.{op_refusal, refused, unknown};
 ghost use Rattle.floor_laws.specs.Sound.{lists_of};
@@ -11,9 +12,11 @@ ghost use Rattle.floor_core.specs.Machine.{behind_event, is_taken, pin_of, told,
 ghost use Rattle.floor_core.specs.Steps.{admitted, find_snap, flush_from, judged, seen_up_to};
 
 use crate::event::{CoreEvent, CoreReply};
+use crate::flushing::{add_flushed, floor_over, flush_versions};
 use crate::lists::{append, append_contents, between_of, first_of};
 use crate::parts::{
-    CoreCompaction, CoreFamily, CoreFlush, CorePin, CoreSnap, forget, set_floor,
+    CoreCompaction, CoreFamily, CoreFlush, CorePin, CoreSnap, CoreTable, FlushMade, forget,
+    is_live_in, set_floor,
 };
 use std::alloc::{AllocError, Global};
 use std::marker::Model;
@@ -283,11 +286,17 @@ impl Core {
         Ok(CoreReply::Done)
     }
 
+    fn is_registered(&self, id: u64) -> bool
+        ensures { result ≡ registers self.now.store id }
+    {
+        self.snaps.iter().any(|s| s.event == id)
+    }
+
     fn release(&mut self, id: u64) -> CoreReply
         ensures told { result ≡ told self.old (CoreEvent.Release id) }
         ensures left { self.new ≡ turned self.old (CoreEvent.Release id) }
     {
-        if !self.snaps.iter().any(|s| s.event == id) {
+        if !self.is_registered(id) {
             return CoreReply::Refused;
         }
         forget(&mut self.snaps, id);
@@ -396,6 +405,97 @@ impl Core {
             return Ok(CoreReply::Refused);
         };
         self.flush = Some(job);
+        Ok(CoreReply::Done)
+    }
+
+    /// Whether a live table has this number.
+    fn is_live(&self, table: u64) -> bool
+        ensures { result ≡ has_number self.now.store.used table }
+    {
+        is_live_in(&self.families, table)
+    }
+
+    /// The form of a family.
+    fn form(&self, family: Family) -> Form
+        ensures { result ≡ form_at self.now.store family }
+    {
+        match self.family(family) {
+            None => Form::Persist,
+            Some(f) => f.form,
+        }
+    }
+
+    /// The floor of a family.
+    fn floor(&self, family: Family) -> Ts
+        ensures { result ≡ floor_at self.now.store family }
+    {
+        match self.family(family) {
+            None => Ts(0),
+            Some(f) => f.floor,
+        }
+    }
+
+    /// The sequence up to which the versions of a family are in tables.
+    fn through(&self, family: Family) -> Seq
+        ensures { result ≡ through_at self.now.store family }
+    {
+        match self.family(family) {
+            None => Seq(0),
+            Some(f) => f.through,
+        }
+    }
+
+    /// The versions that a flush takes.
+    fn taken(&self, job: &CoreFlush) -> Result<Vec<Version>, NoMemory>
+        ensures { IfOk result (λ versions. versions.items ≡ taken_by self.now.store job.now) }
+    {
+        let alloc = *self.versions.allocator();
+        let through = self.through(job.family);
+        between_of(alloc, &self.versions, job.family, through, job.through)
+    }
+
+    /// The table that a flush makes, and the floor that it leaves.
+    fn flushed(&self, job: &CoreFlush, table: u64) -> Result<FlushMade, NoMemory>
+        ensures table { IfOk result (λ made. made.table ≡ record { number = table; level = 0; versions = flush_kept self.now.store job.now }) }
+        ensures floor { IfOk result (λ made. made.floor ≡ flush_floor self.now.store job.now) }
+    {
+        let alloc = *self.versions.allocator();
+        let form = self.form(job.family);
+        let taken = self.taken(job)?;
+        let versions = flush_versions(alloc, form, &taken, job.floor, &job.seqs)?;
+        let floor = floor_over(form, self.floor(job.family), &taken)?;
+        Ok(FlushMade {
+            table: CoreTable {
+                number: table,
+                level: 0,
+                versions,
+            },
+            floor,
+        })
+    }
+
+    fn admits_flush_end(&self, table: u64) -> bool
+        ensures { result ≡ is_taken self.now (CoreEvent.FlushEnd table) }
+    {
+        self.halted.is_none() && self.flush.is_some() && !self.is_live(table)
+    }
+
+    fn end_flush(&mut self, table: u64) -> Result<CoreReply, NoMemory>
+        ensures told { IfOk result (λ reply. reply ≡ told self.old (CoreEvent.FlushEnd table)) }
+        ensures left { OnOk result (self.new ≡ turned self.old (CoreEvent.FlushEnd table)) }
+        ensures kept { OnErr result (self.new ≡ self.old) }
+    {
+        if !self.admits_flush_end(table) {
+            return Ok(CoreReply::Refused);
+        }
+        let Some(job) = &self.flush else {
+            return Ok(CoreReply::Refused);
+        };
+        let family = job.family;
+        let through = job.through;
+        let made = self.flushed(job, table)?;
+        add_flushed(&mut self.families, family, made.table, through, made.floor)?;
+        self.flush = None;
         Ok(CoreReply::Done)
     }
 }

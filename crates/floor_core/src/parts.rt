@@ -1,6 +1,8 @@
 //! Parts of the core's state.
-ghost use Rattle.std.specs.Prelude.{◌≡◌, ◌==◌, not, filter};
-ghost use Rattle.udt_model.specs.State.{changed_at, with_floor};
+ghost use Rattle.std.specs.Prelude.{◌≡◌, ◌==◌, not, filter, flat_map};
+ghost use Rattle.std.specs.List.{list_any};
+ghost use Rattle.udt_model.specs.State.{changed_at, numbers_of, with_floor};
+ghost use Rattle.udt_model.specs.Jobs.{has_number};
 
 use std::marker::Model;
 use ts_key::{Family, Form, Seq, Ts, Version};
@@ -38,6 +40,13 @@ impl Model for CoreFamily {
     ghost Value = { FamilyState };
 
     ghost view = { λ f. record { head = record { name = []; form = f.form; floor = f.floor }; through = f.through; tables = f.tables.items } };
+}
+
+/// What a flush makes: its table, and the floor that it leaves.
+#[derive(Drop)]
+pub(crate) struct FlushMade {
+    pub(crate) table: CoreTable,
+    pub(crate) floor: Ts,
 }
 
 /// A registered snapshot: the number of its event and the last sequence there.
@@ -123,9 +132,37 @@ pub(crate) fn set_floor(families: &mut Vec<CoreFamily>, family: Family, floor: T
     }
 }
 
+/// Whether the snapshot has another number.
+fn is_other(s: &CoreSnap, id: u64) -> bool
+    ensures { result ≡ not (s.now.event == id) }
+{
+    s.event != id
+}
+
 /// Takes the snapshots of this number out.
 pub(crate) fn forget(snaps: &mut Vec<CoreSnap>, id: u64)
     ensures { snaps.new.items ≡ filter (λ s. not (s.event == id)) snaps.old.items }
 {
-    snaps.retain(|s| s.event != id);
+    snaps.retain(|s| is_other(s, id));
+}
+
+/// Whether a table of the family has this number.
+fn holds(f: &CoreFamily, table: u64) -> bool
+    ensures { result ≡ list_any (λ t. t.number == table) f.now.tables }
+{
+    f.tables.iter().any(|t| t.number == table)
+}
+
+/// Whether a table of some family has this number.
+fn some_holds(families: &[CoreFamily], table: u64) -> bool
+    ensures { result ≡ list_any (λ f. list_any (λ t. t.number == table) f.tables) families.now }
+{
+    families.iter().any(|f| holds(f, table))
+}
+
+/// Whether a live table has this number.
+pub(crate) fn is_live_in(families: &[CoreFamily], table: u64) -> bool
+    ensures { result ≡ has_number (flat_map (λ f. numbers_of f.tables) families.now) table }
+{
+    some_holds(families, table)
 }
