@@ -7,3 +7,4 @@ pub mod Judging
 pub mod Refusing
 pub mod Places
 pub mod Flushes
+pub mod Starts

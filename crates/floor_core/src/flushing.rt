@@ -38,7 +38,8 @@ fn collect_for_flush(
     ensures { IfOk result (λ kept. kept.items ≡ collect_all versions.now floor seqs.now) }
 {
     let spans = key_spans(alloc, versions)?;
-    plain_collect(alloc, versions, floor, seqs, &spans)
+    let kept = plain_collect(alloc, versions, floor, seqs, &spans)?;
+    Ok(kept)
 }
 
 /// Whether the first stands before the second in the stored order.
@@ -155,7 +156,7 @@ fn join(tables: &mut Vec<CoreTable>, table: CoreTable) -> Result<(), NoMemory>
     ensures ok { OnOk result (tables.new.items ≡ with_table table tables.old.items) }
     ensures err { OnErr result (tables.new.items ≡ tables.old.items) }
 {
-    let place = place_from(tables, table.number);
+    let place = place_from(tables.as_slice(), table.number);
     tables.insert(place, table)?;
     Ok(())
 }
