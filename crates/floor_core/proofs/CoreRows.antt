@@ -1,12 +1,9 @@
 -- Rows of the core: what it answers to short lists of events.
-use Rattle.std.proofs.Common.{◌≡◌, ℕ, List, [], ◌∷◌, codes, Option, Some, None, refl}
-use Rattle.ts_key.specs.declared.version.Op.{Op}
+use Rattle.std.proofs.Common.{◌≡◌, ℕ, List, [], ◌∷◌, codes, Some, None, refl}
 use Rattle.ts_key.specs.declared.version.Op.TheVariants as ops
-use Rattle.ts_key.specs.declared.version.Form.{Form}
 use Rattle.ts_key.specs.declared.version.Form.TheVariants.{Persist, Strip}
 use Rattle.ts_key.specs.declared.batch.WriteOp.{WriteOp}
 use Rattle.ts_key.specs.declared.numbers.Family.{Family}
-use Rattle.udt_model.specs.declared.reply.Piece.{Piece}
 use Rattle.udt_model.specs.declared.reply.Stamp.TheVariants as stamps
 use Rattle.udt_model.specs.declared.read.Answer.TheVariants as answers
 use Rattle.udt_model.specs.declared.read.ModelRead.TheVariants as reads
@@ -82,14 +79,14 @@ views_and_snapshots = refl
 
 -- what the snapshot of its start sees stays, and goes with a later one
 pub collections_keep_snapshots : replies_to persist
-      (put (codes "a") 5 (codes "u") ∷ Snap ∷ put (codes "a") 6 (codes "v") ∷ Raise d (ts 9) ∷ FlushStart d ∷ Release 2 ∷ FlushEnd 1 ∷ Pin ∷ CompactStart d (1 ∷ []) 6 ∷ CompactEnd (piece 2 2 ∷ []) ∷ CompactEnd (piece 2 1 ∷ []) ∷ get (codes "a") 9 ∷ [])
+    (put (codes "a") 5 (codes "u") ∷ Snap ∷ put (codes "a") 6 (codes "v") ∷ Raise d (ts 9) ∷ FlushStart d ∷ Release 2 ∷ FlushEnd 1 ∷ Pin ∷ CompactStart d (1 ∷ []) 6 ∷ CompactEnd (piece 2 2 ∷ []) ∷ CompactEnd (piece 2 1 ∷ []) ∷ get (codes "a") 9 ∷ [])
     ≡ written 1 ∷ Done ∷ written 2 ∷ Done ∷ Done ∷ Done ∷ Done ∷ Done ∷ Done ∷ Refused ∷ Done ∷ found_below (codes "v") ∷ []
 collections_keep_snapshots = refl
 
 -- a delete stays where a deeper table that is no input holds its put
 pub deletes_cover_deeper_puts : replies_to persist
-      (put (codes "a") 5 (codes "u") ∷ FlushStart d ∷ FlushEnd 1 ∷ CompactStart d (1 ∷ []) 6 ∷ CompactEnd (piece 2 1 ∷ []) ∷ delete (codes "a") 6 ∷ FlushStart d ∷ FlushEnd 3 ∷ Raise d (ts 9) ∷ CompactStart d (3 ∷ []) 1 ∷ CompactEnd (piece 4 1 ∷ []) ∷ get (codes "a") 9
-       ∷ CompactStart d (2 ∷ 4 ∷ []) 6 ∷ CompactEnd [] ∷ get (codes "a") 9 ∷ [])
+    (put (codes "a") 5 (codes "u") ∷ FlushStart d ∷ FlushEnd 1 ∷ CompactStart d (1 ∷ []) 6 ∷ CompactEnd (piece 2 1 ∷ []) ∷ delete (codes "a") 6 ∷ FlushStart d ∷ FlushEnd 3 ∷ Raise d (ts 9) ∷ CompactStart d (3 ∷ []) 1 ∷ CompactEnd (piece 4 1 ∷ []) ∷ get (codes "a") 9
+    ∷ CompactStart d (2 ∷ 4 ∷ []) 6 ∷ CompactEnd [] ∷ get (codes "a") 9 ∷ [])
     ≡ written 1 ∷ Done ∷ Done ∷ Done ∷ Done ∷ written 2 ∷ Done ∷ Done ∷ Done ∷ Done ∷ Done ∷ absent ∷ Done ∷ Done ∷ absent ∷ []
 deletes_cover_deeper_puts = refl
 

@@ -53,8 +53,8 @@ pub collect_covered : (vs : List Version) (floor : Ts) (seqs : List Seq) → col
 collect_covered vs floor seqs =
     let kept = seen_of vs floor seqs in
     ap stored (filter_every (λ (v : Version). not (is_useless kept floor (spans vs) v)) kept (λ v i.
-      let j = (filter-In (is_seen vs floor seqs) v vs i).0 in
-      not_false (is_useless kept floor (spans vs) v) (useful (not (is_put v.op)) (nat_le v.ts.0 floor.0) (is_in_some (spans vs) v.key) (list_any (is_put_below v) kept) (in_own_span vs v j))))
+    let j = (filter-In (is_seen vs floor seqs) v vs i).0 in
+    not_false (is_useless kept floor (spans vs) v) (useful (not (is_put v.op)) (nat_le v.ts.0 floor.0) (is_in_some (spans vs) v.key) (list_any (is_put_below v) kept) (in_own_span vs v j))))
 
 -- ---- places of tables
 

@@ -11,8 +11,9 @@ use Rattle.udt_model.specs.State.{State}
 use Rattle.udt_model.specs.Versions.{made}
 use Rattle.udt_model.specs.Refusals.{full, halt, refused, unknown, ◌or_else◌}
 use Rattle.floor_core.specs.declared.event.CoreEvent.TheVariants.{Write}
-use Rattle.floor_core.specs.Cores.{CoreState}
-use Rattle.floor_core.specs.Machine.{is_taken}
+use Rattle.floor_core.specs.Cores.{CoreState, with_live_numbers}
+use Rattle.floor_core.specs.declared.event.CoreReply.TheVariants as replies
+use Rattle.floor_core.specs.Machine.{is_taken, moved, store_behind, told, turned}
 use Rattle.floor_core.specs.Steps.{admitted, judged}
 
 none_or : (a b : Option Reply) → is_none (a or_else b) ≡ (is_none a && is_none b)
@@ -88,3 +89,34 @@ judged_admitted c ops u h le =
     let m = c.store in
     sym (ap (λ b. if b then Some (m.versions ++ made m.last.0 ops) else None) (taken_by c ops
     ∙ rest_only _ _ _ _ (none_none (unknown m ops) u) (halt_none m.halted ∙ none_none m.halted h) (full_none m ops false (isnt_above (2 ^ 56 - 1) (m.last.0 + length ops) le))))
+
+-- ---- a write, by what it is judged
+
+judged_none : (c : CoreState) (ops : List WriteOp) → None ≡ judged c ops → is_taken c (Write ops) ≡ false
+judged_none c ops e = on (is_taken c (Write ops)) e
+  where
+    on : (b : Bool) → None ≡ (if b then Some (c.store.versions ++ made c.store.last.0 ops) else None) → b ≡ false
+    on true e = absurd (cc)
+    on false e = refl
+
+judged_some : (c : CoreState) (ops : List WriteOp) (w : List Version) → Some w ≡ judged c ops → (is_taken c (Write ops) ≡ true) × (w ≡ c.store.versions ++ made c.store.last.0 ops)
+judged_some c ops w e = on (is_taken c (Write ops)) e
+  where
+    on : (b : Bool) → Some w ≡ (if b then Some (c.store.versions ++ made c.store.last.0 ops) else None) → (b ≡ true) × (w ≡ c.store.versions ++ made c.store.last.0 ops)
+    on true e = (refl, cc)
+    on false e = absurd (cc)
+
+pub write_refused : (c : CoreState) (ops : List WriteOp) → None ≡ judged c ops → replies.Refused ≡ told c (Write ops)
+write_refused c ops e = sym (ap (λ b. if b then replies.Written (record { 0 = c.store.last.0 + length ops }) else replies.Refused) (judged_none c ops e))
+
+pub write_stays : (c : CoreState) (ops : List WriteOp) → None ≡ judged c ops → c ≡ turned c (Write ops)
+write_stays c ops e = sym (ap (λ b. record c { store = if b then with_live_numbers (moved c.store (c.events + 1) (Write ops)) else c.store }) (judged_none c ops e))
+
+pub write_told : (c : CoreState) (ops : List WriteOp) (w : List Version) → Some w ≡ judged c ops → replies.Written (record { 0 = c.store.last.0 + length ops }) ≡ told c (Write ops)
+write_told c ops w e = sym (ap (λ b. if b then replies.Written (record { 0 = c.store.last.0 + length ops }) else replies.Refused) (judged_some c ops w e).0)
+
+pub write_turns : (c : CoreState) (ops : List WriteOp) (w : List Version) → Some w ≡ judged c ops → record c { store = with_live_numbers (record c.store { versions = w; last = record { 0 = c.store.last.0 + length ops } }) } ≡ turned c (Write ops)
+write_turns c ops w e =
+    let j = judged_some c ops w e in
+    ap (λ z. record c { store = with_live_numbers (record c.store { versions = z; last = record { 0 = c.store.last.0 + length ops } }) }) j.1
+    ∙ sym (ap (λ b. record c { store = if b then with_live_numbers (moved c.store (c.events + 1) (Write ops)) else c.store }) j.0)

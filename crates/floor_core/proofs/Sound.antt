@@ -18,20 +18,24 @@ flush_stays m halted used (Some job) h = (h.0, h.1, record { from = h.2.from; to
 
 compaction_stays : (m : State) (halted : Option ℕ) (used : List ℕ) (o : Option Compaction) → IsCompactionRight m o → IsCompactionRight (with_others m halted used) o
 compaction_stays m halted used None h = h
-compaction_stays m halted used (Some job) h = (h.0, h.1, record {
-  some = h.2.some;
-  ascending = h.2.ascending;
-  live = h.2.live;
-  above = h.2.above;
-  below = h.2.below;
-  old = h.2.old;
-  outside = h.2.outside;
-  clear = h.2.clear;
-  deeper = h.2.deeper;
-  to = h.2.to;
-  floor = h.2.floor;
-  snaps = h.2.snaps;
-})
+compaction_stays m halted used (Some job) h = (
+  h.0,
+  h.1,
+  record {
+    some = h.2.some;
+    ascending = h.2.ascending;
+    live = h.2.live;
+    above = h.2.above;
+    below = h.2.below;
+    old = h.2.old;
+    outside = h.2.outside;
+    clear = h.2.clear;
+    deeper = h.2.deeper;
+    to = h.2.to;
+    floor = h.2.floor;
+    snaps = h.2.snaps;
+  },
+)
 
 sound_others : (m : State) (halted : Option ℕ) (used : List ℕ)
     → ((i : Family) (f : FamilyState) → family_at m i ≡ Some f → All (λ (t : LiveTable). Contains used t.number) f.tables)

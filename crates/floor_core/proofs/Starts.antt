@@ -1,23 +1,21 @@
 -- A running job stays what its start made it.
-use Rattle.std.proofs.Common.{◌≡◌, ℕ, ◌+◌, Bool, true, false, not, ◌&&◌, List, [], ◌∷◌, length, Option, Some, None, refl, sym, ap, subst, ◌∙◌, inl, inr}
-use Rattle.std.specs.Prelude.{All, is_none, is_some, option_map, ◌==◌, if◌then◌else◌}
+use Rattle.std.proofs.Common.{◌≡◌, ℕ, ◌+◌, Bool, true, false, List, [], ◌∷◌, Option, Some, None, refl, sym, subst, ◌∙◌, inl, inr}
+use Rattle.std.specs.Prelude.{All, is_none, option_map, if◌then◌else◌}
 use Rattle.std.proofs.lemmas.Bool.{cases_Bool, and_parts}
 use Rattle.ts_key.specs.declared.numbers.Family.{Family}
 use Rattle.udt_model.specs.declared.reply.Piece.{Piece}
 use Rattle.udt_model.specs.declared.reply.Reply.{Reply}
 use Rattle.udt_model.specs.declared.reply.Reply.TheVariants.{Busy}
 use Rattle.udt_model.specs.State.{State, Flush, Compaction, floor_at, seqs_of}
-use Rattle.udt_model.specs.Acts.Act.{flush_start, compact_start}
-use Rattle.udt_model.specs.Refusals.{busy, halt, refusal, unknown_family, ◌or_else◌}
+use Rattle.udt_model.specs.Refusals.{busy, halt, unknown_family, ◌or_else◌}
 use Rattle.udt_model.specs.Jobs.{deeper_of}
 use Rattle.udt_model.specs.Steps.{with_compaction}
 use Rattle.floor_laws.proofs.Members.{In, All-In}
 use Rattle.floor_core.specs.declared.event.CoreEvent.{CoreEvent}
-use Rattle.floor_core.specs.declared.event.CoreEvent.TheVariants.{Write, Get, Raise, Snap, Release, Pin, PinnedGet, FlushStart, FlushEnd, FlushDrop, CompactStart, CompactEnd, CompactDrop, Halt}
+use Rattle.floor_core.specs.declared.event.CoreEvent.TheVariants.{FlushStart, FlushEnd, FlushDrop, CompactStart, CompactEnd, CompactDrop}
 use Rattle.floor_core.specs.Cores.{CoreState, with_live_numbers}
-use Rattle.floor_core.specs.Machine.{behind_event, flush_ended, is_closed, is_taken, moved}
+use Rattle.floor_core.specs.Machine.{behind_event, flush_ended, is_taken, moved}
 use Rattle.floor_core.specs.Runs.{behind_all, ends_compaction, ends_flush}
-
 
 -- ---- refused while it runs
 

@@ -1,5 +1,5 @@
 -- Parts of a step.
-use Rattle.std.specs.Prelude.{ℕ, ◌==◌, ◌+◌, is_none, length, if◌then◌else◌, List, find, ◌++◌, Option, Some, None, option_map}
+use Rattle.std.specs.Prelude.{ℕ, ◌==◌, ◌+◌, is_none, if◌then◌else◌, List, find, ◌++◌, Option, Some, None, option_map}
 use Rattle.ts_key.specs.declared.numbers.Seq.{Seq}
 use Rattle.ts_key.specs.declared.batch.WriteOp.{WriteOp}
 use Rattle.ts_key.specs.declared.version.Version.{Version}

@@ -7,7 +7,9 @@ use udt_model::{Items, ModelRead, Piece};
 #[derive(Debug, Drop)]
 pub enum CoreEvent {
     /// The operations take effect together.
-    Write { batch: Batch },
+    Write {
+        batch: Batch,
+    },
     /// The value of a key at the timestamp `t`, now or with a registered snapshot.
     Get {
         family: Family,
@@ -16,11 +18,16 @@ pub enum CoreEvent {
         snap: Option<u64>,
     },
     /// Raises the history floor of a family.
-    Raise { family: Family, floor: Ts },
+    Raise {
+        family: Family,
+        floor: Ts,
+    },
     /// Registers a snapshot of the last sequence.
     Snap,
     /// Gives the snapshot of this number up.
-    Release { id: u64 },
+    Release {
+        id: u64,
+    },
     /// Keeps a view of the state of this moment.
     Pin,
     /// A get in the view of the pin of this number.
@@ -32,9 +39,13 @@ pub enum CoreEvent {
         snap: Option<u64>,
     },
     /// A flush starts of all versions of a family that are in no table.
-    FlushStart { family: Family },
+    FlushStart {
+        family: Family,
+    },
     /// The running flush ends with this table.
-    FlushEnd { table: u64 },
+    FlushEnd {
+        table: u64,
+    },
     /// The running flush is dropped.
     FlushDrop,
     /// A compaction of these tables to this level starts.
@@ -44,7 +55,9 @@ pub enum CoreEvent {
         level: u32,
     },
     /// The running compaction ends with these tables.
-    CompactEnd { pieces: Items<Piece> },
+    CompactEnd {
+        pieces: Items<Piece>,
+    },
     /// The running compaction is dropped.
     CompactDrop,
     /// The store takes no more writes, raises, starts and ends of jobs.

@@ -50,7 +50,11 @@ fn is_upto(v: &Version, s: Seq) -> bool
 }
 
 /// The versions with sequences up to this one.
-pub(crate) fn first_of(alloc: Global, versions: &[Version], s: Seq) -> Result<Vec<Version>, NoMemory>
+pub(crate) fn first_of(
+    alloc: Global,
+    versions: &[Version],
+    s: Seq,
+) -> Result<Vec<Version>, NoMemory>
     ensures { IfOk result (λ kept. kept.items ≡ up_to s.0 versions.now) }
 {
     let mut kept = Vec::new(alloc);

@@ -122,7 +122,13 @@ impl Core {
         Ok(lists)
     }
 
-    fn get(&self, family: Family, key: &Key, t: Ts, snap: Option<u64>) -> Result<CoreReply, NoMemory>
+    fn get(
+        &self,
+        family: Family,
+        key: &Key,
+        t: Ts,
+        snap: Option<u64>,
+    ) -> Result<CoreReply, NoMemory>
         ensures { IfOk result (λ reply. reply ≡ told self.now (CoreEvent.Get family key.now t snap)) }
     {
         let Some(f) = self.family(family) else {
@@ -217,6 +223,7 @@ impl Core {
     }
 
     /// The same, unless the write is refused.
+    #[tactic(auto, using(crate::proofs::Judging::judged_unknown, crate::proofs::Judging::judged_halted, crate::proofs::Judging::judged_full, crate::proofs::Judging::judged_admitted))]
     fn judge(&self, ops: &[WriteOp]) -> Result<Option<Items<Version>>, NoMemory>
         requires { length ops.now ≤ 64 }
         ensures { IfOk result (λ found. found ≡ judged self.now ops.now) }
@@ -233,6 +240,7 @@ impl Core {
         self.admit(ops)
     }
 
+    #[tactic(auto, using(crate::proofs::Judging::write_refused, crate::proofs::Judging::write_stays, crate::proofs::Judging::write_told, crate::proofs::Judging::write_turns))]
     fn write(&mut self, batch: &Batch) -> Result<CoreReply, NoMemory>
         ensures told { IfOk result (λ reply. reply ≡ told self.old (CoreEvent.Write batch.now)) }
         ensures left { OnOk result (self.new ≡ turned self.old (CoreEvent.Write batch.now)) }
