@@ -37,7 +37,7 @@ record Prints (words : List (List ℕ)) (o : NamedOp) : Type 0 where
   words_are : words ≡ op_words o
   typed : IsTypedOp o
 
-word_at : (n : ℕ) (xs ys : List (List ℕ)) → xs ≡ ys → get_or xs n [] ≡ get_or ys n []
+pub word_at : (n : ℕ) (xs ys : List (List ℕ)) → xs ≡ ys → get_or xs n [] ≡ get_or ys n []
 word_at n xs ys e = ap (λ (ws : List (List ℕ)). get_or ws n []) e
 
 abbrev named : List ℕ → List ℕ → Ts → Op → NamedOp
@@ -49,7 +49,7 @@ same_named f g k l s t x y a b c d = rw (a, b, c, d) refl
 abbrev at_ts : ℕ → Ts
 at_ts n = record { 0 = n }
 
-ts_back : (s t : Ts) → IsNat64 s.0 → IsNat64 t.0 → decimal s.0 ≡ decimal t.0 → s ≡ t
+pub ts_back : (s t : Ts) → IsNat64 s.0 → IsNat64 t.0 → decimal s.0 ≡ decimal t.0 → s ≡ t
 ts_back s t p q e = ap at_ts (number_back s.0 t.0 p q e)
 
 words_once : (f g k l : List ℕ) (s t : Ts) (x y : Op) → IsTypedOp (named f k s x) → IsTypedOp (named g l t y) → op_words_of (named f k s x) x ≡ op_words_of (named g l t y) y → named f k s x ≡ named g l t y
@@ -315,7 +315,7 @@ words_back k l p q e =
 
 -- ---- one list of words of a text
 
-abbrev all_clear : List (List ℕ) → Bool
+abbrev pub all_clear : List (List ℕ) → Bool
 all_clear words = list_all is_clear words
 
 line_clear : (l : Line) → IsTypedLine l → all_clear (line_words l) ≡ true
@@ -345,7 +345,7 @@ word_once u v s t a b p q e =
 cons_words : (u v : List ℕ) (us vs : List (List ℕ)) → u ≡ v → us ≡ vs → u ∷ us ≡ v ∷ vs
 cons_words u v us vs p q = rw (p, q) refl
 
-followed_once : (us vs : List (List ℕ)) (s t : List ℕ) → all_clear us ≡ true → all_clear vs ≡ true → followed us ++ 10 ∷ s ≡ followed vs ++ 10 ∷ t → (us ≡ vs) × (s ≡ t)
+pub followed_once : (us vs : List (List ℕ)) (s t : List ℕ) → all_clear us ≡ true → all_clear vs ≡ true → followed us ++ 10 ∷ s ≡ followed vs ++ 10 ∷ t → (us ≡ vs) × (s ≡ t)
 followed_once [] [] s t a b e = (refl, ap (drop 1) e)
 followed_once [] (v ∷ vs) s t a b e = let h = ap (λ (x : List ℕ). get_or x 0 0) e in absurd (omega arith)
 followed_once (u ∷ us) [] s t a b e = let h = ap (λ (x : List ℕ). get_or x 0 0) e in absurd (omega arith)

@@ -9,3 +9,4 @@ pub mod BadLines
 pub mod Stamped
 pub mod Spelling
 pub mod Injective
+pub mod Transcripts

@@ -11,7 +11,7 @@ use Rattle.client_runner.specs.Output.{HasRoom}
 use Rattle.client_lang.specs.Grammar.{IsFile, command_limit}
 use Rattle.client_lang.specs.Print.{IsBuiltCommand, IsBuiltLine, print_header, print_lines}
 use Rattle.client_lang.specs.Stamps.{IsStampedCommand}
-use Rattle.client_runner.specs.Stops.{message, status_of}
+use Rattle.client_runner.specs.Stops.{TakesMemory, message, status_of}
 use Rattle.client_runner.specs.Transcripts.{IsTranscript, fresh}
 use Rattle.client_runner.specs.declared.output.Ready.{Ready}
 use Rattle.client_runner.specs.declared.status.Status.{Status}
@@ -68,7 +68,7 @@ IsReadyStop bytes (BadLine n) = Refuses bytes (faults.BadLine n)
 IsReadyStop bytes NoMemory = Unit {0}
 IsReadyStop bytes stop = ⊥
 
--- the status and the message of a stop, or of want of memory in its place
+-- the status and the message of a stop, or where that takes memory, of want of memory in its place
 abbrev pub IsMessage : List ℕ → Stop → Status → List ℕ → Type 0
 IsMessage path stop status text =
-    ((status ≡ status_of stop) × (text ≡ message path stop)) ⊎ ((status ≡ status_of NoMemory) × (text ≡ message path NoMemory))
+    ((status ≡ status_of stop) × (text ≡ message path stop)) ⊎ (TakesMemory stop × (status ≡ status_of NoMemory) × (text ≡ message path NoMemory))

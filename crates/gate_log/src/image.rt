@@ -14,8 +14,8 @@ use crate::{FRAME_LIMIT, Frame, FramesFault, LogFault, NoMemory};
 use std::alloc::Global;
 use udt_disk::{DiskFile, Failed};
 
-/// How many bytes are read at once.
-const PIECE: usize = 65536;
+/// How many bytes are read at once. A real file that is found pays a sync for each such piece.
+const PIECE: usize = 1_048_576;
 
 /// What was read of a file so far, from its front, and the room for the next piece.
 #[derive(Drop)]

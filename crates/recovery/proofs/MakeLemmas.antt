@@ -23,7 +23,7 @@ use Rattle.manifest.specs.Folders.Meaning.{no_store, store}
 use Rattle.manifest.specs.Heads.{AreNew, IsNewFamily}
 use Rattle.manifest.specs.Making.{IsStoreName, IsUnmade, IsNoneOrAll}
 use Rattle.recovery.specs.Stores.{FolderStands, head_of, sizes_of}
-use Rattle.recovery.specs.Making.{new_state, IsNoneOrNew}
+use Rattle.recovery.specs.Making.{new_state, IsMakingName, IsNoneOrNew, KeepsOthers}
 
 -- ---- a new store
 
@@ -122,6 +122,21 @@ module _ {D F : Type 0} (d : disk.Ghosts D F) (f : file.Ghosts F) where
 
     pub files_step : (families : List FamilyHead) (new : D) → (IsUnmade d mid → Ran d f (IsNoneOrNew families) (alone mid) (alone new)) → Ran d f (IsNoneOrNew families) (alone old) (alone new)
     files_step families new run = ran_on d f (IsNoneOrNew families) (alone old) (alone mid) (alone new) (behind_look families) (run unmade_behind)
+
+  -- ---- other names
+
+  -- a look keeps all
+  pub look_keeps : (old new : D) → OnlyReads d f (alone old) (alone new) → IsTrue (d.is_told old) → KeepsOthers d old new
+  look_keeps old new look told = record { stands = λ n free. stands_all d f old new look told n; no_more = λ n c free left. leaves_all d f old new look n c left }
+
+  -- and so do the calls behind it
+  pub keeps_behind : (old mid new : D) → OnlyReads d f (alone old) (alone mid) → IsTrue (d.is_told old) → (IsTrue (d.is_told mid) → Touches d IsMakingName mid new) → KeepsOthers d old new
+  keeps_behind old mid new look told run =
+      let touches = run (subst IsTrue (sym look.told) told) in
+      record {
+        stands = λ n free. touches.same n free ∙ stands_all d f old mid look told n;
+        no_more = λ n c free left. leaves_all d f old mid look n c (touches.no_more n c free left);
+      }
 
   -- what a crash leaves once a run is over
   pub leaves : (P : Folder → Type 0) (new : D) → LeavesNow d f P (alone new) → (folder : Folder) → MayLeaveFolder d new folder → P folder

@@ -16,7 +16,7 @@ ghost use Rattle.manifest.specs.Heads.{AreNew};
 ghost use Rattle.manifest.specs.Making.{IsEarlyName, IsStoreName, IsUnmade, IsNoneOrAll};
 ghost use Rattle.recovery.specs.Stores.{FolderStands};
 ghost use Rattle.recovery.specs.Fault.{is_init_disk_fault, RefusesMaking, IsMakingRefusal};
-ghost use Rattle.recovery.specs.Making.{new_state, IsNoneOrNew};
+ghost use Rattle.recovery.specs.Making.{new_state, IsMakingName, IsNoneOrNew, KeepsOthers};
 
 use crate::InitFault;
 use gate_log::LogFault;
@@ -35,6 +35,9 @@ pub fn make_store<D: Disk>(alloc: Global, disk: &mut D, head: &Head) -> Result<(
     // Where it wasn't made, there is no store still, or all of it.
     ensures stopped { OnErr result (IsTrue (D.is_told disk.old) → Means (D.stands disk.old) no_store → IsNoneOrNew head.now.families (D.stands disk.new)) }
     ensures no_memory { IsErrOf result InitFault.NoMemory → IsTrue (D.is_told disk.old) → Means (D.stands disk.old) no_store → Means (D.stands disk.new) no_store }
+
+    // Files that belong to no new store are left alone.
+    ensures others { IsTrue (D.is_told disk.old) → KeepsOthers D.Disk disk.old disk.new }
 
     // In a folder that was just opened a crash at any moment leaves no store or all of it, after `Ok` all of it, and
     // where memory ran out no store.
@@ -92,6 +95,7 @@ fn make_files<D: Disk>(alloc: Global, disk: &mut D, head: &Head) -> Result<(), L
     requires { AreNew head.now.families }
     ensures made { OnOk result (IsTrue (D.is_told disk.old) → FolderStands (D.stands disk.new) (new_state head.now.families)) }
     ensures stopped { OnErr result (IsTrue (D.is_told disk.old) → Means (D.stands disk.old) no_store → IsNoneOrNew head.now.families (D.stands disk.new)) }
+    ensures touches { IsTrue (D.is_told disk.old) → Touches D.Disk IsMakingName disk.old disk.new }
     ensures no_memory { IsErrOf result LogFault.NoMemory → D.stands disk.new Made ≡ D.stands disk.old Made }
     ensures no_memory_crash { IsErrOf result LogFault.NoMemory → NoMore (D.may_leave disk.old Made) (D.may_leave disk.new Made) }
     ensures moments { IsUnmade D.Disk disk.old → Ran D.Disk D.File.DiskFile (IsNoneOrNew head.now.families) (alone disk.old) (alone disk.new) }

@@ -1,6 +1,10 @@
 //! The program: a key-value store whose keys carry timestamps. Its commands are those of `client_runner`.
 #![tactic(auto)]
 
+ghost use Rattle.std.specs.Prelude.{◌≡◌};
+ghost use Rattle.std.specs.Process.{exit_status};
+ghost use Rattle.client_runner.specs.Statuses.{exit_code};
+
 mod reasons;
 
 use client_runner::{Status, refuse_words, store_plain};
@@ -55,6 +59,13 @@ fn command_words(rt: &(impl Env + AllocGlobal)) -> Result<Vec<Text>, WordsFault>
     Ok(words)
 }
 
+/// What the process ends with.
+fn exit_of(status: Status) -> ExitCode
+    ensures { exit_status result ≡ exit_code status }
+{
+    ExitCode::from(status.code())
+}
+
 fn main(rt: HostRuntime) -> ExitCode {
     let mut out = HostSink::new(io::writer(&rt));
     let status = match command_words(&rt) {
@@ -72,5 +83,5 @@ fn main(rt: HostRuntime) -> ExitCode {
         }
         Err(WordsFault::NoMemory) => Status::NoMemory,
     };
-    ExitCode::from(status.code())
+    exit_of(status)
 }

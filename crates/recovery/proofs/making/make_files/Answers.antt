@@ -1,9 +1,12 @@
-use Rattle.std.proofs.Common.{inl, inr, ⊎_elim, ◌∙◌, sym, subst}
+use Rattle.std.proofs.Common.{◌≡◌, inl, inr, ⊎_elim, ◌∙◌, sym, subst}
 use Rattle.std.specs.Prelude.{IsTrue}
 use Rattle.std.proofs.lemmas.Result.{on_ok_weaker, on_err_weaker}
 use Rattle.udt_disk.specs.Crash.{Image}
 use Rattle.udt_disk.specs.declared.name.FileName.{FileName}
 use Rattle.udt_disk.specs.declared.name.FileName.TheVariants.{Log, Made}
+use Rattle.udt_disk.proofs.TouchLemmas.{touches_nothing, touches_more, touches_then}
+use Rattle.manifest.specs.Making.{IsStoreName}
+use Rattle.recovery.specs.Making.{IsMakingName}
 use Rattle.recovery.proofs.MakeLemmas.{new_stands, log_isn't_touched, at_rest, log_step, still_unmade, manifest_step, all_there}
 use Rattle.recovery.proofs.making.make_files.Goals as goal
 
@@ -63,3 +66,19 @@ returns-clause-durable g c unmade =
     on_ok_weaker c.make_manifest.result
     (λ means. all_there d f families disk_now file_now old mid unmade log.touches c.requires new (c.in_ok-make_first_log.ensures.durable unmade.told) (c.make_manifest.ensures.touches now) means)
     (c.make_manifest.ensures.durable (still_unmade d f families old mid unmade log.touches))
+
+pub returns-in_default-clause-touches : goal.returns-in_default-clause-touches
+returns-in_default-clause-touches g c told = touches_nothing g.D.Disk IsMakingName c.args.disk.now
+
+pub returns-in_err-make_first_log-clause-touches : goal.returns-in_err-make_first_log-clause-touches
+returns-in_err-make_first_log-clause-touches g c told = touches_more g.D.Disk (λ n. n ≡ Log 1) IsMakingName c.args.disk.now c.make_first_log.new.disk (λ n is. inr is) c.make_first_log.ensures.touches
+
+pub returns-clause-touches : goal.returns-clause-touches
+returns-clause-touches g c told =
+    let d = g.D.Disk in
+    let old = c.args.disk.now in
+    let mid = c.make_first_log.new.disk in
+    let new = c.make_manifest.new.disk in
+    let log = c.make_first_log.ensures.touches in
+    let manifest = c.make_manifest.ensures.touches (subst IsTrue (sym log.told) told) in
+    touches_then d IsMakingName old mid new (touches_more d (λ n. n ≡ Log 1) IsMakingName old mid (λ n is. inr is) log) (touches_more d IsStoreName IsMakingName mid new (λ n is. inl is) manifest)

@@ -7,7 +7,7 @@ use Rattle.manifest.specs.Folders.Meaning.{no_store}
 use Rattle.udt_disk.specs.Joint.{Folder}
 use Rattle.recovery.specs.Stores.{FolderStands}
 use Rattle.recovery.specs.Making.{new_state, IsNoneOrNew}
-use Rattle.recovery.proofs.MakeLemmas.{unmade_behind, behind_look, files_step, leaves, leaves_behind, still_none, still_none_left, on_err}
+use Rattle.recovery.proofs.MakeLemmas.{unmade_behind, behind_look, files_step, leaves, leaves_behind, still_none, still_none_left, on_err, look_keeps, keeps_behind}
 use Rattle.recovery.proofs.making.make_store.Goals as goal
 
 pub returns-in_err-find_none-clause-moments : goal.returns-in_err-find_none-clause-moments
@@ -130,3 +130,15 @@ returns-in-Err-NoMemory-clause-no_memory_crash g c is told clean none folder lef
     let e = rw c.in-Err-NoMemory.field-0-is at c.in-Err-NoMemory.ensures in
     let same : folder Made ≡ d.stands old Made = clean Made (folder Made) (leaves_all d f old mid look Made (folder Made) (e.no_memory_crash refl (folder Made) (left Made))) in
     same ∙ none
+
+pub returns-in_err-find_none-clause-others : goal.returns-in_err-find_none-clause-others
+returns-in_err-find_none-clause-others g c told = look_keeps g.D.Disk g.D.File.DiskFile c.args.disk.now c.find_none.new.disk c.find_none.ensures.looks told
+
+pub returns-in-Ok-clause-others : goal.returns-in-Ok-clause-others
+returns-in-Ok-clause-others g c told = keeps_behind g.D.Disk g.D.File.DiskFile c.args.disk.now c.find_none.new.disk c.make_files.new.disk c.find_none.ensures.looks told c.make_files.ensures.touches
+
+pub returns-in-Err-DiskFault-clause-others : goal.returns-in-Err-DiskFault-clause-others
+returns-in-Err-DiskFault-clause-others g c told = keeps_behind g.D.Disk g.D.File.DiskFile c.args.disk.now c.find_none.new.disk c.make_files.new.disk c.find_none.ensures.looks told c.make_files.ensures.touches
+
+pub returns-in-Err-NoMemory-clause-others : goal.returns-in-Err-NoMemory-clause-others
+returns-in-Err-NoMemory-clause-others g c told = keeps_behind g.D.Disk g.D.File.DiskFile c.args.disk.now c.find_none.new.disk c.make_files.new.disk c.find_none.ensures.looks told c.make_files.ensures.touches
