@@ -252,7 +252,7 @@ module _ {F : Type 0} (g : Ghosts F) where
       record {
         batches = all;
         reads = subst (λ (s : List ℕ). ReadsAs s all image) (sym sizes) all_of;
-        outcome = inr (OkAt (m.last.0 + length os), told, refl, state);
+        outcome = inr (OkAt (m.last.0 + length os), told, refl, state, refl);
       }
 
   pub write_fails : (old new : Wal F g) (m : State) (number : ℕ) (os : List NamedOp) (sync : Bool) → m.halted ≡ None → OkAt (m.last.0 + length os) ≡ act_admitted m (map (named_op (heads_of m)) os) → IsLogged g old new (numbered_of m os) sync (Err DiskFault) → KeepsOn g old new m (halted_at m number) number (Write os sync) Fault
