@@ -83,8 +83,10 @@ fn commands_of_a_file(rt: HostRuntime) -> Result<(), Fail> {
 
 #[test]
 fn bytes_of_a_file(rt: HostRuntime) -> Result<(), Fail> {
-    let full = repeated(rt.alloc(), b"", b"\n", FILE_LIMIT, b"")?;
+    let comment = repeated(rt.alloc(), b"#", b" ", 1022, b"\n")?;
+    let full = repeated(rt.alloc(), b"", &comment, 8192, b"")?;
+    assert_eq!(rt; full.len(), FILE_LIMIT);
     has(&rt, &full, 0)?;
-    let more = repeated(rt.alloc(), b"", b"\n", 8_388_608, b"x")?;
+    let more = repeated(rt.alloc(), b"", &comment, 8192, b"x")?;
     refuses(&rt, &more, ReadFault::TooLong)
 }

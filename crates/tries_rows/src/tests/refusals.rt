@@ -30,9 +30,10 @@ fn longer_ones_than_there_may_be(rt: HostRuntime) -> Result<(), Fail> {
 
 #[test]
 fn a_file_has_a_most(rt: HostRuntime) -> Result<(), Fail> {
-    let most = repeated(&rt, b"", b"\n", 8_388_608, b"")?;
+    let comment = repeated(&rt, b"#", b" ", 1022, b"\n")?;
+    let most = repeated(&rt, b"", &comment, 8192, b"")?;
     prints(&rt, &most, b"")?;
-    let more = repeated(&rt, b"", b"\n", 8_388_608, b"?")?;
+    let more = repeated(&rt, b"", &comment, 8192, b"?")?;
     refuses(&rt, &more, b"too long FILE\n")
 }
 
