@@ -1,4 +1,4 @@
-//! Words, lines and headers, as the format of transcripts spells them.
+//! Words and headers, as the format of transcripts spells them.
 
-mod lines;
+mod headers;
 mod words;
