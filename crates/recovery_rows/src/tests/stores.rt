@@ -20,21 +20,19 @@ fn one_family(alloc: Global) -> Result<Head, Fail> {
     })
 }
 
-/// Makes a store of the one family `d`.
-fn make(alloc: Global, disk: &mut MemDisk) -> Result<(), InitFault> {
-    let Ok(head) = one_family(alloc) else {
-        return Err(InitFault::NoMemory);
-    };
+/// Makes a store of the one family `d`, or tells why not.
+fn make(alloc: Global, disk: &mut MemDisk) -> Result<Result<(), InitFault>, Fail> {
+    let head = one_family(alloc)?;
     if !head.is_allowed() {
-        return Err(InitFault::NoMemory);
+        return Ok(Err(InitFault::NoMemory));
     }
-    make_store(alloc, disk, &head)
+    Ok(make_store(alloc, disk, &head))
 }
 
 /// A folder with a new store.
 fn made(alloc: Global) -> Result<MemDisk, Fail> {
     let mut disk = MemDisk::new(alloc, Vec::new(alloc))?;
-    make(alloc, &mut disk)?;
+    make(alloc, &mut disk)??;
     Ok(disk)
 }
 
@@ -81,7 +79,7 @@ fn a_store_is_made_once(rt: HostRuntime) -> Result<(), Fail> {
     let disk = made(rt.alloc())?;
     let (mut disk, fault) = opened(rt.alloc(), disk);
     assert_eq!(rt; fault, None);
-    assert_eq!(rt; make(rt.alloc(), &mut disk), Err(InitFault::StoreExists));
+    assert_eq!(rt; make(rt.alloc(), &mut disk)?, Err(InitFault::StoreExists));
     Ok(())
 }
 
@@ -90,7 +88,7 @@ fn a_folder_without_a_store_is_refused(rt: HostRuntime) -> Result<(), Fail> {
     let disk = MemDisk::new(rt.alloc(), Vec::new(rt.alloc()))?;
     let (mut disk, fault) = opened(rt.alloc(), disk);
     assert_eq!(rt; fault, Some(OpenFault::NoStore));
-    assert_eq!(rt; make(rt.alloc(), &mut disk), Ok(()));
+    assert_eq!(rt; make(rt.alloc(), &mut disk)?, Ok(()));
     Ok(())
 }
 
