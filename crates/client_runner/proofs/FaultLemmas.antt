@@ -16,7 +16,7 @@ use Rattle.udt_model.specs.declared.read.ModelRead.TheVariants as reads
 use Rattle.udt_model.specs.declared.reply.Reply.{Reply}
 use Rattle.udt_model.specs.declared.reply.Reply.TheVariants.{Fault, Halted, OkAt}
 use Rattle.udt_model.specs.State.{State}
-use Rattle.client_runner.specs.Named.{accepted_unless, admitted, done_unless, full, place_of, refusal, refused, synced, unknown, family_of, version_of}
+use Rattle.client_runner.specs.Named.{accepted_unless, admitted, done_unless, full, place_of, refusal, refused, reply_of_sync, unknown, family_of, version_of}
 use Rattle.udt_model.specs.Refusals.{fell, halt, unknown_place, ◌or_else◌}
 use Rattle.udt_model.specs.Steps.{got, reply_of_read}
 use Rattle.client_runner.specs.Named.{IsReply, IsTold, after}
@@ -85,7 +85,7 @@ got_calm : (m : State) (p : Option Place) (key : List ℕ) (t : Ts) → tells_fa
 got_calm m None key t = refl
 got_calm m (Some p) key t = read_calm _
 
-synced_calm : (m : State) → m.halted ≡ None → tells_fault (synced m) ≡ false
+synced_calm : (m : State) → m.halted ≡ None → tells_fault (reply_of_sync m) ≡ false
 synced_calm m e = subst (λ (h : Option ℕ). tells_fault (done_unless (option_map Halted h)) ≡ false) (sym e) refl
 
 told_calm : (m : State) (event : Event) (reply : Reply) → m.halted ≡ None → IsTold m event reply → tells_fault reply ≡ false

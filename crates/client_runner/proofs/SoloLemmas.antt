@@ -64,7 +64,7 @@ none_yet m lines e = subst (λ (ls : List Line). HasRun m [] ls m no_mark) (sym 
     (record { end = start m; run = record { legal = refl; once = refl; alone = refl }; state_is = refl; number_is = refl; last_is = refl; runner_is = refl; count = omega arith; printed = All-nil IsBuiltLine })
 
 -- what a line says that was made behind the step of this number
-pub record IsNext (store : State) (who : Who) (number : ℕ) (last : Mark) (event : Event) (line : Line) (new : State) : Type 0 where
+pub record IsNextLine (store : State) (who : Who) (number : ℕ) (last : Mark) (event : Event) (line : Line) (new : State) : Type 0 where
   pub event_is : line.event ≡ event
   pub who_is : line.who ≡ who
   pub mark : line.mark ≡ mark_behind number last line.event line.reply
@@ -102,7 +102,7 @@ pub height_kept : (p end : Point) (ls : List Line) → Leads p ls end → end.he
 height_kept p end [] h = ap (λ (q : Point). q.height) h
 height_kept p end (l ∷ ls) h = height_kept (behind p l) end ls h.1
 
-legal_next : (p : Point) (who : Who) (number : ℕ) (last : Mark) (store new : State) (event : Event) (line : Line) → p.height ≡ 0 → p.state ≡ store → p.number ≡ number → p.last who ≡ last → IsNext store who number last event line new → IsLegal p line
+legal_next : (p : Point) (who : Who) (number : ℕ) (last : Mark) (store new : State) (event : Event) (line : Line) → p.height ≡ 0 → p.state ≡ store → p.number ≡ number → p.last who ≡ last → IsNextLine store who number last event line new → IsLegal p line
 legal_next p who number last store new event line low s n l next = record {
   mark = next.mark ∙ mark_is p who number last line n l next.who_is;
   named = is_named_built line.who (p.names line.who) line.event next.printed.event;
@@ -110,13 +110,13 @@ legal_next p who number last store new event line low s n l next = record {
       (reply_agrees p.state (p.names line.who) line.event line.reply next.printed.event (subst (λ (x : State). IsReply x line.event line.reply) (sym s) next.reply));
 }
 
-state_next : (p : Point) (who : Who) (number : ℕ) (last : Mark) (store new : State) (event : Event) (line : Line) → p.state ≡ store → p.number ≡ number → IsNext store who number last event line new → (behind p line).state ≡ new
+state_next : (p : Point) (who : Who) (number : ℕ) (last : Mark) (store new : State) (event : Event) (line : Line) → p.state ≡ store → p.number ≡ number → IsNextLine store who number last event line new → (behind p line).state ≡ new
 state_next p who number last store new event line s n next =
     after_agrees p.state (p.names line.who) (p.number + 1) line.event line.reply next.printed.event
     ∙ ap (λ (k : ℕ). after p.state (k + 1) line.event line.reply) n ∙ ap (λ (x : State). after x (number + 1) line.event line.reply) s ∙ sym next.after_is
 
 pub ran_more : (m : State) (commands : List Command) (lines : List Line) (store new : State) (last : Mark) (event : Event) (line : Line)
-    → HasRun m commands lines store last → IsNext store (Client 1) last.number last event line new → HasRun m (commands ++ kinds.Line event ∷ []) (lines ++ line ∷ []) new line.mark
+    → HasRun m commands lines store last → IsNextLine store (Client 1) last.number last event line new → HasRun m (commands ++ kinds.Line event ∷ []) (lines ++ line ∷ []) new line.mark
 ran_more m cs lines store new last event line r n =
     let legal_line = legal_next r.end (Client 1) last.number last store new event line (height_kept (start m) r.end lines r.run.legal) r.state_is r.number_is r.last_is n in
     let own_new : own (Client 1) (line ∷ []) ≡ line ∷ [] = own_line line n.who_is in
@@ -157,7 +157,7 @@ not_own : (line : Line) → line.who ≡ Runner → own (Client 1) (line ∷ [])
 not_own line e = rw e refl
 
 pub synced_last : (m : State) (commands : List Command) (lines : List Line) (store new : State) (last : Mark) (line : Line)
-    → HasRun m commands lines store last → IsNext store Runner last.number no_mark Sync line new → HasSynced m commands (lines ++ line ∷ []) new
+    → HasRun m commands lines store last → IsNextLine store Runner last.number no_mark Sync line new → HasSynced m commands (lines ++ line ∷ []) new
 synced_last m cs lines store new last line r n =
     let legal_line = legal_next r.end Runner last.number no_mark store new Sync line (height_kept (start m) r.end lines r.run.legal) r.state_is r.number_is r.runner_is n in
     let mine : own (Client 1) (lines ++ line ∷ []) ≡ lines =
@@ -230,7 +230,7 @@ counted_more commands lines event line e =
     omega (arith, e)
 
 pub ran_one_more : (first store new : State) (commands : List Command) (lines : List Line) (last : Mark) (event : Event) (line : Line) → RanSoFar first store commands lines last
-    → IsNext store (Client 1) last.number last event line new → IsSound line → RanSoFar first new (commands ++ kinds.Line event ∷ []) (lines ++ line ∷ []) line.mark
+    → IsNextLine store (Client 1) last.number last event line new → IsSound line → RanSoFar first new (commands ++ kinds.Line event ∷ []) (lines ++ line ∷ []) line.mark
 ran_one_more first store new commands lines last event line r n sound = record {
   run = ran_more first commands lines store new last event line r.run n;
   sound = All-push IsSound lines line r.sound sound;

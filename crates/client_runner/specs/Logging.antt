@@ -1,5 +1,6 @@
 -- What adding a batch to a log leaves, where it may be synced too.
 use Rattle.std.specs.Prelude.{◌≡◌, ◌⊎◌, ℕ, ◌<◌, ◌≤◌, Bool, true, false, List, [], ◌∷◌, ◌++◌, ◌+◌, drop, map, ⊤, Result, Ok, Err}
+use Rattle.wal.specs.declared.wal.TheConstants.{PENDING_LIMIT}
 use Rattle.udt_disk.specs.Causes.{Rose}
 use Rattle.udt_disk.specs.declared.file.DiskFile.{Ghosts}
 use Rattle.udt_disk.specs.Runs.{IsSameFile}
@@ -22,7 +23,7 @@ module _ {F : Type 0} (g : Ghosts F) where
   -- a batch that begins with this sequence may be added
   pub record HasRoom (wal : Wal F g) (first : ℕ) : Type 0 where
     pub next : MayGoOn g wal first
-    pub room : wal_pending wal < 1048576
+    pub room : wal_pending wal < PENDING_LIMIT
 
   -- what the log holds: the batch waits or is on the disk, where a sync was asked on the disk; without memory what it held
   abbrev pub HoldsLogged : Wal F g → List Numbered → List Numbered → Numbered → Bool → Result (Unit {0}) LogFault → Type 0

@@ -1,5 +1,6 @@
 -- Writes and reads by name, as the store of one client takes them.
-use Rattle.std.specs.Prelude.{◌≡◌, ◌⊎◌, ℕ, ◌+◌, ◌-◌, ◌^◌, ◌++◌, nat_lt, if◌then◌else◌, List, [], ◌∷◌, length, Option, Some, None}
+use Rattle.std.specs.Prelude.{◌≡◌, ◌⊎◌, ℕ, ◌+◌, ◌++◌, nat_lt, if◌then◌else◌, List, [], ◌∷◌, length, Option, Some, None}
+use Rattle.ts_key.specs.declared.limits.TheConstants.{SEQUENCE_LIMIT}
 use Rattle.ts_key.specs.declared.numbers.Family.{Family}
 use Rattle.ts_key.specs.declared.version.Version.{Version}
 use Rattle.udt_model.specs.declared.event.NamedOp.{NamedOp}
@@ -49,7 +50,7 @@ refused m w n k (o ∷ os) = refusal w k (place_of m o.family) o or_else refused
 
 -- there are no sequences left for so many operations
 abbrev pub full : State → List NamedOp → Option Reply
-full m os = if nat_lt (2 ^ 56 - 1) (m.last.0 + length os) then Some (Full m.last) else None
+full m os = if nat_lt SEQUENCE_LIMIT (m.last.0 + length os) then Some (Full m.last) else None
 
 abbrev pub accepted_unless : ℕ → Option Reply → Reply
 accepted_unless last None = OkAt last
@@ -64,8 +65,8 @@ done_unless None = Done
 done_unless (Some refusal) = refusal
 
 -- the reply to a sync
-abbrev pub synced : State → Reply
-synced m = done_unless (halt m)
+abbrev pub reply_of_sync : State → Reply
+reply_of_sync m = done_unless (halt m)
 
 -- ---- steps
 
@@ -73,7 +74,7 @@ synced m = done_unless (halt m)
 abbrev pub IsTold : State → Event → Reply → Type 0
 IsTold m (Write ops sync) reply = reply ≡ admitted m ops
 IsTold m (Get family key t None) reply = reply ≡ got m (place_of m family) key t m.last
-IsTold m Sync reply = reply ≡ synced m
+IsTold m Sync reply = reply ≡ reply_of_sync m
 IsTold m event reply = ⊥
 
 -- the disk may fail under a write that is accepted, and under a sync

@@ -8,7 +8,8 @@ use Rattle.client_lang.specs.declared.grammar.lines.ReadFault.{ReadFault}
 use Rattle.client_lang.specs.declared.grammar.lines.ReadFault.TheVariants as faults
 use Rattle.client_lang.specs.Faults.{Refuses}
 use Rattle.client_runner.specs.Output.{HasRoom}
-use Rattle.client_lang.specs.Grammar.{IsFile, command_limit}
+use Rattle.client_lang.specs.Grammar.{IsFile}
+use Rattle.client_lang.specs.declared.grammar.lines.TheConstants.{COMMAND_LIMIT}
 use Rattle.client_lang.specs.Print.{IsBuiltCommand, IsBuiltLine, print_header, print_lines}
 use Rattle.client_lang.specs.Stamps.{IsStampedCommand}
 use Rattle.client_runner.specs.Stops.{message, status_of}
@@ -27,7 +28,7 @@ pub record IsReadAs (standing : Standing) (commands : List Command) : Type 0 whe
   pub only : (other : List Command) → IsFile bytes other → other ≡ commands
   pub built : All IsBuiltCommand commands
   pub stamped : All IsStampedCommand commands
-  pub few : length commands ≤ command_limit
+  pub few : length commands ≤ COMMAND_LIMIT
 
 -- the whole text
 abbrev pub text_of : Ready → List ℕ

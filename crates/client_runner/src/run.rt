@@ -1,5 +1,6 @@
 //! The command `run`: the commands of a file over the store in a folder.
-ghost use Rattle.std.specs.Prelude.{◌≡◌, ◌≢◌, ◌+◌, ◌-◌, ◌^◌, ◌<◌, ◌≤◌, [], IsTrue, Some, All, length, vec_capacity, IfOk, IfErr};
+ghost use Rattle.std.specs.Prelude.{◌≡◌, ◌≢◌, ◌+◌, ◌-◌, ◌<◌, ◌≤◌, [], IsTrue, Some, All, length, vec_capacity, IfOk, IfErr};
+ghost use Rattle.ts_key.specs.declared.limits.TheConstants.{FAMILY_LIMIT, SEQUENCE_LIMIT}
 ghost use Rattle.std.specs.List.{list_any};
 ghost use Rattle.udt_disk.specs.Causes.{plus_faults};
 ghost use Rattle.udt_disk.specs.Crash.{Image, NoMore};
@@ -97,10 +98,10 @@ fn run_parts<D: Disk>(
     lines: Vec<Line>,
 ) -> (D, Result<Ready, NoMemory>)
     requires can_run { CanRun commands.items lines }
-    requires heads { length parts.heads.items ≤ 16 }
+    requires heads { length parts.heads.items ≤ FAMILY_LIMIT }
     requires sizes { length (wal_sizes parts.wal) ≡ length parts.heads.items }
     requires pending { wal_pending parts.wal ≡ 0 }
-    requires within { parts.last.0 < 2 ^ 56 }
+    requires within { parts.last.0 < SEQUENCE_LIMIT + 1 }
     requires goes_on { MayGoOn D.File.DiskFile parts.wal (parts.last.0 + 1) }
     requires fresh { D.File.faults (wal_file parts.wal) ≡ 0 }
     ensures run { HasRunParts D.Disk D.File.DiskFile parts result.0 commands.items result.1 }

@@ -115,7 +115,7 @@ fn make_files<D: Disk>(alloc: Global, disk: &mut D, head: &Head) -> Result<(), L
 /// The sizes of the timestamps of so many families.
 fn stamp_sizes(alloc: Global, count: usize) -> Result<Sizes, AllocError>
     requires some { 1 ≤ count }
-    requires few { count ≤ 16 }
+    requires few { count ≤ FAMILY_LIMIT }
 {
     let sizes = [STAMP_SIZE; FAMILY_LIMIT];
     Sizes::of(alloc, &sizes[..count])

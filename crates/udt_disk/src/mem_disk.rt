@@ -256,7 +256,7 @@ impl MemDisk {
     pub fn retire(&mut self, file: MemFile)
         ensures put { Put file.data.name (Home file.data) self.old.directory self.new.directory }
         // What stood there before the file was made comes back where it is lost, until it is synced.
-        ensures back { comes_back self.new.directory file.data.name ≡ (if file.data.is_settled then None else comes_back self.old.directory file.data.name) }
+        ensures back { comes_back self.new.directory file.data.name ≡ (if file.data.was_synced then None else comes_back self.old.directory file.data.name) }
         ensures back_others { (n : NameOf) → n ≢ file.data.name → comes_back self.new.directory n ≡ comes_back self.old.directory n }
         ensures given_back { self.new.given_back ≡ plus_faults self.old.given_back (plus_faults file.data.troubled file.data.starved) }
         ensures troubled { self.new.troubled ≡ self.old.troubled }
@@ -324,7 +324,7 @@ fn new_file(
         may_miss: birth.may_miss,
         may_differ: birth.may_differ,
         emptied: birth.emptied,
-        is_settled: false,
+        was_synced: false,
         troubles: Vec::from_slice(alloc, troubles)?,
         uses: 0,
         troubled: 0,

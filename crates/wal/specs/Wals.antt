@@ -4,7 +4,7 @@ use Rattle.udt_disk.specs.Crash.{Only}
 use Rattle.udt_disk.specs.declared.file.DiskFile.{Ghosts}
 use Rattle.gate_log.specs.GateLog as gate
 use Rattle.wal.specs.Records.{IsLoggedBatch}
-use Rattle.wal.specs.Sequences.{next_sequence, IsNext, IsInSequence}
+use Rattle.wal.specs.Sequences.{next_sequence, IsNextSequence, IsInSequence}
 use Rattle.wal.specs.Bodies.{body_bytes, is_first_behind, HoldsBatches}
 use Rattle.wal.specs.declared.numbered.Numbered.{Numbered}
 use Rattle.wal.specs.declared.wal.Wal.{Wal}
@@ -56,4 +56,4 @@ IsWalReady g wal = IsTrue (g.is_told (wal_file wal)) → (batches : List Numbere
 
 -- the same, and a batch that begins with this sequence may go on there
 abbrev pub MayGoOn : {F : Type 0} (g : Ghosts F) → Wal F g → ℕ → Type 0
-MayGoOn g wal first = IsTrue (g.is_told (wal_file wal)) → (batches : List Numbered) × (waiting : List Numbered) × IsWalOf g wal batches waiting × IsNext (next_sequence (batches ++ waiting)) first
+MayGoOn g wal first = IsTrue (g.is_told (wal_file wal)) → (batches : List Numbered) × (waiting : List Numbered) × IsWalOf g wal batches waiting × IsNextSequence (next_sequence (batches ++ waiting)) first

@@ -1,5 +1,6 @@
 //! A plain store beside the write-ahead log that keeps it.
 ghost use Rattle.std.specs.Prelude.{◌≡◌, ℕ, ◌+◌, ◌-◌, ◌^◌, ◌<◌, ◌≤◌, ◌++◌, length, drop, map, All, None};
+ghost use Rattle.ts_key.specs.declared.limits.TheConstants.{BATCH_LIMIT, SEQUENCE_LIMIT}
 ghost use Rattle.ts_key.specs.Batches.{IsBatch};
 ghost use Rattle.ts_key.specs.declared.batch.WriteOp.{WriteOp as Operation};
 ghost use Rattle.udt_model.specs.declared.event.Event.TheVariants.{Write, Get};
@@ -24,7 +25,7 @@ fn log_batch<F: DiskFile>(
     sync: bool,
 ) -> Result<(), LogFault>
     requires first { 1 ≤ first.0 }
-    requires last { first.0 + length batch.now ≤ 2 ^ 56 }
+    requires last { first.0 + length batch.now ≤ SEQUENCE_LIMIT + 1 }
     requires families { All (λ (op : Operation). op.family.0 < length (wal_sizes wal.old)) batch.now }
     requires room { HasRoom F.DiskFile wal.old first.0 }
     ensures { IsLogged F.DiskFile wal.old wal.new (record { first = first; batch = batch.now }) sync result }
@@ -51,7 +52,7 @@ fn log_behind<F: DiskFile>(
 ) -> Result<(), LogFault>
     requires within { count ≤ length plain.now.versions }
     requires batch { IsBatch (map op_of (drop count plain.now.versions)) }
-    requires last { plain.now.last.0 + length (map op_of (drop count plain.now.versions)) < 2 ^ 56 }
+    requires last { plain.now.last.0 + length (map op_of (drop count plain.now.versions)) < SEQUENCE_LIMIT + 1 }
     requires families { All (λ (op : Operation). op.family.0 < length (wal_sizes wal.old)) (map op_of (drop count plain.now.versions)) }
     requires room { HasRoom F.DiskFile wal.old (plain.now.last.0 + 1) }
     ensures { IsLogged F.DiskFile wal.old wal.new (batch_behind plain.now count) sync result }
@@ -128,7 +129,7 @@ impl<F: DiskFile> LoggedStore<F> {
     /// Takes a write whole, or leaves the store as it was.
     fn write(&mut self, number: u64, ops: &[NamedOp], sync: bool) -> Reply
         requires some { 0 < length ops.now }
-        requires within { length ops.now ≤ 64 }
+        requires within { length ops.now ≤ BATCH_LIMIT }
         requires stamped { All (λ (o : Named). o.ts.0 ≤ 2 ^ 64 - 2) ops.now }
         requires in_step { IsInStep F.DiskFile (wal_of self.old) (state_of self.old) }
         ensures { IsStep F.DiskFile (wal_of self.old) (wal_of self.new) (state_of self.old) (state_of self.new) number (Write ops.now sync) result }
@@ -145,7 +146,7 @@ impl<F: DiskFile> LoggedStore<F> {
     /// Takes a write whole, or leaves the store as it was, where it isn't halted.
     fn take(&mut self, number: u64, ops: &[NamedOp], sync: bool) -> Reply
         requires some { 0 < length ops.now }
-        requires within { length ops.now ≤ 64 }
+        requires within { length ops.now ≤ BATCH_LIMIT }
         requires stamped { All (λ (o : Named). o.ts.0 ≤ 2 ^ 64 - 2) ops.now }
         requires in_step { IsInStep F.DiskFile (wal_of self.old) (state_of self.old) }
         requires works { (state_of self.old).halted ≡ None }

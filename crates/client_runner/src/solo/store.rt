@@ -1,7 +1,8 @@
 //! The store of one client: a plain list of every version that was written. A look-up scans the list, for now; a write
 //! at or above the latest timestamp needs none.
-ghost use Rattle.std.specs.Prelude.{◌≡◌, ℕ, ◌+◌, ◌-◌, ◌^◌, ◌<◌, ◌≤◌, [], false, nat_lt, if◌then◌else◌, length, take, drop, map, Bool, None, Ok, IfOk, IfSome, OnErr};
-ghost use Rattle.client_runner.specs.Named.{place_of, admitted, synced, refusal, refused, unknown as unknown_of};
+ghost use Rattle.std.specs.Prelude.{◌≡◌, ℕ, ◌+◌, ◌-◌, ◌<◌, ◌≤◌, [], false, nat_lt, if◌then◌else◌, length, take, drop, map, Bool, None, Ok, IfOk, IfSome, OnErr};
+ghost use Rattle.ts_key.specs.declared.limits.TheConstants.{BATCH_LIMIT, FAMILY_LIMIT}
+ghost use Rattle.client_runner.specs.Named.{place_of, admitted, refusal, refused, reply_of_sync, unknown as unknown_of};
 ghost use Rattle.udt_model.specs.State.{heads_of, unflushed};
 ghost use Rattle.udt_model.specs.Steps.{got, reply_of_read as told_reply};
 ghost use Rattle.client_runner.specs.Named.{IsReply, after as state_after};
@@ -14,13 +15,12 @@ ghost use Rattle.client_runner.specs.Transcripts.{fresh};
 use crate::solo::versions::Versions;
 use std::alloc::{AllocError, Global};
 use std::marker::Model;
-use ts_key::{Batch, Form, Key, Name, NameFault, NoMemory, Seq, Ts, Version, WriteOp};
+use ts_key::{
+    Batch, Form, Key, Name, NameFault, NoMemory, SEQUENCE_LIMIT, Seq, Ts, Version, WriteOp,
+};
 use udt_model::{
     Answer, Event, FamilyHead, ModelRead, NamedOp, Place, Reply, plain_place, plain_read,
 };
-
-/// The last sequence that a version may have.
-const LAST_SEQUENCE: u64 = (1 << 56) - 1;
 
 /// The families of a store in memory: the one family `d`, which keeps its timestamps, with floor 0.
 pub fn fresh_heads(alloc: Global) -> Result<Vec<FamilyHead>, NoMemory>
@@ -91,21 +91,22 @@ pub struct PlainStore {
 }
 
 impl Model for PlainStore {
-    ghost use Rattle.std.specs.Prelude.{◌<◌, ◌≤◌, ◌^◌, length, None};
+    ghost use Rattle.std.specs.Prelude.{◌+◌, ◌<◌, ◌≤◌, length, None};
+    ghost use Rattle.ts_key.specs.declared.limits.TheConstants.{FAMILY_LIMIT, SEQUENCE_LIMIT};
     ghost use Rattle.udt_model.specs.State.{State, unflushed};
 
     ghost Value = { State };
 
     ghost view = { λ s. unflushed s.heads.items s.versions s.last None };
 
-    ghost invariant = { λ s. (s.last.0 < 2 ^ 56) × (length s.heads.items ≤ 16) };
+    ghost invariant = { λ s. (s.last.0 < SEQUENCE_LIMIT + 1) × (length s.heads.items ≤ FAMILY_LIMIT) };
 }
 
 impl PlainStore {
     /// A store of these families, with these versions up to this last sequence.
     pub fn of(heads: Vec<FamilyHead>, versions: Vec<Version>, last: Seq) -> PlainStore
-        requires few { length heads.items ≤ 16 }
-        requires last { last.0 < 2 ^ 56 }
+        requires few { length heads.items ≤ FAMILY_LIMIT }
+        requires last { last.0 < SEQUENCE_LIMIT + 1 }
         ensures { result ≡ unflushed heads.items versions.items last None }
     {
         PlainStore {
@@ -117,7 +118,7 @@ impl PlainStore {
 
     /// A store of these families, without a version.
     pub fn new(alloc: Global, heads: Vec<FamilyHead>) -> PlainStore
-        requires { length heads.items ≤ 16 }
+        requires { length heads.items ≤ FAMILY_LIMIT }
         ensures { result ≡ unflushed heads.items [] (record { 0 = 0 }) None }
     {
         PlainStore {
@@ -150,7 +151,7 @@ impl PlainStore {
 
     /// A store in memory has nothing to sync.
     fn sync(&self) -> Reply
-        ensures reply { result ≡ synced self.now }
+        ensures reply { result ≡ reply_of_sync self.now }
         ensures sound { says_fault result ≡ false }
         ensures built { IsBuiltReply result }
     {
@@ -160,7 +161,7 @@ impl PlainStore {
 
     /// Takes a write whole, or leaves the store as it was.
     fn write(&mut self, ops: &[NamedOp]) -> Result<Reply, NoMemory>
-        requires { length ops.now ≤ 64 }
+        requires { length ops.now ≤ BATCH_LIMIT }
         ensures reply { IfOk result (λ reply. reply ≡ admitted self.old ops.now) }
         ensures ok { (sync : Bool) (number : ℕ) → IfOk result (λ reply. self.new ≡ state_after self.old number (Event.Write ops.now sync) reply) }
         ensures err { OnErr result (self.new ≡ self.old) }
@@ -176,12 +177,12 @@ impl PlainStore {
     /// Adds the versions of a write, which `number` gives their sequences. Where it is refused, or memory runs out,
     /// the store is as it was.
     pub(super) fn admit(&mut self, ops: &[NamedOp]) -> Result<Option<Reply>, NoMemory>
-        requires { length ops.now ≤ 64 }
+        requires { length ops.now ≤ BATCH_LIMIT }
         ensures refusal { IfOk result (λ found. found ≡ refusal_of self.old ops.now) }
         ensures ok { IfOk result (λ found. IsAdmitted self.old ops.now found self.new) }
         ensures err { OnErr result (self.new ≡ self.old) }
         ensures built { IfOk result (λ found. IfSome found IsRefusal) }
-        ensures room { result ≡ Ok None → self.old.last.0 + length ops.now < 2 ^ 56 }
+        ensures room { result ≡ Ok None → self.old.last.0 + length ops.now < SEQUENCE_LIMIT + 1 }
         ensures works { self.old.halted ≡ None }
     {
         let count = self.versions.len();
@@ -200,7 +201,7 @@ impl PlainStore {
 
     /// Takes the sequences of so many versions, which were added, and tells the last one.
     pub(super) fn number(&mut self, count: usize) -> Reply
-        requires { self.old.last.0 + count < 2 ^ 56 }
+        requires { self.old.last.0 + count < SEQUENCE_LIMIT + 1 }
         ensures last { self.new ≡ record self.old { last = record { 0 = self.old.last.0 + count } } }
         ensures reply { result ≡ Reply.OkAt (self.old.last.0 + count) }
     {
@@ -226,7 +227,7 @@ impl PlainStore {
     /// The last sequence.
     pub(super) fn last(&self) -> Seq
         ensures last { result ≡ self.now.last }
-        ensures within { self.now.last.0 < 2 ^ 56 }
+        ensures within { self.now.last.0 < SEQUENCE_LIMIT + 1 }
     {
         self.last
     }
@@ -245,12 +246,12 @@ impl PlainStore {
 
     /// Adds the versions of a write, or finds its refusal; then some of them may have been added.
     fn add(&mut self, ops: &[NamedOp]) -> Result<Option<Reply>, NoMemory>
-        requires { length ops.now ≤ 64 }
+        requires { length ops.now ≤ BATCH_LIMIT }
         ensures refusal { IfOk result (λ found. found ≡ refusal_of self.old ops.now) }
         ensures ok { IfOk result (λ found. IsAdded self.old ops.now found self.new) }
         ensures err { OnErr result (Grows self.old self.new) }
         ensures built { IfOk result (λ found. IfSome found IsRefusal) }
-        ensures room { result ≡ Ok None → self.old.last.0 + length ops.now < 2 ^ 56 }
+        ensures room { result ≡ Ok None → self.old.last.0 + length ops.now < SEQUENCE_LIMIT + 1 }
     {
         if let Some(refusal) = self.unknown(ops) {
             return Ok(Some(refusal));
@@ -283,13 +284,13 @@ impl PlainStore {
 
     /// `full` where there are no sequences left for so many operations.
     fn full(&self, count: usize) -> Option<Reply>
-        requires { count ≤ 64 }
-        ensures full { result ≡ (if nat_lt (2 ^ 56 - 1) (self.now.last.0 + count) then Some (Reply.Full self.now.last) else None) }
+        requires { count ≤ BATCH_LIMIT }
+        ensures full { result ≡ (if nat_lt SEQUENCE_LIMIT (self.now.last.0 + count) then Some (Reply.Full self.now.last) else None) }
         ensures built { IfSome result IsRefusal }
-        ensures room { result ≡ None → self.now.last.0 + count < 2 ^ 56 }
+        ensures room { result ≡ None → self.now.last.0 + count < SEQUENCE_LIMIT + 1 }
     {
         let last = self.last;
-        if last.0 + count as u64 > LAST_SEQUENCE {
+        if last.0 + count as u64 > SEQUENCE_LIMIT {
             Some(Reply::Full { last })
         } else {
             None
@@ -298,7 +299,7 @@ impl PlainStore {
 
     /// Adds the version of each operation, up to the first that is refused.
     fn add_each(&mut self, ops: &[NamedOp]) -> Result<Option<Reply>, NoMemory>
-        requires { length ops.now ≤ 64 }
+        requires { length ops.now ≤ BATCH_LIMIT }
         ensures refusal { IfOk result (λ found. found ≡ refused self.old self.old.versions self.old.last.0 1 ops.now) }
         ensures ok { IfOk result (λ found. IsAdded self.old ops.now found self.new) }
         ensures err { OnErr result (Grows self.old self.new) }
