@@ -1,6 +1,6 @@
 //! The command `run`: the commands of a file over the store in a folder.
 ghost use Rattle.std.specs.Prelude.{◌≡◌, ◌≢◌, ◌+◌, ◌-◌, ◌<◌, ◌≤◌, [], IsTrue, Some, All, length, vec_capacity, IfOk, IfErr};
-ghost use Rattle.ts_key.specs.declared.limits.TheConstants.{FAMILY_LIMIT, SEQUENCE_LIMIT}
+ghost use Rattle.ts_key.specs.declared.limits.TheConstants.{FAMILY_LIMIT, SEQUENCE_LIMIT};
 ghost use Rattle.std.specs.List.{list_any};
 ghost use Rattle.udt_disk.specs.Causes.{plus_faults};
 ghost use Rattle.udt_disk.specs.Crash.{Image, NoMore};

@@ -1,6 +1,6 @@
 //! What a manifest and its live log say of a store.
 ghost use Rattle.std.specs.Prelude.{◌≡◌, ◌+◌, ◌<◌, [], ◌∷◌, ◌++◌, map, All, IfOk, OnOk};
-ghost use Rattle.ts_key.specs.declared.limits.TheConstants.{SEQUENCE_LIMIT}
+ghost use Rattle.ts_key.specs.declared.limits.TheConstants.{SEQUENCE_LIMIT};
 ghost use Rattle.wal.specs.Sequences.{next_sequence, IsNextSequence, IsNumberedWithin};
 ghost use Rattle.udt_model.specs.Versions.{logged};
 ghost use Rattle.recovery.specs.Stores.{versions_of as versions_in, last_of, head_of as head_in};

@@ -1,6 +1,6 @@
 //! A plain store beside the write-ahead log that keeps it.
 ghost use Rattle.std.specs.Prelude.{◌≡◌, ℕ, ◌+◌, ◌-◌, ◌^◌, ◌<◌, ◌≤◌, ◌++◌, length, drop, map, All, None};
-ghost use Rattle.ts_key.specs.declared.limits.TheConstants.{BATCH_LIMIT, SEQUENCE_LIMIT}
+ghost use Rattle.ts_key.specs.declared.limits.TheConstants.{BATCH_LIMIT, SEQUENCE_LIMIT};
 ghost use Rattle.ts_key.specs.Batches.{IsBatch};
 ghost use Rattle.ts_key.specs.declared.batch.WriteOp.{WriteOp as Operation};
 ghost use Rattle.udt_model.specs.declared.event.Event.TheVariants.{Write, Get};

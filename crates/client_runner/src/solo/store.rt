@@ -1,7 +1,7 @@
 //! The store of one client: a plain list of every version that was written. A look-up scans the list, for now; a write
 //! at or above the latest timestamp needs none.
 ghost use Rattle.std.specs.Prelude.{◌≡◌, ℕ, ◌+◌, ◌-◌, ◌<◌, ◌≤◌, [], false, nat_lt, if◌then◌else◌, length, take, drop, map, Bool, None, Ok, IfOk, IfSome, OnErr};
-ghost use Rattle.ts_key.specs.declared.limits.TheConstants.{BATCH_LIMIT, FAMILY_LIMIT}
+ghost use Rattle.ts_key.specs.declared.limits.TheConstants.{BATCH_LIMIT, FAMILY_LIMIT};
 ghost use Rattle.client_runner.specs.Named.{place_of, admitted, refusal, refused, reply_of_sync, unknown as unknown_of};
 ghost use Rattle.udt_model.specs.State.{heads_of, unflushed};
 ghost use Rattle.udt_model.specs.Steps.{got, reply_of_read as told_reply};
