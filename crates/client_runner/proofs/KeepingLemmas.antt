@@ -32,11 +32,11 @@ use Rattle.wal.proofs.WalLemmas.{images_read}
 use Rattle.manifest.specs.declared.fold.Folded.{Folded}
 use Rattle.gate_log.specs.declared.fault.LogFault.TheVariants.{DiskFault}
 use Rattle.client_runner.specs.Keeping.{IsLive, Keeps, ReadsAsOutcome}
-use Rattle.client_runner.specs.Logging.{HoldsLogged, IsLogged}
+use Rattle.client_runner.specs.Logging.{HoldsLogged, IsLogged, numbered_of}
 use Rattle.client_runner.specs.LoggedStores.{KeepsOn}
 use Rattle.recovery.specs.Stores.{last_of, state_of}
 use Rattle.recovery.specs.Stores as stores
-use Rattle.client_runner.proofs.VersionLemmas.{Above, above_behind, cut_state, last_append, last_behind, last_up, length-made, numbered_of, settled_state, state_more, wal_above, whole_state}
+use Rattle.client_runner.proofs.VersionLemmas.{Above, above_behind, cut_state, last_append, last_behind, last_up, length-made, settled_state, state_more, wal_above, whole_state}
 
 -- the state after a write that was taken
 abbrev pub taken : State → List NamedOp → State

@@ -28,18 +28,19 @@ use Rattle.client_runner.specs.Named.{accepted_unless, admitted, done_unless, fa
 use Rattle.udt_model.specs.Refusals.{unknown_place, ◌or_else◌}
 use Rattle.wal.specs.declared.numbered.Numbered.{Numbered}
 use Rattle.wal.specs.declared.wal.Wal.{Wal}
+use Rattle.wal.specs.declared.wal.TheConstants.{PENDING_LIMIT}
 use Rattle.wal.specs.Replays.{IsBeforeOrAfter}
 use Rattle.wal.specs.Wals.{Holds, MayGoOn, wal_file, wal_pending, wal_sizes}
 use Rattle.client_lang.specs.Print.{IsBuilt}
 use Rattle.client_runner.specs.Adding.{IsAdmitted, op_of, refusal_of, with_versions}
-use Rattle.client_runner.specs.Logging.{HasRoom, HoldsLogged, IsLogged, batch_behind}
+use Rattle.client_runner.specs.Logging.{HasRoom, HoldsLogged, IsLogged, batch_behind, numbered_of}
 use Rattle.client_runner.specs.LoggedStores.{IsInStep, IsStep}
 use Rattle.udt_model.specs.Crashes.{Course}
 use Rattle.client_runner.specs.Adding.{IsRefusal}
 use Rattle.client_runner.specs.Named.{course_after}
 use Rattle.client_runner.specs.LoggedStores.{IsStepCause}
 use Rattle.client_runner.proofs.Adding.{refusal_built, refusal_leaves, refusal_sound, reply_found}
-use Rattle.client_runner.proofs.VersionLemmas.{length-ops, numbered_of}
+use Rattle.client_runner.proofs.VersionLemmas.{length-ops}
 use Rattle.client_runner.proofs.Naming.{same_admitted}
 use Rattle.client_runner.proofs.KeepingLemmas.{halted_at, still_on, sync_fails_on, sync_on, taken, write_fails, write_on}
 
@@ -170,6 +171,7 @@ module _ {F : Type 0} (g : Ghosts F) where
         same = logged.same;
         sizes = logged.sizes;
         keeps_on = write_on g old new m number os sync works logged;
+        puts_off = logged.put_off;
       }
 
   -- the disk fails under a write
@@ -185,6 +187,7 @@ module _ {F : Type 0} (g : Ghosts F) where
     same = logged.same;
     sizes = logged.sizes;
     keeps_on = write_fails g old new m number os sync works (told ∙ sym (same_admitted m os)) logged;
+    puts_off = logged.put_off;
   }
 
   -- memory runs out under a write
@@ -200,6 +203,7 @@ module _ {F : Type 0} (g : Ghosts F) where
     same = logged.same;
     sizes = logged.sizes;
     keeps_on = still_on g only_now old new m number (Write os sync) replies.NoMemory (λ c. refl) logged.goes_on.1 (holds_still sync logged.holds);
+    puts_off = logged.put_off;
   }
     where
       holds_still : (sync : Bool) → ((bs ws : List Numbered) → Holds g old bs ws → HoldsLogged g new bs ws (numbered_of m os) sync (Err NoMemory)) → (bs ws : List Numbered) → Holds g old bs ws → Holds g new bs ws
@@ -220,6 +224,7 @@ module _ {F : Type 0} (g : Ghosts F) where
         same = record { name = refl; told = refl; model = refl };
         sizes = refl;
         keeps_on = still_on g only_now wal wal m number (Write os sync) r (λ c. course_stays m number c os sync r refusal) refl (λ bs ws holds. holds);
+        puts_off = λ _ _. refl;
       })
 
   -- the store isn't halted, and a write was admitted and then logged with this result
@@ -280,7 +285,7 @@ module _ {F : Type 0} (g : Ghosts F) where
       (step_failed old new plain number os sync logs.works logs.told (logs_in_step old new m plain now count os sync (Err DiskFault) logs) (logs_batch old new m plain now count os sync (Err DiskFault) logs))
 
   -- all is synced
-  pub step_synced : (old new : Wal F g) (m : State) (number : ℕ) → m.halted ≡ None → IsInStep g old m → MayGoOn g new (m.last.0 + 1) → wal_pending new < 1048576 → g.faults (wal_file new) ≡ g.faults (wal_file old) → IsSameFile g (wal_file old) (wal_file new) → wal_sizes new ≡ wal_sizes old
+  pub step_synced : (old new : Wal F g) (m : State) (number : ℕ) → m.halted ≡ None → IsInStep g old m → MayGoOn g new (m.last.0 + 1) → wal_pending new < PENDING_LIMIT → g.faults (wal_file new) ≡ g.faults (wal_file old) → IsSameFile g (wal_file old) (wal_file new) → wal_sizes new ≡ wal_sizes old
       → ((bs ws : List Numbered) → Holds g old bs ws → Holds g new (bs ++ ws) []) → ((bs ws : List Numbered) → Holds g old bs ws → Leaves g (wal_file old) (wal_file new) (IsBeforeOrAfter (wal_sizes old) bs ws))
       → IsStep g old new m m number Sync replies.Done
   step_synced old new m number works in_step next room faults same sizes holds run = record {
@@ -293,6 +298,7 @@ module _ {F : Type 0} (g : Ghosts F) where
     same = same;
     sizes = sizes;
     keeps_on = sync_on g old new m number works sizes holds run;
+    puts_off = tt;
   }
 
   -- the disk fails under a sync
@@ -308,6 +314,7 @@ module _ {F : Type 0} (g : Ghosts F) where
     same = same;
     sizes = sizes;
     keeps_on = sync_fails_on g old new m number works run;
+    puts_off = tt;
   }
 
 pub none_left : (h : Option ℕ) → ((n : ℕ) → h ≡ Some n → ⊥) → h ≡ None

@@ -23,6 +23,7 @@ use Rattle.wal.specs.Sequences.{sequence_after, GoesOn, IsInSequence}
 use Rattle.wal.specs.Wals.{IsWalOf}
 use Rattle.manifest.specs.declared.fold.Folded.{Folded}
 use Rattle.client_runner.specs.Adding.{op_of}
+use Rattle.client_runner.specs.Logging.{numbered_of}
 use Rattle.udt_model.specs.Versions.{logged}
 use Rattle.recovery.specs.Stores.{head_of, last_of, state_of, versions_of}
 
@@ -137,10 +138,6 @@ whole_state fold (b ∷ bs) above =
     ∙ sym (settled_unflushed (map head_of fold.families) (filter (up_to end) (versions_of (b ∷ bs))) (record { 0 = end }) None)
 
 -- ---- a write, and its batch
-
--- the batch of a write, with its first sequence
-abbrev pub numbered_of : State → List NamedOp → Numbered
-numbered_of m ops = record { first = record { 0 = m.last.0 + 1 }; batch = map op_of (made m m.last.0 ops) }
 
 pub length-made : (m : State) (n : ℕ) (os : List NamedOp) → length (made m n os) ≡ length os
 length-made m n [] = refl

@@ -1,8 +1,9 @@
 -- A store with its log, and what its steps leave.
-use Rattle.std.specs.Prelude.{◌≡◌, ◌⊎◌, ℕ, ◌+◌, ◌≤◌, Bool, true, false, length, None}
+use Rattle.std.specs.Prelude.{◌≡◌, ◌⊎◌, ℕ, ◌+◌, ◌≤◌, Bool, true, false, length, None, ⊤}
 use Rattle.udt_disk.specs.Causes.{Rose}
 use Rattle.udt_disk.specs.declared.file.DiskFile.{Ghosts}
 use Rattle.udt_model.specs.declared.event.Event.{Event}
+use Rattle.udt_model.specs.declared.event.Event.TheVariants.{Write}
 use Rattle.udt_model.specs.declared.reply.Reply.{Reply}
 use Rattle.udt_model.specs.State.{State, heads_of}
 use Rattle.udt_model.specs.Crashes.{Course}
@@ -17,7 +18,7 @@ use Rattle.manifest.specs.declared.fold.Folded.{Folded}
 use Rattle.client_lang.specs.Print.{IsBuiltReply}
 use Rattle.client_runner.specs.declared.solo.logged.LoggedStore.{LoggedStore}
 use Rattle.client_runner.specs.Keeping.{Keeps, ReadsAsOutcome}
-use Rattle.client_runner.specs.Logging.{HasRoom}
+use Rattle.client_runner.specs.Logging.{HasRoom, IsPutOff, numbered_of}
 use Rattle.recovery.specs.Stores as stores
 
 -- a disk fault comes only where the count of the file rose; else it stays
@@ -47,6 +48,11 @@ module _ {F : Type 0} (g : Ghosts F) where
     pub moments : (fold : Folded) (c : Course) → fold.last.0 ≡ 0 → stores.sizes_of fold ≡ wal_sizes old → Keeps g fold old m c
         → Leaves g (wal_file old) (wal_file new) (λ image. ReadsAsOutcome fold m c image ⊎ ReadsAsOutcome fold n (course_after m number c event reply) image)
 
+  -- a write that isn't to be synced waits; so it does until the next sync, or until so many bytes wait
+  abbrev pub PutsOff : Wal F g → Wal F g → State → Event → Type 0
+  PutsOff old new m (Write ops sync) = IsPutOff g old new (numbered_of m ops) sync
+  PutsOff old new m event = ⊤
+
   -- what the event of this number leaves of the log and the state with this reply, and that the reply is legal
   pub record IsStep (old new : Wal F g) (m n : State) (number : ℕ) (event : Event) (reply : Reply) : Type 0 where
     pub legal : IsReply m event reply
@@ -58,3 +64,4 @@ module _ {F : Type 0} (g : Ghosts F) where
     pub same : IsSameFile g (wal_file old) (wal_file new)
     pub sizes : wal_sizes new ≡ wal_sizes old
     pub keeps_on : KeepsOn old new m n number event reply
+    pub puts_off : PutsOff old new m event

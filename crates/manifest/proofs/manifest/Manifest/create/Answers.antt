@@ -12,7 +12,7 @@ use Rattle.manifest.specs.Files.{HasFold}
 use Rattle.manifest.specs.Folders.{chosen_by}
 use Rattle.manifest.specs.Folds.{fold_of}
 use Rattle.manifest.specs.Making.{IsNoneOrAll}
-use Rattle.manifest.proofs.Makes.{at_rest_now, first_step, second_step, third_step, gives_back, all_there, head_of, has_fold, early_names}
+use Rattle.manifest.proofs.Makes.{unmade_beside, at_rest_now, first_step, second_step, third_step, gives_back, all_there, head_of, has_fold, early_names}
 use Rattle.manifest.proofs.Files.{none_made}
 use Rattle.manifest.proofs.Sizes.{head_fits}
 use Rattle.manifest.proofs.manifest.Manifest.create.Goals as goal
@@ -124,3 +124,7 @@ returns-clause-moments g c unmade =
     let giving : Giving d f three new x = record { touches = touches_one d _ (f.name x) three new (λ n free. free) r.others r.time r.told r.model; stands = r.stands; crash = r.crash } in
     third_step d f disk_now file_now families zero unmade two m touched made.name current file (alone new)
     (gives_back d f disk_now file_now families zero unmade two m touched made.name current file three new c.make_empty.ensures.touches (subst (Giving d f three new) same giving) (made.file_told ∙ sym c.make_log.ensures.touches.told ∙ sym c.make_empty.ensures.touches.told)) second
+
+pub returns-in_err-log-clause-unmade : goal.returns-in_err-log-clause-unmade
+returns-in_err-log-clause-unmade g c is unmade =
+    unmade_beside g.D.Disk Manifest0 c.empty_current.new.disk c.make_log.new.disk (λ is. cc) (λ is. cc) (c.in-Ok-empty_current.ensures.unmade unmade) c.make_log.ensures.touches
