@@ -7,9 +7,8 @@ ghost use Rattle.snapshot_list.specs.Registered.{has_id, seqs_of, with_snapshot,
 
 use std::alloc::Global;
 use std::marker::Model;
-use ts_key::{NoMemory, Seq};
-
 pub use ts_key::SNAPSHOT_LIMIT;
+use ts_key::{NoMemory, Seq};
 
 /// As many snapshots are registered as may be: `count`, which is `SNAPSHOT_LIMIT`.
 #[derive(Clone, Copy, Debug, PartialEq, Eq)]
