@@ -67,12 +67,14 @@ pub record IsCleanPlace (place : Option Place) (image : Image) : Type 0 where
   pub stands : place_stands place ≡ image
   pub only : (c : Image) → PlaceLeaves place c → c ≡ image
 
--- the new entry is clean and has what the outcome leaves of the old one
+-- the new entry is clean and has what the outcome leaves of the old one; nothing comes back there
 pub record IsCrashed (outcome : Outcome) (old new : Option Entry) : Type 0 where
   pub clean : IsCleanPlace (place_of new) (entry_crash outcome old)
   pub first : early new ≡ 0
+  pub back : image_before new ≡ None
 
--- the new entry is clean and has what stands at the old one
+-- the new entry is clean and has what stands at the old one; nothing comes back there
 pub record IsCleaned (old new : Option Entry) : Type 0 where
   pub clean : IsCleanPlace (place_of new) (place_stands (place_of old))
   pub same : early new ≡ early old
+  pub back : image_before new ≡ None

@@ -170,6 +170,7 @@ impl MemDisk {
         ensures image { IfOk result (λ d. (n : NameOf) → ⟦<MemDisk as Disk>⟧.may_leave self n (⟦<MemDisk as Disk>⟧.stands d n)) }
         ensures outcome { IfOk result (λ d. (n : NameOf) → ⟦<MemDisk as Disk>⟧.stands d n ≡ left_by outcome self n) }
         ensures clean { IfOk result (λ d. (n : NameOf) (c : Image) → ⟦<MemDisk as Disk>⟧.may_leave d n c → c ≡ ⟦<MemDisk as Disk>⟧.stands d n) }
+        ensures back { IfOk result (λ d. (n : NameOf) → comes_back d.directory n ≡ None) }
         ensures faults { IfOk result (λ d. ⟦<MemDisk as Disk>⟧.faults d ≡ 0) }
         ensures troubles { IfOk result (λ d. d.troubles.items ≡ []) }
     {
@@ -282,6 +283,7 @@ impl MemDisk {
     pub(crate) fn clean(&mut self)
         ensures stands { (n : NameOf) → ⟦<MemDisk as Disk>⟧.stands self.new n ≡ ⟦<MemDisk as Disk>⟧.stands self.old n }
         ensures only { (n : NameOf) (c : Image) → ⟦<MemDisk as Disk>⟧.may_leave self.new n c → c ≡ ⟦<MemDisk as Disk>⟧.stands self.new n }
+        ensures back { (n : NameOf) → comes_back self.new.directory n ≡ None }
         ensures faults { ⟦<MemDisk as Disk>⟧.faults self.new ≡ ⟦<MemDisk as Disk>⟧.faults self.old }
         ensures troubles { self.new.troubles.items ≡ self.old.troubles.items }
     {
