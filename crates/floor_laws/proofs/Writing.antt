@@ -1,6 +1,6 @@
 -- What refuses, and what a write that is not refused makes.
 use Rattle.std.proofs.Common.{◌≡◌, ℕ, zero, suc, ◌+◌, ◌<◌, ◌≤◌, ◌&&◌, Bool, true, false, List, [], ◌∷◌, ◌++◌, length, Option, Some, None, refl, sym, ap, ◌∙◌, arith, inl, inr, subst}
-use Rattle.std.specs.Prelude.{◌^◌, ◌-◌, option_map, slice_get, nat_lt, ◌==◌, ⊤, if◌then◌else◌}
+use Rattle.std.specs.Prelude.{option_map, slice_get, nat_lt, ◌==◌, ⊤, if◌then◌else◌}
 use Rattle.std.proofs.lemmas.Bool.{cases_Bool, cases_lt, false≢true, and_parts, or_left, or_cases, ltb-true, lt-ltb, eqb-true}
 use Rattle.std.proofs.lemmas.List.{append-nil, append_assoc}
 use Rattle.std.proofs.lemmas.List.Elements.{All-push, All-get_or, All-weaker}
