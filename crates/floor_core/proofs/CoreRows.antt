@@ -1,12 +1,9 @@
 -- Rows of the core: what it answers to short lists of events.
-use Rattle.std.proofs.Common.{◌≡◌, ℕ, List, [], ◌∷◌, codes, Option, Some, None, refl}
-use Rattle.ts_key.specs.declared.version.Op.{Op}
+use Rattle.std.proofs.Common.{◌≡◌, ℕ, List, [], ◌∷◌, codes, Some, None, refl}
 use Rattle.ts_key.specs.declared.version.Op.TheVariants as ops
-use Rattle.ts_key.specs.declared.version.Form.{Form}
 use Rattle.ts_key.specs.declared.version.Form.TheVariants.{Persist, Strip}
 use Rattle.ts_key.specs.declared.batch.WriteOp.{WriteOp}
 use Rattle.ts_key.specs.declared.numbers.Family.{Family}
-use Rattle.udt_model.specs.declared.reply.Piece.{Piece}
 use Rattle.udt_model.specs.declared.reply.Stamp.TheVariants as stamps
 use Rattle.udt_model.specs.declared.read.Answer.TheVariants as answers
 use Rattle.udt_model.specs.declared.read.ModelRead.TheVariants as reads

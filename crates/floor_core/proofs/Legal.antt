@@ -1,5 +1,5 @@
 -- Each event that isn't refused is a legal step of the model.
-use Rattle.std.proofs.Common.{◌≡◌, ◌⊎◌, ℕ, ◌+◌, Bool, true, false, not, ◌&&◌, List, [], ◌∷◌, length, Option, Some, None, refl, sym, ap, subst, ◌∙◌, inl, inr, arith}
+use Rattle.std.proofs.Common.{◌≡◌, ℕ, ◌+◌, Bool, true, false, not, ◌&&◌, List, [], ◌∷◌, length, Option, Some, None, refl, sym, ap, subst, ◌∙◌, inl, inr, arith}
 use Rattle.std.specs.Prelude.{is_none, is_some, ◌==◌, if◌then◌else◌, IsTrue, option_map, unwrap_or}
 use Rattle.std.proofs.lemmas.Bool.{cases_Bool, and_parts}
 use Rattle.std.proofs.lemmas.Bool.Decides.{nat_tests}
@@ -7,11 +7,10 @@ use Rattle.ts_key.specs.declared.batch.WriteOp.{WriteOp}
 use Rattle.ts_key.specs.declared.numbers.Family.{Family}
 use Rattle.ts_key.specs.declared.numbers.Ts.{Ts}
 use Rattle.udt_model.specs.declared.reply.Piece.{Piece}
-use Rattle.udt_model.specs.declared.reply.Reply.{Reply}
 use Rattle.udt_model.specs.declared.reply.Reply.TheVariants.{Done, OkAt, Nothing, Table, Inputs, Kept, DroppedMemory, Halted}
-use Rattle.udt_model.specs.State.{State, FamilyState, Flush, Compaction, family_at, sight}
+use Rattle.udt_model.specs.State.{State, Flush, Compaction}
 use Rattle.udt_model.specs.Acts.Act.{write, raise, make_snapshot, release, flush_start, flush_end, compact_start, compact_end}
-use Rattle.udt_model.specs.Refusals.{halt, refusal, ◌otherwise◌}
+use Rattle.udt_model.specs.Refusals.{refusal, ◌otherwise◌}
 use Rattle.udt_model.specs.Jobs.{IsClosed, are_new, compaction_kept, flush_floor, flush_kept, numbers_of_pieces, runs_compaction, runs_flush, unflushed_of}
 use Rattle.udt_model.specs.Steps.{IsCompacted, IsFlushed, IsPicked, after, with_compaction, with_flush}
 use Rattle.floor_laws.specs.Sound.{IsSoundState}

@@ -1,6 +1,6 @@
 -- The core stays sound, and a view shows what there was at its pin.
-use Rattle.std.proofs.Common.{◌≡◌, ◌⊎◌, ℕ, zero, suc, ◌+◌, ◌<◌, ◌≤◌, Bool, true, false, ◌&&◌, cond, List, [], ◌∷◌, ◌++◌, length, map, Option, Some, None, refl, sym, ap, subst, ◌∙◌, inl, inr, arith}
-use Rattle.std.specs.Prelude.{All, AllPairs, find, is_some, nat_le, ◌==◌, if◌then◌else◌, option_map, slice_get}
+use Rattle.std.proofs.Common.{◌≡◌, ℕ, zero, suc, ◌+◌, ◌<◌, ◌≤◌, Bool, true, false, ◌&&◌, cond, List, [], ◌∷◌, ◌++◌, length, map, Option, Some, None, refl, sym, ap, subst, ◌∙◌, inl, inr, arith}
+use Rattle.std.specs.Prelude.{All, find, is_some, nat_le, ◌==◌, if◌then◌else◌, option_map, slice_get}
 use Rattle.std.specs.List.{filter}
 use Rattle.std.proofs.lemmas.Bool.{cases_Bool, le-leb, lt-leb}
 use Rattle.std.proofs.lemmas.Bool.Decides.{nat_tests}
@@ -14,16 +14,15 @@ use Rattle.ts_key.specs.declared.version.Form.{Form}
 use Rattle.ts_key.specs.declared.version.Version.{Version}
 use Rattle.udt_model.specs.declared.reply.Piece.{Piece}
 use Rattle.udt_model.specs.Versions.{AreWritten, made, up_to}
-use Rattle.udt_model.specs.State.{State, FamilyState, Flush, Compaction, family_at, floors_of, sight}
+use Rattle.udt_model.specs.State.{State, FamilyState, Flush, Compaction, family_at, sight}
 use Rattle.udt_model.specs.Steps.{with_compaction}
-use Rattle.udt_model.specs.Names.{View, pinned}
-use Rattle.floor_laws.specs.Sound.{IsSoundState, lists_of}
+use Rattle.udt_model.specs.Names.{View}
+use Rattle.floor_laws.specs.Sound.{IsSoundState}
 use Rattle.floor_laws.proofs.Members.{In, In-append, All-In, All-from, filter_none, filter_every}
 use Rattle.floor_laws.proofs.Taking.{logged_above}
 use Rattle.floor_laws.proofs.Reopening.{sound_fresh, sound_opened, sound_reads}
 use Rattle.floor_core.specs.declared.event.CoreEvent.{CoreEvent}
-use Rattle.floor_core.specs.declared.event.CoreEvent.TheVariants.{Write, Get, Raise, Snap, Release, Pin, PinnedGet, FlushStart, FlushEnd, FlushDrop, CompactStart, CompactEnd, CompactDrop, Halt}
-use Rattle.floor_core.specs.declared.event.CoreReply.{CoreReply}
+use Rattle.floor_core.specs.declared.event.CoreEvent.TheVariants.{Write, Get, Pin, PinnedGet, FlushEnd, CompactEnd}
 use Rattle.floor_core.specs.declared.event.CoreReply.TheVariants as replies
 use Rattle.floor_core.specs.Cores.{CoreState, fresh_core, new_head, with_live_numbers}
 use Rattle.floor_core.specs.Machine.{behind_event, flush_ended, has_floor, is_taken, is_there, moved, pin_of, pinned_too, read_at, read_lists, read_pin, store_behind, told, view_now}

@@ -1,5 +1,5 @@
 -- Refused events.
-use Rattle.std.proofs.Common.{◌≡◌, ℕ, ◌+◌, Bool, true, false, ◌&&◌, List, [], ◌∷◌, length, Option, Some, None, refl, sym, ap, ◌∙◌, arith}
+use Rattle.std.proofs.Common.{◌≡◌, ℕ, ◌+◌, true, false, List, [], ◌∷◌, length, Option, Some, None, sym, ap, ◌∙◌, arith}
 use Rattle.std.specs.Prelude.{is_some, if◌then◌else◌, slice_get}
 use Rattle.std.proofs.lemmas.Bool.{and_parts}
 use Rattle.ts_key.specs.declared.numbers.Family.{Family}
@@ -9,8 +9,7 @@ use Rattle.ts_key.specs.declared.version.Version.{Version}
 use Rattle.udt_model.specs.State.{State, FamilyState, family_at, sight}
 use Rattle.udt_model.specs.Names.{View}
 use Rattle.floor_core.specs.declared.event.CoreEvent.{CoreEvent}
-use Rattle.floor_core.specs.declared.event.CoreEvent.TheVariants.{Write, Get, Raise, Snap, Release, Pin, PinnedGet, FlushStart, FlushEnd, FlushDrop, CompactStart, CompactEnd, CompactDrop, Halt}
-use Rattle.floor_core.specs.declared.event.CoreReply.{CoreReply}
+use Rattle.floor_core.specs.declared.event.CoreEvent.TheVariants.{Write, Get, Pin, PinnedGet}
 use Rattle.floor_core.specs.declared.event.CoreReply.TheVariants as replies
 use Rattle.floor_core.specs.Cores.{CoreState, with_live_numbers}
 use Rattle.floor_core.specs.Machine.{answer_to, behind_event, has_floor, is_taken, is_there, moved, pin_of, read_at, read_lists, read_pin, told}

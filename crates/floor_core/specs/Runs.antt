@@ -1,15 +1,16 @@
 -- What the core shows over every list of events.
-use Rattle.std.specs.Prelude.{◌≡◌, ℕ, ◌+◌, ◌≤◌, ◌&&◌, true, false, length, is_some, if◌then◌else◌, List, [], ◌∷◌, All, Option, Some, None}
+use Rattle.std.specs.Prelude.{◌≡◌, ℕ, ◌+◌, ◌≤◌, ◌&&◌, Bool, true, false, length, is_some, if◌then◌else◌, List, [], ◌∷◌, All, Option, Some, None}
 use Rattle.ts_key.specs.declared.numbers.Family.{Family}
 use Rattle.ts_key.specs.declared.numbers.Ts.{Ts}
 use Rattle.ts_key.specs.declared.numbers.Seq.{Seq}
 use Rattle.ts_key.specs.declared.version.Form.{Form}
 use Rattle.udt_model.specs.Reads.{read}
-use Rattle.udt_model.specs.State.{State, FamilyState, family_at, sight}
+use Rattle.udt_model.specs.State.{State, FamilyState, family_at, floor_at, seqs_of, sight}
+use Rattle.udt_model.specs.Jobs.{deeper_of}
 use Rattle.udt_model.specs.Names.{View, pinned}
 use Rattle.floor_laws.specs.Sound.{IsSoundState, IsSoundOpening}
 use Rattle.floor_core.specs.declared.event.CoreEvent.{CoreEvent}
-use Rattle.floor_core.specs.declared.event.CoreEvent.TheVariants.{Get, Pin, PinnedGet}
+use Rattle.floor_core.specs.declared.event.CoreEvent.TheVariants.{Get, Pin, PinnedGet, FlushStart, FlushEnd, FlushDrop, CompactStart, CompactEnd, CompactDrop}
 use Rattle.floor_core.specs.declared.event.CoreReply.{CoreReply}
 use Rattle.floor_core.specs.declared.event.CoreReply.TheVariants as replies
 use Rattle.floor_core.specs.Cores.{CoreState, fresh_core}
@@ -84,3 +85,29 @@ RefusedChangesNothing = (c : CoreState) (e : CoreEvent) → is_taken c e ≡ fal
 -- every event is counted
 abbrev pub CountsEvents : Type 0
 CountsEvents = (c : CoreState) (es : List CoreEvent) → (behind_all c es).events ≡ c.events + length es
+
+-- ---- jobs
+
+-- it ends the running flush
+abbrev pub ends_flush : CoreEvent → Bool
+ends_flush (FlushEnd table) = true
+ends_flush FlushDrop = true
+ends_flush e = false
+
+abbrev pub ends_compaction : CoreEvent → Bool
+ends_compaction (CompactEnd pieces) = true
+ends_compaction CompactDrop = true
+ends_compaction e = false
+
+-- A flush takes with it the last sequence, the floor and the snapshots of its start, and keeps them until it ends or is dropped: its end makes
+-- its table by them.
+abbrev pub FlushesEndByTheirStart : Type 0
+FlushesEndByTheirStart = (c : CoreState) (family : Family) (es : List CoreEvent)
+    → is_taken c (FlushStart family) ≡ true → All (λ (e : CoreEvent). ends_flush e ≡ false) es
+    → (behind_all (behind_event c (FlushStart family)) es).store.flush ≡ Some (record { start = c.events + 1; family = family; through = c.store.last; floor = floor_at c.store family; seqs = seqs_of c.store })
+
+-- and a compaction with its inputs, its level and the deeper spans
+abbrev pub CompactionsEndByTheirStart : Type 0
+CompactionsEndByTheirStart = (c : CoreState) (family : Family) (inputs : List ℕ) (level : ℕ) (es : List CoreEvent)
+    → is_taken c (CompactStart family inputs level) ≡ true → All (λ (e : CoreEvent). ends_compaction e ≡ false) es
+    → (behind_all (behind_event c (CompactStart family inputs level)) es).store.compaction ≡ Some (record { start = c.events + 1; family = family; inputs = inputs; level = level; deeper = deeper_of c.store family inputs level; last = c.store.last; floor = floor_at c.store family; seqs = seqs_of c.store })
