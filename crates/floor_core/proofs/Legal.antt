@@ -18,7 +18,7 @@ use Rattle.floor_laws.proofs.Told.{sound_after}
 use Rattle.floor_core.specs.declared.event.CoreEvent.{CoreEvent}
 use Rattle.floor_core.specs.declared.event.CoreEvent.TheVariants.{Write, Get, Raise, Snap, Release, Pin, PinnedGet, FlushStart, FlushEnd, FlushDrop, CompactStart, CompactEnd, CompactDrop, Halt}
 use Rattle.floor_core.specs.Cores.{CoreState, with_live_numbers}
-use Rattle.floor_core.specs.Machine.{flush_ended, is_closed, is_taken, moved, parts_it, store_behind}
+use Rattle.floor_core.specs.Machine.{flush_ended, is_closed, is_accepted, effect, parts_it, store_behind}
 use Rattle.floor_core.proofs.Sound.{sound_live, sound_halted}
 
 none_of : {X : Type 0} (o : Option X) → is_none o ≡ true → o ≡ None
@@ -112,32 +112,32 @@ sound_compaction_drop m number (Some job) e s h = sound_after m number (compact_
 })
 
 -- what an event that isn't refused makes of a sound store is sound
-sound_moved : (c : CoreState) (number : ℕ) (event : CoreEvent) → is_taken c event ≡ true → IsSoundState c.store → IsSoundState (moved c.store number event)
-sound_moved c number (Write batch) e h = sound_write c.store number batch e h
-sound_moved c number (Get i key t snap) e h = h
-sound_moved c number (Raise i floor) e h = sound_raise c.store number i floor e h
-sound_moved c number Snap e h = sound_snap c.store number e h
-sound_moved c number (Release id) e h = sound_after c.store number (release id) Done h (record { running = refl; is = inl refl })
-sound_moved c number Pin e h = h
-sound_moved c number (PinnedGet pin i key t snap) e h = h
-sound_moved c number (FlushStart i) e h = sound_start c.store number i e h
-sound_moved c number (FlushEnd table) e h =
+sound_effect : (c : CoreState) (number : ℕ) (event : CoreEvent) → is_accepted c event ≡ true → IsSoundState c.store → IsSoundState (effect c.store number event)
+sound_effect c number (Write batch) e h = sound_write c.store number batch e h
+sound_effect c number (Get i key t snap) e h = h
+sound_effect c number (Raise i floor) e h = sound_raise c.store number i floor e h
+sound_effect c number Snap e h = sound_snap c.store number e h
+sound_effect c number (Release id) e h = sound_after c.store number (release id) Done h (record { running = refl; is = inl refl })
+sound_effect c number Pin e h = h
+sound_effect c number (PinnedGet pin i key t snap) e h = h
+sound_effect c number (FlushStart i) e h = sound_start c.store number i e h
+sound_effect c number (FlushEnd table) e h =
     let a = and_parts _ _ e in
     let b = and_parts _ _ a.0 in
     sound_flushed c.store number c.store.flush table refl (not_halted c.store.halted b.0) a.1 h
-sound_moved c number FlushDrop e h = sound_flush_drop c.store number c.store.flush refl e h
-sound_moved c number (CompactStart i inputs level) e h = sound_plan c.store number i inputs level e h
-sound_moved c number (CompactEnd pieces) e h =
+sound_effect c number FlushDrop e h = sound_flush_drop c.store number c.store.flush refl e h
+sound_effect c number (CompactStart i inputs level) e h = sound_plan c.store number i inputs level e h
+sound_effect c number (CompactEnd pieces) e h =
     let a = and_parts _ _ e in
     let b = and_parts _ _ a.0 in
     sound_compacted c.store number c.store.compaction pieces refl (not_halted c.store.halted b.0) b.1 a.1 h
-sound_moved c number CompactDrop e h = sound_compaction_drop c.store number c.store.compaction refl e h
-sound_moved c number Halt e h = sound_halted c.store (Some (unwrap_or c.store.halted number)) h
+sound_effect c number CompactDrop e h = sound_compaction_drop c.store number c.store.compaction refl e h
+sound_effect c number Halt e h = sound_halted c.store (Some (unwrap_or c.store.halted number)) h
 
 pub sound_behind : (c : CoreState) (event : CoreEvent) → IsSoundState c.store → IsSoundState (store_behind c event)
 sound_behind c event h =
-    let P : Bool → Type 0 = λ b. IsSoundState (if b then with_live_numbers (moved c.store (c.events + 1) event) else c.store) in
-    elim (cases_Bool (is_taken c event)) [
-      | inl y ↦ subst P (sym y) (sound_live (moved c.store (c.events + 1) event) (sound_moved c (c.events + 1) event y h))
+    let P : Bool → Type 0 = λ b. IsSoundState (if b then with_live_numbers (effect c.store (c.events + 1) event) else c.store) in
+    elim (cases_Bool (is_accepted c event)) [
+      | inl y ↦ subst P (sym y) (sound_live (effect c.store (c.events + 1) event) (sound_effect c (c.events + 1) event y h))
       | inr y ↦ subst P (sym y) h
     ]

@@ -14,7 +14,7 @@ use Rattle.floor_laws.proofs.Members.{In, All-In}
 use Rattle.floor_core.specs.declared.event.CoreEvent.{CoreEvent}
 use Rattle.floor_core.specs.declared.event.CoreEvent.TheVariants.{FlushStart, FlushEnd, FlushDrop, CompactStart, CompactEnd, CompactDrop}
 use Rattle.floor_core.specs.Cores.{CoreState, with_live_numbers}
-use Rattle.floor_core.specs.Machine.{behind_event, flush_ended, is_taken, moved}
+use Rattle.floor_core.specs.Machine.{behind_event, flush_ended, is_accepted, effect}
 use Rattle.floor_core.specs.Runs.{behind_all, ends_compaction, ends_flush}
 
 -- ---- refused while it runs
@@ -36,18 +36,18 @@ flush_beside : (m : State) (o : Option Compaction) (pieces : List Piece) → (wi
 flush_beside m None pieces = refl
 flush_beside m (Some job) pieces = refl
 
-flush_moved : (c : CoreState) (number : ℕ) (e : CoreEvent) (job : Flush) → is_taken c e ≡ true → ends_flush e ≡ false → c.store.flush ≡ Some job → (moved c.store number e).flush ≡ Some job
-flush_moved c number (FlushStart i) job y n h = absurd (flush_busy c.store i c.store.flush job h (and_parts _ _ y).0)
-flush_moved c number (FlushEnd table) job y n h = absurd (cc)
-flush_moved c number FlushDrop job y n h = absurd (cc)
-flush_moved c number (CompactEnd pieces) job y n h = flush_beside c.store c.store.compaction pieces ∙ h
-flush_moved c number e job y n h = h
+flush_effect : (c : CoreState) (number : ℕ) (e : CoreEvent) (job : Flush) → is_accepted c e ≡ true → ends_flush e ≡ false → c.store.flush ≡ Some job → (effect c.store number e).flush ≡ Some job
+flush_effect c number (FlushStart i) job y n h = absurd (flush_busy c.store i c.store.flush job h (and_parts _ _ y).0)
+flush_effect c number (FlushEnd table) job y n h = absurd (cc)
+flush_effect c number FlushDrop job y n h = absurd (cc)
+flush_effect c number (CompactEnd pieces) job y n h = flush_beside c.store c.store.compaction pieces ∙ h
+flush_effect c number e job y n h = h
 
 flush_kept : (c : CoreState) (e : CoreEvent) (job : Flush) → ends_flush e ≡ false → c.store.flush ≡ Some job → (behind_event c e).store.flush ≡ Some job
 flush_kept c e job n h =
-    let P : Bool → Type 0 = λ b. (if b then with_live_numbers (moved c.store (c.events + 1) e) else c.store).flush ≡ Some job in
-    elim (cases_Bool (is_taken c e)) [
-      | inl y ↦ subst P (sym y) (flush_moved c (c.events + 1) e job y n h)
+    let P : Bool → Type 0 = λ b. (if b then with_live_numbers (effect c.store (c.events + 1) e) else c.store).flush ≡ Some job in
+    elim (cases_Bool (is_accepted c e)) [
+      | inl y ↦ subst P (sym y) (flush_effect c (c.events + 1) e job y n h)
       | inr y ↦ subst P (sym y) h
     ]
 
@@ -58,10 +58,10 @@ flush_stays c (e ∷ es) job n h = flush_stays (behind_event c e) es job (λ x i
 abbrev flush_made : CoreState → Family → Flush
 flush_made c i = record { start = c.events + 1; family = i; through = c.store.last; floor = floor_at c.store i; seqs = seqs_of c.store }
 
-pub flushes_end : (c : CoreState) (i : Family) (es : List CoreEvent) → is_taken c (FlushStart i) ≡ true → All (λ (e : CoreEvent). ends_flush e ≡ false) es
+pub flushes_end : (c : CoreState) (i : Family) (es : List CoreEvent) → is_accepted c (FlushStart i) ≡ true → All (λ (e : CoreEvent). ends_flush e ≡ false) es
     → (behind_all (behind_event c (FlushStart i)) es).store.flush ≡ Some (flush_made c i)
 flushes_end c i es y n =
-    let P : Bool → Type 0 = λ b. (if b then with_live_numbers (moved c.store (c.events + 1) (FlushStart i)) else c.store).flush ≡ Some (flush_made c i) in
+    let P : Bool → Type 0 = λ b. (if b then with_live_numbers (effect c.store (c.events + 1) (FlushStart i)) else c.store).flush ≡ Some (flush_made c i) in
     flush_stays (behind_event c (FlushStart i)) es (flush_made c i) (λ e j. All-In (λ (x : CoreEvent). ends_flush x ≡ false) es e n j) (subst P (sym y) refl)
 
 -- ---- a compaction
@@ -70,18 +70,18 @@ compaction_beside : (m : State) (o : Option Flush) (table : ℕ) → (flush_ende
 compaction_beside m None table = refl
 compaction_beside m (Some job) table = refl
 
-compaction_moved : (c : CoreState) (number : ℕ) (e : CoreEvent) (job : Compaction) → is_taken c e ≡ true → ends_compaction e ≡ false → c.store.compaction ≡ Some job → (moved c.store number e).compaction ≡ Some job
-compaction_moved c number (CompactStart i inputs level) job y n h = absurd (compaction_busy c.store i c.store.compaction job h (and_parts _ _ y).0)
-compaction_moved c number (CompactEnd pieces) job y n h = absurd (cc)
-compaction_moved c number CompactDrop job y n h = absurd (cc)
-compaction_moved c number (FlushEnd table) job y n h = compaction_beside c.store c.store.flush table ∙ h
-compaction_moved c number e job y n h = h
+compaction_effect : (c : CoreState) (number : ℕ) (e : CoreEvent) (job : Compaction) → is_accepted c e ≡ true → ends_compaction e ≡ false → c.store.compaction ≡ Some job → (effect c.store number e).compaction ≡ Some job
+compaction_effect c number (CompactStart i inputs level) job y n h = absurd (compaction_busy c.store i c.store.compaction job h (and_parts _ _ y).0)
+compaction_effect c number (CompactEnd pieces) job y n h = absurd (cc)
+compaction_effect c number CompactDrop job y n h = absurd (cc)
+compaction_effect c number (FlushEnd table) job y n h = compaction_beside c.store c.store.flush table ∙ h
+compaction_effect c number e job y n h = h
 
 compaction_kept : (c : CoreState) (e : CoreEvent) (job : Compaction) → ends_compaction e ≡ false → c.store.compaction ≡ Some job → (behind_event c e).store.compaction ≡ Some job
 compaction_kept c e job n h =
-    let P : Bool → Type 0 = λ b. (if b then with_live_numbers (moved c.store (c.events + 1) e) else c.store).compaction ≡ Some job in
-    elim (cases_Bool (is_taken c e)) [
-      | inl y ↦ subst P (sym y) (compaction_moved c (c.events + 1) e job y n h)
+    let P : Bool → Type 0 = λ b. (if b then with_live_numbers (effect c.store (c.events + 1) e) else c.store).compaction ≡ Some job in
+    elim (cases_Bool (is_accepted c e)) [
+      | inl y ↦ subst P (sym y) (compaction_effect c (c.events + 1) e job y n h)
       | inr y ↦ subst P (sym y) h
     ]
 
@@ -92,8 +92,8 @@ compaction_stays c (e ∷ es) job n h = compaction_stays (behind_event c e) es j
 abbrev compaction_made : CoreState → Family → List ℕ → ℕ → Compaction
 compaction_made c i inputs level = record { start = c.events + 1; family = i; inputs = inputs; level = level; deeper = deeper_of c.store i inputs level; last = c.store.last; floor = floor_at c.store i; seqs = seqs_of c.store }
 
-pub compactions_end : (c : CoreState) (i : Family) (inputs : List ℕ) (level : ℕ) (es : List CoreEvent) → is_taken c (CompactStart i inputs level) ≡ true → All (λ (e : CoreEvent). ends_compaction e ≡ false) es
+pub compactions_end : (c : CoreState) (i : Family) (inputs : List ℕ) (level : ℕ) (es : List CoreEvent) → is_accepted c (CompactStart i inputs level) ≡ true → All (λ (e : CoreEvent). ends_compaction e ≡ false) es
     → (behind_all (behind_event c (CompactStart i inputs level)) es).store.compaction ≡ Some (compaction_made c i inputs level)
 compactions_end c i inputs level es y n =
-    let P : Bool → Type 0 = λ b. (if b then with_live_numbers (moved c.store (c.events + 1) (CompactStart i inputs level)) else c.store).compaction ≡ Some (compaction_made c i inputs level) in
+    let P : Bool → Type 0 = λ b. (if b then with_live_numbers (effect c.store (c.events + 1) (CompactStart i inputs level)) else c.store).compaction ≡ Some (compaction_made c i inputs level) in
     compaction_stays (behind_event c (CompactStart i inputs level)) es (compaction_made c i inputs level) (λ e j. All-In (λ (x : CoreEvent). ends_compaction x ≡ false) es e n j) (subst P (sym y) refl)
