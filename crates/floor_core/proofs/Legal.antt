@@ -8,7 +8,7 @@ use Rattle.ts_key.specs.declared.numbers.Family.{Family}
 use Rattle.ts_key.specs.declared.numbers.Ts.{Ts}
 use Rattle.udt_model.specs.declared.reply.Piece.{Piece}
 use Rattle.udt_model.specs.declared.reply.Reply.TheVariants.{Done, OkAt, Nothing, Table, Inputs, Kept, DroppedMemory, Halted}
-use Rattle.udt_model.specs.State.{State, Flush, Compaction}
+use Rattle.udt_model.specs.State.{State, Flush, Compaction, tables_of}
 use Rattle.udt_model.specs.Acts.Act.{write, raise, make_snapshot, release, flush_start, flush_end, compact_start, compact_end}
 use Rattle.udt_model.specs.Refusals.{refusal, ◌otherwise◌}
 use Rattle.udt_model.specs.Jobs.{IsClosed, are_new, compaction_kept, flush_floor, flush_kept, numbers_of_pieces, runs_compaction, runs_flush, unflushed_of}
@@ -18,7 +18,7 @@ use Rattle.floor_laws.proofs.Told.{sound_after}
 use Rattle.floor_core.specs.declared.event.CoreEvent.{CoreEvent}
 use Rattle.floor_core.specs.declared.event.CoreEvent.TheVariants.{Write, Get, Raise, Snap, Release, Pin, PinnedGet, FlushStart, FlushEnd, FlushDrop, CompactStart, CompactEnd, CompactDrop, Halt}
 use Rattle.floor_core.specs.Cores.{CoreState, with_live_numbers}
-use Rattle.floor_core.specs.Machine.{flush_ended, is_closed, is_accepted, effect, parts_it, store_behind}
+use Rattle.floor_core.specs.Machine.{are_closed, flush_ended, is_accepted, effect, parts_it, store_behind}
 use Rattle.floor_core.proofs.Sound.{sound_live, sound_halted}
 
 none_of : {X : Type 0} (o : Option X) → is_none o ≡ true → o ≡ None
@@ -76,7 +76,7 @@ sound_flush_drop m number (Some job) e s h = sound_after m number (flush_end job
   is = inl tt;
 })
 
-closed_of : (m : State) (i : Family) (inputs : List ℕ) (level : ℕ) → is_closed m i inputs level ≡ true → IsClosed m i inputs level
+closed_of : (m : State) (i : Family) (inputs : List ℕ) (level : ℕ) → are_closed (tables_of m i) inputs level ≡ true → IsClosed m i inputs level
 closed_of m i inputs level e =
     let a = and_parts _ _ e in
     let b = and_parts _ _ a.0 in
@@ -85,9 +85,9 @@ closed_of m i inputs level e =
     let g = and_parts _ _ f.0 in
     record { some = g.0; ascending = g.1; live = f.1; level_is = both_true _ _ d.1 b.1; taken_in = a.1 }
 
-sound_plan : (m : State) (number : ℕ) (i : Family) (inputs : List ℕ) (level : ℕ) → (is_none (refusal m (compact_start i true)) && is_closed m i inputs level) ≡ true → IsSoundState m → IsSoundState (after m number (compact_start i true) (Inputs inputs level))
+sound_plan : (m : State) (number : ℕ) (i : Family) (inputs : List ℕ) (level : ℕ) → (is_none (refusal m (compact_start i true)) && are_closed (tables_of m i) inputs level) ≡ true → IsSoundState m → IsSoundState (after m number (compact_start i true) (Inputs inputs level))
 sound_plan m number i inputs level e h =
-    let parts = and_parts (is_none (refusal m (compact_start i true))) (is_closed m i inputs level) e in
+    let parts = and_parts (is_none (refusal m (compact_start i true))) (are_closed (tables_of m i) inputs level) e in
     sound_after m number (compact_start i true) (Inputs inputs level) h (record {
       running = refl;
       is = inl (subst (λ z. IsPicked m i z (Inputs inputs level)) (sym (none_of (refusal m (compact_start i true)) parts.0)) (closed_of m i inputs level parts.1));

@@ -1,16 +1,14 @@
 -- Snapshots, views, jobs and the halt keep the numbers of their events.
-use Rattle.std.proofs.Common.{◌≡◌, ℕ, ◌+◌, ◌<◌, ◌≤◌, Bool, List, [], ◌∷◌, ◌++◌, map, Option, Some, None, refl, sym, subst, inl, inr, arith, get_or, zero, suc}
+use Rattle.std.proofs.Common.{◌≡◌, ℕ, ◌+◌, ◌<◌, ◌≤◌, Bool, List, [], ◌∷◌, Option, Some, None, refl, sym, subst, inl, inr, arith, get_or, zero, suc}
 use Rattle.std.specs.Prelude.{All, AllPairs, ◌==◌, if◌then◌else◌, not, option_map, unwrap_or, length}
-use Rattle.std.specs.List.{filter}
 use Rattle.std.proofs.lemmas.Bool.{cases_Bool}
 use Rattle.std.proofs.lemmas.List.Elements.{All-append, All-cons, All-filter, All-nil}
 use Rattle.std.proofs.lemmas.List.Kept.{AllPairs-filter}
 use Rattle.std.proofs.lemmas.List.Quantifiers.{all_pairs_push}
-use Rattle.ts_key.specs.declared.version.Form.{Form}
 use Rattle.udt_model.specs.declared.reply.Piece.{Piece}
-use Rattle.udt_model.specs.State.{State, Snap, Flush, Compaction, live_numbers, numbers_of, unflushed_family}
+use Rattle.udt_model.specs.State.{State, Snap, Flush, Compaction, live_numbers}
 use Rattle.udt_model.specs.Steps.{with_compaction}
-use Rattle.floor_laws.proofs.Members.{In, All-In, All-from, In-contains}
+use Rattle.floor_laws.proofs.Members.{In, All-In, All-from}
 use Rattle.floor_core.specs.declared.event.CoreEvent.{CoreEvent}
 use Rattle.floor_core.specs.declared.event.CoreEvent.TheVariants.{Snap as TakeSnap, Release, Pin, FlushStart, FlushEnd, FlushDrop, CompactStart, CompactEnd, CompactDrop, Halt}
 use Rattle.floor_core.specs.Cores.{CoreState, PinnedView, with_live_numbers}

@@ -1,5 +1,5 @@
 -- The core stays sound, and a view shows what there was at its pin.
-use Rattle.std.proofs.Common.{◌≡◌, ◌⊎◌, ℕ, zero, suc, ◌+◌, ◌<◌, ◌≤◌, Bool, true, false, ◌&&◌, cond, List, [], ◌∷◌, ◌++◌, length, map, Option, Some, None, refl, sym, ap, subst, ◌∙◌, inl, inr, arith}
+use Rattle.std.proofs.Common.{◌≡◌, ℕ, zero, suc, ◌+◌, ◌<◌, ◌≤◌, Bool, true, false, ◌&&◌, cond, List, [], ◌∷◌, ◌++◌, length, map, Option, Some, None, refl, sym, ap, subst, ◌∙◌, inl, inr, arith}
 use Rattle.std.specs.Prelude.{All, AllPairs, find, flat_map, is_some, nat_le, ◌==◌, if◌then◌else◌, option_map, slice_get, unwrap_or}
 use Rattle.std.specs.List.{filter}
 use Rattle.std.proofs.lemmas.Bool.{cases_Bool, le-leb, leb-true, lt-leb}
@@ -17,7 +17,7 @@ use Rattle.udt_model.specs.Versions.{AreWritten, made, up_to}
 use Rattle.udt_model.specs.Reads.{read}
 use Rattle.udt_model.specs.Standing.{IsSight, Stands}
 use Rattle.udt_model.specs.Running.{IsSince}
-use Rattle.udt_model.specs.State.{State, FamilyState, Snap, Flush, Compaction, family_at, live_numbers, numbers_of, seqs_of, sight, unflushed_family}
+use Rattle.udt_model.specs.State.{State, FamilyState, Snap, Flush, Compaction, family_at, numbers_of, seqs_of, sight, unflushed_family}
 use Rattle.udt_model.specs.Steps.{with_compaction}
 use Rattle.floor_laws.specs.Sound.{IsSoundState, lists_of}
 use Rattle.floor_laws.proofs.Members.{In, In-contains, In-map, All-In, All-from, filter-In, filter_none, filter_every}

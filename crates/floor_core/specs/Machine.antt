@@ -1,5 +1,5 @@
 -- The machine of all events: which ones the core refuses, what it answers, and what it is behind them.
-use Rattle.std.specs.Prelude.{ℕ, ◌+◌, ◌==◌, nat_lt, nat_le, ◌&&◌, ◌||◌, ◌++◌, not, Bool, true, false, if◌then◌else◌, is_some, is_none, List, [], ◌∷◌, length, find, slice_get, Option, Some, None, unwrap_or}
+use Rattle.std.specs.Prelude.{ℕ, ◌+◌, ◌==◌, nat_lt, nat_le, ◌&&◌, ◌||◌, ◌++◌, not, Bool, true, false, if◌then◌else◌, is_some, is_none, List, [], ◌∷◌, length, filter, find, slice_get, Option, Some, None, unwrap_or}
 use Rattle.std.specs.List.{list_all}
 use Rattle.ts_key.specs.declared.numbers.Family.{Family}
 use Rattle.ts_key.specs.declared.numbers.Ts.{Ts}
@@ -7,10 +7,10 @@ use Rattle.ts_key.specs.declared.numbers.Seq.{Seq}
 use Rattle.udt_model.specs.declared.reply.Piece.{Piece}
 use Rattle.udt_model.specs.declared.reply.Reply.TheVariants.{Done, OkAt, Inputs}
 use Rattle.udt_model.specs.Reads.{read}
-use Rattle.udt_model.specs.State.{State, FamilyState, Flush, Compaction, family_at, is_registered, numbers_of, seqs_of, sight, tables_of}
+use Rattle.udt_model.specs.State.{State, FamilyState, LiveTable, Flush, Compaction, family_at, is_registered, numbers_of, seqs_of, sight, tables_of}
 use Rattle.udt_model.specs.Acts.Act.{write, raise, make_snapshot, release, flush_start, compact_start}
 use Rattle.udt_model.specs.Refusals.{halt, refusal}
-use Rattle.udt_model.specs.Jobs.{are_new, are_parts, compaction_kept, flush_floor, has_number, inputs_of, is_ascending, is_input, is_wanted, numbers_of_pieces, unflushed_of}
+use Rattle.udt_model.specs.Jobs.{are_new, are_parts, compaction_kept, flush_floor, has_number, is_ascending, is_input, is_wanted, numbers_of_pieces, unflushed_of}
 use Rattle.udt_model.specs.Steps.{after, with_compaction, with_flush}
 use Rattle.floor_laws.specs.Sound.{lists_of}
 use Rattle.floor_core.specs.declared.event.CoreEvent.{CoreEvent}
@@ -35,11 +35,11 @@ abbrev pub has_family : Option PinnedView → Family → Bool
 has_family None family = false
 has_family (Some v) family = is_some (slice_get v.families family.0)
 
--- the inputs and the output level may be those of a compaction
-abbrev pub is_closed : State → Family → List ℕ → ℕ → Bool
-is_closed m family inputs level =
-    nat_lt 0 (length inputs) && is_ascending inputs && list_all (has_number (numbers_of (tables_of m family))) inputs && nat_le 1 level && nat_le level 6
-    && list_all (λ t. is_input inputs t || not (is_wanted level (inputs_of m family inputs) t)) (tables_of m family)
+-- of a family with these tables the inputs and the output level may be those of a compaction
+abbrev pub are_closed : List LiveTable → List ℕ → ℕ → Bool
+are_closed tables inputs level =
+    nat_lt 0 (length inputs) && is_ascending inputs && list_all (has_number (numbers_of tables)) inputs && nat_le 1 level && nat_le level 6
+    && list_all (λ t. is_input inputs t || not (is_wanted level (filter (is_input inputs) tables) t)) tables
 
 -- the pieces part what the running compaction keeps
 abbrev pub parts_it : State → Option Compaction → List Piece → Bool
@@ -59,7 +59,7 @@ is_accepted c (PinnedGet pin family key t snap) = has_family (pin_of c pin) fami
 is_accepted c (FlushStart family) = is_none (refusal c.store (flush_start family)) && not (length (unflushed_of c.store family) == 0)
 is_accepted c (FlushEnd table) = is_none (halt c.store) && is_some c.store.flush && are_new c.store.used (table ∷ [])
 is_accepted c FlushDrop = is_some c.store.flush
-is_accepted c (CompactStart family inputs level) = is_none (refusal c.store (compact_start family true)) && is_closed c.store family inputs level
+is_accepted c (CompactStart family inputs level) = is_none (refusal c.store (compact_start family true)) && are_closed (tables_of c.store family) inputs level
 is_accepted c (CompactEnd pieces) = is_none (halt c.store) && are_new c.store.used (numbers_of_pieces pieces) && parts_it c.store c.store.compaction pieces
 is_accepted c CompactDrop = is_some c.store.compaction
 is_accepted c Halt = true
