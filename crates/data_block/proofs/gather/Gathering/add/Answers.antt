@@ -1,5 +1,6 @@
 use Rattle.std.proofs.Common.{◌≡◌, ◌+◌, ◌++◌, ℕ, List, length, take, sym, ap, subst, ◌∙◌, arith}
 use Rattle.std.specs.Prelude.{slice_range, IsTrue, ◌↔◌, Err}
+use Rattle.std.proofs.lemmas.Result.{err_from_is_err_and}
 use Rattle.ts_key.specs.Items.{Item}
 use Rattle.data_block.specs.Index.{items_at}
 use Rattle.data_block.specs.Regions.{items_in}
@@ -14,8 +15,9 @@ returns-in_err-end-clause-added c =
     let old = c.args.self.now in
     let bytes = slice_range old.image c.args.from c.args.to in
     let image-is = c.as_slice-image.ensures ∙ ap (λ (y : Gathered). y.image) c.self.view_is in
-    let read = subst (λ (b : List ℕ). ReadsImage c.args.form (slice_range b c.args.from c.args.to) c.read_index.new.x (Err c.in_err-end.field-0)) image-is c.in_err-end.ensures in
-    subst (GathersBlock c.args.form bytes old.items old.items) (sym c.from_residual.ensures) (refused c.args.form bytes old.items c.read_index.new.x c.in_err-end.field-0 read)
+    let read = subst (λ (b : List ℕ). ReadsImage c.args.form (slice_range b c.args.from c.args.to) c.read_index.new.x (Err c.in_err-end.field-0.0)) image-is c.in_err-end.ensures in
+    let told = err_from_is_err_and c.from_residual.result c.from_residual.ensures.1 in
+    subst (GathersBlock c.args.form bytes old.items old.items) (sym (told.1 ∙ ap Err told.2)) (refused c.args.form bytes old.items c.read_index.new.x c.in_err-end.field-0.0 read)
 
 pub returns-clause-added : goal.returns-clause-added
 returns-clause-added c =
