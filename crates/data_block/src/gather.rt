@@ -102,10 +102,11 @@ impl Gathering {
         }
     }
 
-    /// Reads the block between two offsets of the image, and puts its versions behind those before. `Bad` comes exactly
-    /// where these bytes are no block: its `at` counts from `from`, and the value stays as it was. After `NoMemory` the
-    /// value serves no more, as a part of the block may be in it. It takes time linear in these bytes and in the block's
-    /// stored keys, which it joins and then copies behind those before, and one comparison of keys for each version.
+    /// Reads the block between two offsets of the image, and puts its versions behind those before. `Bad` comes
+    /// exactly where these bytes are no block: its `at` counts from `from`, and the value stays as it was. After
+    /// `NoMemory` the value serves no more, as a part of the block may be in it. It takes time linear in these bytes
+    /// and in the block's keys, which it joins and then copies behind those before, and one comparison of keys for
+    /// each version.
     pub fn add(
         &mut self,
         alloc: Global,

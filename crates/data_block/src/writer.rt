@@ -6,8 +6,8 @@
 //!    value    := `length` bytes; none for a delete
 //!    restart  := offset:u32                       of an entry whose index from 0 is a multiple of 16
 //!
-//! Numbers are little-endian. An entry at a restart shares nothing; each other one shares exactly the common prefix of its
-//! stored key with the one before it. The versions stand in the stored order, no two at one place.
+//! Numbers are little-endian. An entry at a restart shares nothing; each other one shares exactly the common prefix of
+//! its stored key with the one before it. The versions stand in the stored order, no two at one place.
 
 ghost use Rattle.std.specs.Prelude.{◌≡◌, ◌<◌, ◌≤◌, ◌+◌, ◌^◌, List, [], ◌∷◌, ◌++◌, length, IsTrue, ◌↔◌, IsOk, IfOk, OnOk, OnErr};
 ghost use Rattle.ts_key.specs.Numbers.{number_bytes};
@@ -139,9 +139,9 @@ impl BlockWriter {
         })
     }
 
-    /// Adds a version, which the writer's form can spell, to a block that isn't full. Versions come in the stored order,
-    /// each after the last one: only then `Block::read` reads back what `finish` gives. After `NoMemory` the writer is as
-    /// before. It copies the version's key twice and its value once.
+    /// Adds a version, which the writer's form can spell, to a block that isn't full. Versions come in the stored
+    /// order, each after the last one: only then `Block::read` reads back what `finish` gives. After `NoMemory` the
+    /// writer is as before. It copies the version's key twice and its value once.
     pub fn push(&mut self, v: &Version) -> Result<(), NoMemory>
         requires room { length self.old.entries < block_target }
         requires stamp { IsStamp self.old.form v.now.ts.0 }

@@ -159,7 +159,13 @@ fn a_block_that_goes_back_does_not_follow(rt: HostRuntime) -> Result<(), Fail> {
     let second = gathering.add(alloc, Form::Persist, SEAM, END)?;
     assert!(rt; second == SECOND);
     let first = gathering.add(alloc, Form::Persist, 0, SEAM)?;
-    assert!(rt; first == BlockCut { follows: false, ..FIRST });
+    assert!(rt;
+        first
+            == BlockCut {
+                follows: false,
+                ..FIRST
+            }
+    );
     Ok(())
 }
 
