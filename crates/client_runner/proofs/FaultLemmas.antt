@@ -3,6 +3,7 @@ use Rattle.std.proofs.Common.{◌∙◌, ◌≡◌, ℕ, ◌+◌, Bool, true, fa
 use Rattle.std.specs.Prelude.{All, option_map, nat_lt, if◌then◌else◌, length, ◌-◌, ◌^◌}
 use Rattle.std.specs.List.{list_any}
 use Rattle.std.proofs.lemmas.List.Elements.{All-head, All-tail}
+use Rattle.ts_key.specs.declared.limits.TheConstants.{SEQUENCE_LIMIT}
 use Rattle.ts_key.specs.declared.numbers.Ts.{Ts}
 use Rattle.ts_key.specs.declared.version.Version.{Version}
 use Rattle.udt_model.specs.declared.event.NamedOp.{NamedOp}
@@ -63,7 +64,7 @@ halt_calm : (m : State) → m.halted ≡ None → IsCalm (halt m)
 halt_calm m e = subst (λ (h : Option ℕ). IsCalm (option_map Halted h)) (sym e) tt
 
 full_calm : (m : State) (os : List NamedOp) → IsCalm (full m os)
-full_calm m os = if_calm (nat_lt (2 ^ 56 - 1) (m.last.0 + length os)) _ _ refl tt
+full_calm m os = if_calm (nat_lt SEQUENCE_LIMIT (m.last.0 + length os)) _ _ refl tt
 
 accepted_calm : (n : ℕ) (r : Option Reply) → IsCalm r → tells_fault (accepted_unless n r) ≡ false
 accepted_calm n None h = refl

@@ -4,6 +4,7 @@ use Rattle.std.proofs.lemmas.List.{length-map}
 use Rattle.std.proofs.lemmas.Option.{none-some}
 use Rattle.std.specs.Prelude.{option_map, nat_lt, if◌then◌else◌, All}
 use Rattle.std.proofs.lemmas.List.Elements.{All-head, All-tail}
+use Rattle.ts_key.specs.declared.limits.TheConstants.{SEQUENCE_LIMIT}
 use Rattle.ts_key.specs.declared.batch.WriteOp.{WriteOp}
 use Rattle.ts_key.specs.declared.numbers.Ts.{Ts}
 use Rattle.ts_key.specs.declared.version.Version.{Version}
@@ -59,7 +60,7 @@ same_refused m (o ∷ os) w n k =
     (same_refused m os (w ++ named.version_of (named.family_of m o) o (n + 1) ∷ []) (n + 1) (k + 1))
 
 same_full : (m : State) (os : List NamedOp) → refusals.full m (ops_of m os) ≡ named.full m os
-same_full m os = ap (λ (k : ℕ). if nat_lt (2 ^ 56 - 1) (m.last.0 + k) then Some (Full m.last) else None) (length-map os (op_of (heads_of m)))
+same_full m os = ap (λ (k : ℕ). if nat_lt SEQUENCE_LIMIT (m.last.0 + k) then Some (Full m.last) else None) (length-map os (op_of (heads_of m)))
 
 -- the refusal of a write
 abbrev pub named_refusal : State → List NamedOp → Option Reply
@@ -126,7 +127,7 @@ no_ok : (m : State) (os : List NamedOp) → IsNoOk (named_refusal m os)
 no_ok m os =
     no_ok_or ((named.unknown m os or_else halt m) or_else named.refused m m.versions m.last.0 1 os) (named.full m os)
     (no_ok_or (named.unknown m os or_else halt m) (named.refused m m.versions m.last.0 1 os) (no_ok_or (named.unknown m os) (halt m) (no_ok_unknown m os) (no_ok_halt m.halted)) (no_ok_refused m os m.versions m.last.0 1))
-    (no_ok_if (nat_lt (2 ^ 56 - 1) (m.last.0 + length os)) (Some (Full m.last)) None tt tt)
+    (no_ok_if (nat_lt SEQUENCE_LIMIT (m.last.0 + length os)) (Some (Full m.last)) None tt tt)
 
 taken_is : (r : Option Reply) (n : ℕ) → IsNoOk r → named.accepted_unless n r ≡ OkAt n → r ≡ None
 taken_is None n right e = refl
