@@ -18,7 +18,7 @@ ghost use Rattle.manifest.specs.Answers.{IsRefusal, IsFoldFault, is_manifest_dis
 ghost use Rattle.manifest.specs.Files.{HasFold};
 ghost use Rattle.manifest.specs.Folders.{chosen_by};
 ghost use Rattle.manifest.specs.Folds.{IsManifest, IsUsable};
-ghost use Rattle.manifest.specs.Making.{emptied};
+ghost use Rattle.manifest.specs.Making.{emptied, IsUnmade};
 
 use crate::fold::fold_frames;
 use crate::folder::{chosen, is_there, make_empty};
