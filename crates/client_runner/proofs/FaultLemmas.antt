@@ -17,15 +17,15 @@ use Rattle.udt_model.specs.declared.read.ModelRead.TheVariants as reads
 use Rattle.udt_model.specs.declared.reply.Reply.{Reply}
 use Rattle.udt_model.specs.declared.reply.Reply.TheVariants.{Fault, Halted, OkAt}
 use Rattle.udt_model.specs.State.{State}
-use Rattle.client_runner.specs.Named.{accepted_unless, admitted, done_unless, full, place_of, refusal, refused, reply_of_sync, unknown, family_of, version_of}
+use Rattle.solo_runner.specs.Named.{accepted_unless, admitted, done_unless, full, place_of, refusal, refused, reply_of_sync, unknown, family_of, version_of}
 use Rattle.udt_model.specs.Refusals.{fell, halt, unknown_place, ◌or_else◌}
 use Rattle.udt_model.specs.Steps.{got, reply_of_read}
-use Rattle.client_runner.specs.Named.{IsReply, IsTold, after}
+use Rattle.solo_runner.specs.Named.{IsReply, IsTold, after}
 use Rattle.udt_model.specs.Lines.{says_fault}
 use Rattle.udt_model.specs.Versions.{newest_of, of_key}
 use Rattle.udt_model.specs.Histories.{Point, IsSound, Leads, behind}
 use Rattle.client_lang.specs.Print.{IsBuilt, IsBuiltLine}
-use Rattle.client_runner.proofs.Naming.{after_agrees, reply_agrees_back}
+use Rattle.solo_runner.proofs.Naming.{after_agrees, reply_agrees_back}
 use Rattle.client_runner.specs.Left.{tells_fault}
 
 -- a refusal that isn't that of a halted store

@@ -3,7 +3,7 @@ use Rattle.std.specs.Prelude.{◌≡◌, ◌⊎◌, ℕ, ◌≤◌, List, ◌++�
 use Rattle.udt_disk.specs.Opens.{Standing, IsStanding}
 use Rattle.client_lang.specs.declared.command.Command.{Command}
 use Rattle.udt_model.specs.Histories.{IsSound}
-use Rattle.client_runner.specs.Expand.{IsSoloHistory}
+use Rattle.solo_runner.specs.Expand.{IsSoloHistory}
 use Rattle.client_lang.specs.declared.grammar.lines.ReadFault.{ReadFault}
 use Rattle.client_lang.specs.declared.grammar.lines.ReadFault.TheVariants as faults
 use Rattle.client_lang.specs.Faults.{Refuses}
@@ -13,7 +13,7 @@ use Rattle.client_lang.specs.declared.grammar.lines.TheConstants.{COMMAND_LIMIT}
 use Rattle.client_lang.specs.Print.{IsBuiltCommand, IsBuiltLine, print_header, print_lines}
 use Rattle.client_lang.specs.Stamps.{IsStampedCommand}
 use Rattle.client_runner.specs.Stops.{message, status_of}
-use Rattle.client_runner.specs.Transcripts.{IsTranscript, fresh}
+use Rattle.solo_runner.specs.Transcripts.{IsTranscript, fresh}
 use Rattle.client_runner.specs.declared.output.Ready.{Ready}
 use Rattle.client_runner.specs.declared.status.Status.{Status}
 use Rattle.client_runner.specs.declared.status.Stop.{Stop}

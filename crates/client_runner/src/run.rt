@@ -13,15 +13,15 @@ ghost use Rattle.client_lang.specs.Stamps.{IsStampedCommand};
 ghost use Rattle.client_runner.specs.Hosts.{UsesFolder, StaysElsewhere, FileStaysOrGoes, LeavesNoMoreElsewhere};
 ghost use Rattle.client_runner.specs.HostRuns.{IsRunAt, IsRunFrom, IsStoppedAt, IsStoppedFrom};
 ghost use Rattle.client_runner.specs.Left.{status_of_lines as status_of_list, tells_fault as reply_tells};
-ghost use Rattle.client_runner.specs.LoggedStores.{IsInStep, state_of, wal_of};
+ghost use Rattle.solo_runner.specs.LoggedStores.{IsInStep, state_of, wal_of};
 ghost use Rattle.client_runner.specs.Runs.{CanRun, HasRunOver, HasRunParts, IsRunReady, IsRunRefused, stop_of_opening};
 
 use crate::output::{Ready, header_of, ready_of};
 use crate::reading::read_commands;
-use crate::solo::{LoggedStore, PlainStore, run_and_sync};
 use crate::status::{Status, Stop};
 use client_lang::Command;
 use recovery::{OpenFault, Parts, open_store};
+use solo_runner::{LoggedStore, PlainStore, run_and_sync};
 use std::alloc::{AllocError, Global};
 use ts_key::NoMemory;
 use udt_disk::{Disk, DiskFile, Host, Text};
