@@ -189,8 +189,8 @@ fn bytes_that_are_no_block_leave_the_first_as_it_was(rt: HostRuntime) -> Result<
     let mut image = both(alloc)?;
     let good = block_of(alloc, 3, 5)?;
     image.extend_from_slice(&good)?;
-    if let Some(shared) = image.get_mut(SEAM + 27) {
-        *shared = 2;
+    if let Some(kind) = image.get_mut(SEAM + 44) {
+        *kind = 7;
     }
     let none = InOrder::new(alloc, &image)?;
     let first = none.added(alloc, 0, SEAM, FIRST)?;
