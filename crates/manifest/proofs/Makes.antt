@@ -34,7 +34,7 @@ made_isn't_first is = cc
 current_isn't_made : Current ≢ Made
 current_isn't_made is = cc
 
-current_isn't_first : Current ≢ Manifest0
+pub current_isn't_first : Current ≢ Manifest0
 current_isn't_first is = cc
 
 first_isn't_made : Manifest0 ≢ Made
