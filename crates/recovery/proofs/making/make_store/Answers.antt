@@ -136,7 +136,7 @@ returns-in_err-find_none-clause-unmade g c is unmade = unmade_behind g.D.Disk g.
 pub returns-in-Err-NoMemory-clause-unmade : goal.returns-in-Err-NoMemory-clause-unmade
 returns-in-Err-NoMemory-clause-unmade g c is unmade =
     let e = rw c.in-Err-NoMemory.field-0-is at c.in-Err-NoMemory.ensures in
-    c.make_files.ensures.unmade (c.in-Err-NoMemory.is) (unmade_behind g.D.Disk g.D.File.DiskFile c.args.disk.now c.find_none.new.disk unmade c.find_none.ensures.looks)
+    e.unmade refl (unmade_behind g.D.Disk g.D.File.DiskFile c.args.disk.now c.find_none.new.disk unmade c.find_none.ensures.looks)
 
 pub returns-in_err-find_none-clause-others : goal.returns-in_err-find_none-clause-others
 returns-in_err-find_none-clause-others g c told = look_keeps g.D.Disk g.D.File.DiskFile c.args.disk.now c.find_none.new.disk c.find_none.ensures.looks told
