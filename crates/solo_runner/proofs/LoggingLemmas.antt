@@ -23,3 +23,7 @@ module _ {F : Type 0} (g : Ghosts F) where
 
   pub same_from : (old mid new : F) → mid ≡ old → IsSameFile g mid new → IsSameFile g old new
   same_from old mid new is same = subst (λ (x : F). IsSameFile g x new) is same
+
+pub is_asked : (sync : Bool) → sync ≡ false → sync ≡ true → ⊥
+is_asked true isn't is = cc
+is_asked false isn't is = cc

@@ -1,7 +1,8 @@
 use Rattle.std.proofs.Common.{◌≡◌, ◌+◌, ◌++◌, ◌∷◌, [], length, ap, ◌∙◌, sym, arith}
-use Rattle.wal.specs.Wals.{wal_file}
+use Rattle.wal.specs.Wals.{waiting_with, wal_file, wal_waiting}
 use Rattle.wal.proofs.WalLemmas.{ready_from}
-use Rattle.solo_runner.proofs.LoggingLemmas.{holds_synced, run_from, same_from}
+use Rattle.solo_runner.proofs.LoggingLemmas.{holds_synced, is_asked, run_from, same_from}
+use Rattle.solo_runner.proofs.logged.log_batch.Goals.{else-not-sync-via-then-not-sync+else-pending-lt-PENDING_LIMIT, else-not-sync-via-else-not-sync}
 use Rattle.solo_runner.proofs.logged.log_batch.Goals as goal
 
 pub sync-requires-after_bounds : goal.sync-requires-after_bounds
@@ -24,6 +25,12 @@ returns-in-Ok-sync g c =
       later = omega (arith, faults);
       same = same_from f (wal_file old) (wal_file mid) (wal_file new) waits.file told.same;
       sizes = told.sizes ∙ waits.sizes;
+      put_off = λ unsynced few. absurd (elim c.else-not-sync.branch [
+        | else-not-sync-via-then-not-sync+else-pending-lt-PENDING_LIMIT w ↦
+            let size : length (wal_waiting mid) ≡ length (waiting_with old (record { first = c.args.first; batch = c.args.batch.now })) = ap length waits.bytes in
+            omega (arith, few, size, w.pending.ensures, w.if-pending-lt-PENDING_LIMIT.false)
+        | else-not-sync-via-else-not-sync w ↦ is_asked c.args.sync unsynced w.if-not-sync.false
+      ]);
     }
 
 pub returns-in-Err-sync : goal.returns-in-Err-sync
@@ -42,4 +49,10 @@ returns-in-Err-sync g c =
       later = omega (arith, faults, told.cause.later);
       same = same_from f (wal_file old) (wal_file mid) (wal_file new) waits.file told.same;
       sizes = told.sizes ∙ waits.sizes;
+      put_off = λ unsynced few. absurd (elim c.else-not-sync.branch [
+        | else-not-sync-via-then-not-sync+else-pending-lt-PENDING_LIMIT w ↦
+            let size : length (wal_waiting mid) ≡ length (waiting_with old (record { first = c.args.first; batch = c.args.batch.now })) = ap length waits.bytes in
+            omega (arith, few, size, w.pending.ensures, w.if-pending-lt-PENDING_LIMIT.false)
+        | else-not-sync-via-else-not-sync w ↦ is_asked c.args.sync unsynced w.if-not-sync.false
+      ]);
     }
