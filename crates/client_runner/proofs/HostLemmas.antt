@@ -130,6 +130,7 @@ module _ {D F : Type 0} (d : disk.Ghosts D F) where
     -- the folder goes on
     continues : (old : Holding) (m : State) (lines : List Line) (end : Point) → IsGivenBack d old new crash.now false first last → (IsTrue (d.is_told first) → IsClean d first → KeepsLines d first last m lines end)
         → ContinuesFrom old new crash.now m lines end
+    unfolding stands_same
     continues None m lines end given kept = tt
     continues (Some None) m lines end given kept = absurd (cc given.gives.0)
     continues (Some (Some folder)) m lines end given kept =

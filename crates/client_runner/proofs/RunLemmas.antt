@@ -62,7 +62,6 @@ use Rattle.solo_runner.proofs.KeepingLemmas.{all_synced, opens_kept}
 use Rattle.solo_runner.proofs.VersionLemmas.{settled_state}
 use Rattle.recovery.proofs.OpeningLemmas.{chosen_isn't_log}
 use Rattle.solo_runner.proofs.SoloLemmas.{course_push, height_kept, sound_none}
-use Rattle.recovery.proofs.States.{opened_stands}
 
 -- ---- where no line tells a fault, all is synced at the end
 
@@ -380,7 +379,7 @@ module _ {D F : Type 0} (d : disk.Ghosts D F) (f : file.Ghosts F) where
         sound = sound_back (d.faults parts.disk) (faults_of f first) (faults_of f now) (f.faults (manifest_file parts.manifest)) (d.faults new) lines back.faults zero made.sound;
         later = closed.later;
         kept = λ opened told clean o reads told_disk told_wal told_manifest. record {
-          opened = opened_stands d f opened parts o;
+          opened = record { fold = o.fold; means = o.means; number = o.number; live = o.live; batches = o.batches; held = o.held; state_is = parts_say opened parts o };
           left = record {
             crash = crash_left opened new parts first now lines end clean o reads wal made back;
             whole = whole_left opened new parts first now lines end told clean o reads told_disk told_wal told_manifest wal made back;
