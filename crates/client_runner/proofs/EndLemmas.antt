@@ -15,10 +15,10 @@ use Rattle.client_runner.specs.Ends.{IsEnd, IsInitWork, IsRunLeft, IsRunWork}
 use Rattle.client_runner.specs.Hosts.{IsFileOf, IsFolderOf, StaysElsewhere}
 use Rattle.client_runner.specs.HostRuns.{IsRunFrom, IsStoppedFrom}
 use Rattle.client_runner.specs.Inits.{IsInitLeft}
-use Rattle.client_runner.specs.Left.{LeavesByName, status_of_lines, tells_fault}
+use Rattle.client_runner.specs.Left.{Crashes, LeavesByName, crashes, status_of_lines, tells_fault}
 use Rattle.client_runner.specs.Ready.{IsMessage, text_of}
 use Rattle.solo_runner.specs.Solo.{AreSoundUnless}
-use Rattle.client_runner.specs.Stops.{IsInitStop}
+use Rattle.client_runner.specs.Stops.{IsInitStop, TakesMemory}
 use Rattle.client_runner.specs.declared.output.Ready.{Ready}
 use Rattle.client_runner.specs.declared.status.Status.{Status}
 use Rattle.client_runner.specs.declared.status.Status.TheVariants as statuses
@@ -45,56 +45,46 @@ gave_up Work was failed w = record { meant = statuses.NoMemory; text = []; work 
 
 -- ---- init
 
-pub init_gave_up : (old : Holding) (leaves : LeavesByName) (before now : ℕ) (families : List FamilyHead) → IsInitWork old old leaves before now families statuses.NoMemory []
-init_gave_up old leaves before now families = inr (record { stop = NoMemory; cause = tt; status_is = refl; text_is = refl; left = inl refl })
+pub init_gave_up : (old : Holding) (leaves : LeavesByName) (before now : ℕ) (families : List FamilyHead) → IsInitWork old old (crashes leaves leaves) before now families statuses.NoMemory []
+init_gave_up old leaves before now families = inr (record { stop = NoMemory; cause = tt; status_is = refl; text_is = refl; left = inl (record { stands = refl; no_more = λ n c left. left }) })
 
 -- a folder that is refused was no folder without a store
-refused_unmade : (P : Folder → Type 0) (old new : Holding) (leaves : LeavesByName) (Q : Folder → Type 0) → ((folder : Folder) → Q folder → ¬ Means folder no_store) → TellsFolder old Q → StaysAsItWas old new leaves → IsUnmadeAt P old new leaves
-refused_unmade P None new leaves Q none told stays = tt
-refused_unmade P (Some None) new leaves Q none told stays = absurd told
-refused_unmade P (Some (Some folder)) new leaves Q none told stays = record { none = λ means. absurd (none folder told means); some = λ other. stays }
+refused_unmade : (P : Folder → Type 0) (old new : Holding) (crash : Crashes) (Q : Folder → Type 0) → ((folder : Folder) → Q folder → ¬ Means folder no_store) → TellsFolder old Q → StaysAsItWas old new crash → IsUnmadeAt P old new crash.now
+refused_unmade P None new crash Q none told stays = tt
+refused_unmade P (Some None) new crash Q none told stays = absurd told
+refused_unmade P (Some (Some folder)) new crash Q none told stays = record { none = λ means. absurd (none folder told means); some = λ other. stays }
 
 -- what is left for a stop is left where memory ran out before it was told
-wanted_init : (old new : Holding) (leaves : LeavesByName) (before now : ℕ) (families : List FamilyHead) (stop : Stop) → IsInitStop old before now stop → IsInitLeft old new leaves before now families stop → IsInitLeft old new leaves before now families NoMemory
-wanted_init old new leaves before now families StoreExists cause left =
-    inr (inl (refused_unmade (λ folder. Means folder no_store) old new leaves (λ folder. (fold : Folded) × Means folder (store fold)) (λ folder some none. not_store folder some.0 none some.1) cause left))
-wanted_init old new leaves before now families (BadManifest at) cause left =
-    inr (inl (refused_unmade (λ folder. Means folder no_store) old new leaves (λ folder. Means folder (bad_at at)) (λ folder bad none. not_bad folder at none bad) cause left))
-wanted_init old new leaves before now families DiskFault cause (inl same) = inl same
-wanted_init old new leaves before now families DiskFault cause (inr left) = inr (inr (cause, left))
-wanted_init old new leaves before now families NoMemory cause left = left
-wanted_init old new leaves before now families stop cause left = absurd cause
+wanted_init : (old new : Holding) (crash : Crashes) (before now : ℕ) (families : List FamilyHead) (stop : Stop) → TakesMemory stop → IsInitStop old before now stop → IsInitLeft old new crash families stop → IsInitLeft old new crash families NoMemory
+wanted_init old new crash before now families (BadManifest at) takes cause left =
+    inr (refused_unmade (λ folder. Means folder no_store) old new crash (λ folder. Means folder (bad_at at)) (λ folder bad none. not_bad folder at none bad) cause left)
+wanted_init old new crash before now families NoMemory takes cause left = left
+wanted_init old new crash before now families StoreExists takes cause left = absurd takes
+wanted_init old new crash before now families DiskFault takes cause left = absurd takes
+wanted_init old new crash before now families stop takes cause left = absurd cause
 
-pub init_said : (old new : Holding) (leaves : LeavesByName) (before now : ℕ) (families : List FamilyHead) (stop : Stop) → IsInitStop old before now stop → IsInitLeft old new leaves before now families stop
-    → (status : Status) (text : List ℕ) → IsMessage [] stop status text → IsInitWork old new leaves before now families status text
-init_said old new leaves before now families stop cause left status text (inl said) = inr (record { stop = stop; cause = cause; status_is = said.0; text_is = said.1; left = left })
-init_said old new leaves before now families stop cause left status text (inr want) =
-    inr (record { stop = NoMemory; cause = tt; status_is = want.0; text_is = want.1; left = wanted_init old new leaves before now families stop cause left })
+pub init_said : (old new : Holding) (crash : Crashes) (before now : ℕ) (families : List FamilyHead) (stop : Stop) → IsInitStop old before now stop → IsInitLeft old new crash families stop
+    → (status : Status) (text : List ℕ) → IsMessage [] stop status text → IsInitWork old new crash before now families status text
+init_said old new crash before now families stop cause left status text (inl said) = inr (record { stop = stop; cause = cause; status_is = said.0; text_is = said.1; left = left })
+init_said old new crash before now families stop cause left status text (inr want) =
+    inr (record { stop = NoMemory; cause = tt; status_is = want.1; text_is = want.2; left = wanted_init old new crash before now families stop want.0 cause left })
 
 -- ---- run
 
-not_opened : {IsAsked : List Command → Type 0} {old new : Holding} {leaves : LeavesByName} → (new ≡ old) ⊎ StaysAsItWas old new leaves → IsRunLeft IsAsked old new leaves NoMemory
-not_opened (inl same) = inl same
-not_opened (inr was) = inr (inl was)
+wanted_left : (IsAsked : List Command → Type 0) (old new : Holding) (crash : Crashes) (stop : Stop) → TakesMemory stop → IsRunLeft IsAsked old new crash stop → IsRunLeft IsAsked old new crash NoMemory
+wanted_left IsAsked old new crash (BadManifest at) takes h = inr (inl h)
+wanted_left IsAsked old new crash (BadLog n at) takes h = inr (inl h)
+wanted_left IsAsked old new crash NoMemory takes h = h
+wanted_left IsAsked old new crash NoFile takes h = inl h
+wanted_left IsAsked old new crash TooLong takes h = inl h
+wanted_left IsAsked old new crash (TooMany n) takes h = inl h
+wanted_left IsAsked old new crash (BadLine n) takes h = inl h
+wanted_left IsAsked old new crash stop takes h = absurd takes
 
-wanted_left : (IsAsked : List Command → Type 0) (old new : Holding) (leaves : LeavesByName) (stop : Stop) → IsRunLeft IsAsked old new leaves stop → IsRunLeft IsAsked old new leaves NoMemory
-wanted_left IsAsked old new leaves NoStore h = inr (inl h)
-wanted_left IsAsked old new leaves (BadManifest at) h = inr (inl h)
-wanted_left IsAsked old new leaves (BadLog n at) h = inr (inl h)
-wanted_left IsAsked old new leaves NoMemory h = h
-wanted_left IsAsked old new leaves DiskFault h = not_opened h
-wanted_left IsAsked old new leaves StoreExists h = not_opened h
-wanted_left IsAsked old new leaves SourceFault h = not_opened h
-wanted_left IsAsked old new leaves BadWords h = not_opened h
-wanted_left IsAsked old new leaves NoFile h = not_opened h
-wanted_left IsAsked old new leaves TooLong h = not_opened h
-wanted_left IsAsked old new leaves (TooMany n) h = not_opened h
-wanted_left IsAsked old new leaves (BadLine n) h = not_opened h
-
-pub run_said : (standing : Standing) (old new : Holding) (leaves : LeavesByName) (before now : ℕ) (file : List ℕ) (stop : Stop) → IsStoppedFrom standing old new leaves before now stop
-    → (status : Status) (text : List ℕ) → IsMessage file stop status text → IsRunWork standing old new leaves before now file status text
-run_said standing old new leaves before now file stop s status text (inl said) = inr (record { stop = stop; cause = s.cause; status_is = said.0; text_is = said.1; left = s.left })
-run_said standing old new leaves before now file stop s status text (inr want) = inr (record { stop = NoMemory; cause = inl tt; status_is = want.0; text_is = want.1; left = wanted_left (Spells standing) old new leaves stop s.left })
+pub run_said : (standing : Standing) (old new : Holding) (crash : Crashes) (before now : ℕ) (file : List ℕ) (stop : Stop) → IsStoppedFrom standing old new crash before now stop
+    → (status : Status) (text : List ℕ) → IsMessage file stop status text → IsRunWork standing old new crash before now file status text
+run_said standing old new crash before now file stop s status text (inl said) = inr (record { stop = stop; cause = s.cause; status_is = said.0; text_is = said.1; left = s.left })
+run_said standing old new crash before now file stop s status text (inr want) = inr (record { stop = NoMemory; cause = inl tt; status_is = want.1; text_is = want.2; left = wanted_left (Spells standing) old new crash stop want.0 s.left })
 
 -- the disk failed where a line tells it
 fault_rose : (before now : ℕ) (m : State) (lines : List Line) (end : Point) (status : Status) → All IsBuiltLine lines → m.halted ≡ None → Leads (start m) lines end → AreSoundUnless before now lines → status ≡ status_of_lines lines → status ≡ statuses.DiskFault → Rose before now
@@ -106,9 +96,9 @@ fault_rose before now m lines end status built works legal (inl sound) e fault =
 text_is : (r : Ready) (header : List ℕ) (lines : List Line) → r.buffer.items ≡ header → r.lines.items ≡ lines → text_of r ≡ header ++ print_lines lines
 text_is r header lines h l = ap (λ (t : List ℕ). t ++ print_lines r.lines.items) h ∙ ap (λ (ls : List Line). header ++ print_lines ls) l
 
-pub run_told : (standing : Standing) (old new : Holding) (leaves : LeavesByName) (before now : ℕ) (file : List ℕ) (r : Ready) (status : Status) → IsRunFrom standing old new leaves before now r → status ≡ status_of_lines r.lines.items
-    → IsRunWork standing old new leaves before now file status (text_of r)
-run_told standing old new leaves before now file r status from e =
+pub run_told : (standing : Standing) (old new : Holding) (was leaves : LeavesByName) (before now : ℕ) (file : List ℕ) (r : Ready) (status : Status) → IsRunFrom standing old new leaves before now r → status ≡ status_of_lines r.lines.items
+    → IsRunWork standing old new (crashes was leaves) before now file status (text_of r)
+run_told standing old new was leaves before now file r status from e =
     let run = from.run in
     let lines_are : status ≡ status_of_lines run.lines = e ∙ ap status_of_lines run.waits.lines_are in
     inl (record {

@@ -24,8 +24,8 @@ use Rattle.client_lang.specs.declared.command.Command.{Command}
 use Rattle.client_runner.specs.Ends.{IsRunLeft, Spells}
 use Rattle.client_runner.specs.Inits.{IsInitLeft, stop_of_making}
 use Rattle.client_runner.specs.HostRuns.{IsRunAt, IsRunFrom, IsStoppedAt, IsStoppedFrom}
-use Rattle.client_runner.specs.Left.{LeavesByName, IsMadeSo, IsMadeAt, IsUnmadeAt, StaysAsItWas, ContinuesFrom, TellsFolder, TellsNoneOr}
-use Rattle.recovery.specs.Making.{new_state, IsNoneOrNew}
+use Rattle.client_runner.specs.Left.{LeavesByName, Crashes, crashes, IsUnopened, no_files, IsMadeSo, IsMadeAt, IsUnmadeAt, StaysAsItWas, ContinuesFrom, TellsFolder, TellsNoneOr}
+use Rattle.recovery.specs.Making.{new_state, IsNoneOrNew, KeepsOthers}
 use Rattle.recovery.specs.Fault.{IsMakingRefusal, RefusesMaking}
 use Rattle.udt_disk.specs.Moments.{IsClean, MayLeaveFolder}
 use Rattle.recovery.specs.declared.fault.InitFault.{InitFault}
@@ -117,9 +117,9 @@ module _ {D F : Type 0} (d : disk.Ghosts D F) where
         crash = crash placed;
       }
 
-  module _ (new : Holding) (leaves : LeavesByName) (first last : D) where
+  module _ (new : Holding) (crash : Crashes) (first last : D) where
     -- what is true of the folder that was opened is true of the one that stood there
-    tells : (P : Folder → Type 0) (old : Holding) → IsGivenBack d old new leaves false first last → ((folder : Folder) → ((n : FileName) → folder n ≡ d.stands first n) → P (d.stands first) → P folder)
+    tells : (P : Folder → Type 0) (old : Holding) → IsGivenBack d old new crash.now false first last → ((folder : Folder) → ((n : FileName) → folder n ≡ d.stands first n) → P (d.stands first) → P folder)
         → (IsTrue (d.is_told first) → P (d.stands first)) → TellsFolder old P
     tells P None given carry here = tt
     tells P (Some None) given carry here = absurd (cc given.gives.0)
@@ -128,8 +128,9 @@ module _ {D F : Type 0} (d : disk.Ghosts D F) where
     -- ---- runs
 
     -- the folder goes on
-    continues : (old : Holding) (m : State) (lines : List Line) (end : Point) → IsGivenBack d old new leaves false first last → (IsTrue (d.is_told first) → IsClean d first → KeepsLines d first last m lines end)
-        → ContinuesFrom old new leaves m lines end
+    continues : (old : Holding) (m : State) (lines : List Line) (end : Point) → IsGivenBack d old new crash.now false first last → (IsTrue (d.is_told first) → IsClean d first → KeepsLines d first last m lines end)
+        → ContinuesFrom old new crash.now m lines end
+    unfolding stands_same
     continues None m lines end given kept = tt
     continues (Some None) m lines end given kept = absurd (cc given.gives.0)
     continues (Some (Some folder)) m lines end given kept =
@@ -142,10 +143,12 @@ module _ {D F : Type 0} (d : disk.Ghosts D F) where
           stands = d.stands last;
           new_is = given.back (subst IsTrue (sym given.told) told) refl;
           left = record { crash = λ image may. k.left.crash image (λ n. given.crash n (image n) (may n)); whole = k.left.whole; whole_crash = λ done image may. k.left.whole_crash done image (λ n. given.crash n (image n) (may n)) };
+          others = λ n other. k.others n other ∙ given.gives.1 n;
+          others_crash = λ n c other left. k.others_crash n c other (given.crash n c left) ∙ given.gives.1 n;
         }
 
     -- it is as it was
-    as_it_was : (old : Holding) → IsGivenBack d old new leaves false first last → IsSameFolder d first last → StaysAsItWas old new leaves
+    as_it_was : (old : Holding) → IsGivenBack d old new crash.now false first last → IsSameFolder d first last → StaysAsItWas old new crash
     as_it_was None given same = tt
     as_it_was (Some None) given same = absurd (cc given.gives.0)
     as_it_was (Some (Some folder)) given same =
@@ -158,8 +161,8 @@ module _ {D F : Type 0} (d : disk.Ghosts D F) where
         }
 
     -- lines that wait over the folder wait over the path, and so does a stop
-    pub run_ready : (old : Holding) (before opened now : ℕ) (commands : List Command) (r : Ready) → IsGivenBack d old new leaves false first last → opened ≡ before → now ≡ plus_faults opened (d.faults last)
-        → IsRunReady d first last commands r → IsRunAt old new leaves before now commands r
+    pub run_ready : (old : Holding) (before opened now : ℕ) (commands : List Command) (r : Ready) → IsGivenBack d old new crash.now false first last → opened ≡ before → now ≡ plus_faults opened (d.faults last)
+        → IsRunReady d first last commands r → IsRunAt old new crash.now before now commands r
     run_ready old before opened now commands r given kept is ready = record {
       m = ready.m;
       works = ready.works;
@@ -176,7 +179,7 @@ module _ {D F : Type 0} (d : disk.Ghosts D F) where
     none_or P (Some None) told = tt
     none_or P (Some (Some folder)) told = told
 
-    open_stop : (old : Holding) (before now : ℕ) (fault : OpenFault) → IsGivenBack d old new leaves false first last → (IsTrue (d.is_told first) → RefusesOpening (d.stands first) fault) → (fault ≡ faults.DiskFault → Rose before now)
+    open_stop : (old : Holding) (before now : ℕ) (fault : OpenFault) → IsGivenBack d old new crash.now false first last → (IsTrue (d.is_told first) → RefusesOpening (d.stands first) fault) → (fault ≡ faults.DiskFault → Rose before now)
         → IsOpenStop old before now (stop_of_opening fault)
     open_stop old before now faults.NoStore given refuses cause = none_or (λ folder. Means folder no_store) old (tells (λ folder. Means folder no_store) old given (λ folder same means. means_same (d.stands first) folder no_store same means) refuses)
     open_stop old before now (faults.BadManifest at) given refuses cause = tells (λ folder. Means folder (bad_at at)) old given (λ folder same means. means_same (d.stands first) folder (bad_at at) same means) refuses
@@ -185,8 +188,8 @@ module _ {D F : Type 0} (d : disk.Ghosts D F) where
     open_stop old before now faults.NoMemory given refuses cause = tt
 
     -- what is left of it, for each fault
-    left_by : (old : Holding) (commands : List Command) (fault : OpenFault) → IsGivenBack d old new leaves false first last → IsSameFolder d first last ⊎ ((fault ≡ faults.NoMemory) × KeepsSome d first last commands)
-        → IsRunLeft (λ asked. asked ≡ commands) old new leaves (stop_of_opening fault)
+    left_by : (old : Holding) (commands : List Command) (fault : OpenFault) → IsGivenBack d old new crash.now false first last → IsSameFolder d first last ⊎ ((fault ≡ faults.NoMemory) × KeepsSome d first last commands)
+        → IsRunLeft (λ asked. asked ≡ commands) old new crash (stop_of_opening fault)
     left_by old commands faults.NoStore given (inl same) = as_it_was old given same
     left_by old commands faults.NoStore given (inr cut) = absurd (cc cut.0)
     left_by old commands (faults.BadManifest at) given (inl same) = as_it_was old given same
@@ -199,49 +202,52 @@ module _ {D F : Type 0} (d : disk.Ghosts D F) where
     left_by old commands faults.NoMemory given (inr cut) =
         inr (inr (record { commands = commands; asked = refl; m = cut.1.m; lines = cut.1.lines; end = cut.1.end; legal = cut.1.legal; all_or_none = cut.1.all_or_none; left = continues old cut.1.m cut.1.lines cut.1.end given cut.1.kept }))
 
-    pub run_stopped : (old : Holding) (before opened now : ℕ) (commands : List Command) (stop : Stop) → IsGivenBack d old new leaves false first last → opened ≡ before → now ≡ plus_faults opened (d.faults last)
-        → IsRunRefused d first last commands stop → IsStoppedAt old new leaves before now commands stop
+    pub run_stopped : (old : Holding) (before opened now : ℕ) (commands : List Command) (stop : Stop) → IsGivenBack d old new crash.now false first last → opened ≡ before → now ≡ plus_faults opened (d.faults last)
+        → IsRunRefused d first last commands stop → IsStoppedAt old new crash before now commands stop
     run_stopped old before opened now commands stop given kept is refused = record {
       cause = subst (IsOpenStop old before now) (sym refused.stop_is) (open_stop old before now refused.fault given refused.refuses (λ fault. rose_with before opened now (d.faults first) (d.faults last) kept is (refused.cause fault)));
-      left = subst (IsRunLeft (λ asked. asked ≡ commands) old new leaves) (sym refused.stop_is) (left_by old commands refused.fault given refused.left);
+      left = subst (IsRunLeft (λ asked. asked ≡ commands) old new crash) (sym refused.stop_is) (left_by old commands refused.fault given refused.left);
     }
 
     -- ---- making a store
 
     -- what was made stands there, and nothing else is left by a crash
-    made_so : (P : Folder → Type 0) (old : Holding) → IsSome old → IsTrue (d.is_told first) → IsGivenBack d old new leaves true first last → P (d.stands last) → ((folder : Folder) → MayLeaveFolder d last folder → P folder) → IsMadeSo P new leaves
-    made_so P old some told given has crash = record {
+    made_so : (P : Folder → Type 0) (before : Folder) (old : Holding) → IsSome old → IsTrue (d.is_told first) → IsGivenBack d old new crash.now true first last → ((n : FileName) → d.stands first n ≡ before n) → KeepsOthers d first last → P (d.stands last)
+        → ((folder : Folder) → MayLeaveFolder d last folder → P folder) → IsMadeSo P before new crash.now
+    made_so P before old some told given stood keeps has each = record {
       stands = d.stands last;
       new_is = given.back (subst IsTrue (sym given.told) told) some;
       has = has;
-      crash = λ folder may. crash folder (λ n. given.crash n (folder n) (may n));
+      crash = λ folder may. each folder (λ n. given.crash n (folder n) (may n));
+      others = λ n free. keeps.stands n free ∙ stood n;
+      others_crash = λ n c free left. given.clean n c (keeps.no_more n c free (given.crash n c left)) ∙ stood n;
     }
 
     module _ (families : List FamilyHead) where
       abbrev IsNew : Folder → Type 0
       IsNew folder = FolderStands folder (new_state families)
 
-      pub made_at : (old : Holding) → IsGivenBack d old new leaves true first last → (IsTrue (d.is_told first) → IsNew (d.stands last)) → (IsTrue (d.is_told first) → Means (d.stands first) no_store)
-          → (IsTrue (d.is_told first) → IsClean d first → (folder : Folder) → MayLeaveFolder d last folder → IsNew folder) → IsMadeAt old new leaves families
-      made_at None given made none durable = tt
-      made_at (Some None) given made none durable = let told = given.gives.1 in made_so IsNew (Some None) refl told given (made told) (durable told given.clean)
-      made_at (Some (Some folder)) given made none durable =
+      pub made_at : (old : Holding) → IsGivenBack d old new crash.now true first last → (IsTrue (d.is_told first) → KeepsOthers d first last) → (IsTrue (d.is_told first) → IsNew (d.stands last)) → (IsTrue (d.is_told first) → Means (d.stands first) no_store)
+          → (IsTrue (d.is_told first) → IsClean d first → (folder : Folder) → MayLeaveFolder d last folder → IsNew folder) → IsMadeAt old new crash.now families
+      made_at None given keeps made none durable = tt
+      made_at (Some None) given keeps made none durable = let told = given.gives.1 in made_so IsNew no_files (Some None) refl told given given.gives.3 (keeps told) (made told) (durable told given.clean)
+      made_at (Some (Some folder)) given keeps made none durable =
           let told = given.gives.0 in
-          (means_same (d.stands first) folder no_store (λ n. sym (given.gives.1 n)) (none told), made_so IsNew (Some (Some folder)) refl told given (made told) (durable told given.clean))
+          (means_same (d.stands first) folder no_store (λ n. sym (given.gives.1 n)) (none told), made_so IsNew folder (Some (Some folder)) refl told given given.gives.1 (keeps told) (made told) (durable told given.clean))
 
       -- where there was no store the folder has P, as each that a crash may leave
-      unmade_at : (P : Folder → Type 0) (f : file.Ghosts F) (old : Holding) → IsGivenBack d old new leaves true first last → (IsTrue (d.is_told first) → Means (d.stands first) no_store → P (d.stands last))
+      unmade_at : (P : Folder → Type 0) (f : file.Ghosts F) (old : Holding) → IsGivenBack d old new crash.now true first last → (IsTrue (d.is_told first) → KeepsOthers d first last) → (IsTrue (d.is_told first) → Means (d.stands first) no_store → P (d.stands last))
           → (IsTrue (d.is_told first) → IsClean d first → Means (d.stands first) no_store → (folder : Folder) → MayLeaveFolder d last folder → P folder)
-          → (IsTrue (d.is_told first) → ¬ Means (d.stands first) no_store → OnlyReads d f (alone first) (alone last)) → IsUnmadeAt P old new leaves
-      unmade_at P f None given stopped crash kept = tt
-      unmade_at P f (Some None) given stopped crash kept =
+          → (IsTrue (d.is_told first) → ¬ Means (d.stands first) no_store → OnlyReads d f (alone first) (alone last)) → IsUnmadeAt P old new crash.now
+      unmade_at P f None given keeps stopped each kept = tt
+      unmade_at P f (Some None) given keeps stopped each kept =
           let told = given.gives.1 in
           let none : Means (d.stands first) no_store = given.gives.3 Made in
-          made_so P (Some None) refl told given (stopped told none) (crash told given.clean none)
-      unmade_at P f (Some (Some folder)) given stopped crash kept =
+          made_so P no_files (Some None) refl told given given.gives.3 (keeps told) (stopped told none) (each told given.clean none)
+      unmade_at P f (Some (Some folder)) given keeps stopped each kept =
           let told = given.gives.0 in
           record {
-            none = λ means. let none = means_same folder (d.stands first) no_store given.gives.1 means in made_so P (Some (Some folder)) refl told given (stopped told none) (crash told given.clean none);
+            none = λ means. let none = means_same folder (d.stands first) no_store given.gives.1 means in made_so P folder (Some (Some folder)) refl told given given.gives.1 (keeps told) (stopped told none) (each told given.clean none);
             some = λ store.
                 let looks = kept told (λ means. store (means_same (d.stands first) folder no_store (λ n. sym (given.gives.1 n)) means)) in
                 record {
@@ -253,7 +259,7 @@ module _ {D F : Type 0} (d : disk.Ghosts D F) where
           }
 
       -- a folder that is refused is as it was
-      refused_stays : (f : file.Ghosts F) (old : Holding) → IsGivenBack d old new leaves true first last → (IsTrue (d.is_told first) → d.stands first Made ≢ None) → OnlyReads d f (alone first) (alone last) → StaysAsItWas old new leaves
+      refused_stays : (f : file.Ghosts F) (old : Holding) → IsGivenBack d old new crash.now true first last → (IsTrue (d.is_told first) → d.stands first Made ≢ None) → OnlyReads d f (alone first) (alone last) → StaysAsItWas old new crash
       refused_stays f None given made looks = tt
       refused_stays f (Some None) given made looks = absurd (made given.gives.1 (given.gives.3 Made))
       refused_stays f (Some (Some folder)) given made looks =
@@ -268,6 +274,7 @@ module _ {D F : Type 0} (d : disk.Ghosts D F) where
       -- what `make_store` says where it failed
       pub record IsMakingFailed (f : file.Ghosts F) (fault : InitFault) : Type 0 where
         pub refused : IsTrue (d.is_told first) → RefusesMaking (d.stands first) fault
+        pub keeps : IsTrue (d.is_told first) → KeepsOthers d first last
         pub looked : IsMakingRefusal fault → OnlyReads d f (alone first) (alone last)
         pub stopped : IsTrue (d.is_told first) → Means (d.stands first) no_store → IsNoneOrNew families (d.stands last)
         pub stopped_crash : IsTrue (d.is_told first) → IsClean d first → Means (d.stands first) no_store → (folder : Folder) → MayLeaveFolder d last folder → IsNoneOrNew families folder
@@ -275,11 +282,11 @@ module _ {D F : Type 0} (d : disk.Ghosts D F) where
         pub no_memory_crash : fault ≡ inits.NoMemory → IsTrue (d.is_told first) → IsClean d first → Means (d.stands first) no_store → (folder : Folder) → MayLeaveFolder d last folder → Means folder no_store
         pub kept : IsTrue (d.is_told first) → ¬ Means (d.stands first) no_store → OnlyReads d f (alone first) (alone last)
 
-      pub init_left : (f : file.Ghosts F) (old : Holding) (before now : ℕ) (fault : InitFault) → IsGivenBack d old new leaves true first last → IsMakingFailed f fault → IsInitLeft old new leaves before now families (stop_of_making fault)
-      init_left f old before now inits.StoreExists given e = refused_stays f old given (λ told. (e.refused told).1.0) (e.looked tt)
-      init_left f old before now (inits.BadManifest at) given e = refused_stays f old given (λ told. (e.refused told).0) (e.looked tt)
-      init_left f old before now inits.DiskFault given e = inr (unmade_at (IsNoneOrNew families) f old given e.stopped e.stopped_crash e.kept)
-      init_left f old before now inits.NoMemory given e = inr (inl (unmade_at (λ folder. Means folder no_store) f old given (e.no_memory refl) (e.no_memory_crash refl) e.kept))
+      pub init_left : (f : file.Ghosts F) (old : Holding) (fault : InitFault) → IsGivenBack d old new crash.now true first last → IsMakingFailed f fault → IsInitLeft old new crash families (stop_of_making fault)
+      init_left f old inits.StoreExists given e = refused_stays f old given (λ told. (e.refused told).1.0) (e.looked tt)
+      init_left f old (inits.BadManifest at) given e = refused_stays f old given (λ told. (e.refused told).0) (e.looked tt)
+      init_left f old inits.DiskFault given e = inr (unmade_at (IsNoneOrNew families) f old given e.keeps e.stopped e.stopped_crash e.kept)
+      init_left f old inits.NoMemory given e = inr (unmade_at (λ folder. Means folder no_store) f old given e.keeps (e.no_memory refl) (e.no_memory_crash refl) e.kept)
 
 -- ---- runs of the commands of a file
 
@@ -319,41 +326,55 @@ run_from standing old mid new leaves first before now commands r read same le ru
   };
 }
 
-pub stopped_from : (standing : Standing) (old mid new : Holding) (leaves : LeavesByName) (first before now : ℕ) (commands : List Command) (stop : Stop) → IsReadAs standing commands → mid ≡ old → first ≤ before
-    → IsStoppedAt mid new leaves before now commands stop → IsStoppedFrom standing old new leaves first now stop
-stopped_from standing old mid new leaves first before now commands stop read same le stopped = record {
-  cause = inr (record { bytes = read.bytes; commands = commands; stands = read.stands; spelled = read.spelled }, stop_earlier old first before now stop le (subst (λ (h : Holding). IsOpenStop h before now stop) same stopped.cause));
-  left = asked_more (λ asked. asked ≡ commands) (Spells standing) (λ asked is. subst (Spells standing) (sym is) (read.bytes, read.stands, read.spelled)) old new leaves stop (subst (λ (h : Holding). IsRunLeft (λ asked. asked ≡ commands) h new leaves stop) same stopped.left);
-} where
-  asked_more : (P Q : List Command → Type 0) → ((asked : List Command) → P asked → Q asked) → (old new : Holding) (leaves : LeavesByName) (stop : Stop) → IsRunLeft P old new leaves stop → IsRunLeft Q old new leaves stop
-  asked_more P Q more old new leaves stops.NoStore h = h
-  asked_more P Q more old new leaves (stops.BadManifest at) h = h
-  asked_more P Q more old new leaves (stops.BadLog n at) h = h
-  asked_more P Q more old new leaves stops.NoMemory (inl h) = inl h
-  asked_more P Q more old new leaves stops.NoMemory (inr (inl h)) = inr (inl h)
-  asked_more P Q more old new leaves stops.NoMemory (inr (inr h)) =
-      inr (inr (record { commands = h.commands; asked = more h.commands h.asked; m = h.m; lines = h.lines; end = h.end; legal = h.legal; all_or_none = h.all_or_none; left = h.left }))
-  asked_more P Q more old new leaves stops.DiskFault h = h
-  asked_more P Q more old new leaves stops.StoreExists h = h
-  asked_more P Q more old new leaves stops.SourceFault h = h
-  asked_more P Q more old new leaves stops.BadWords h = h
-  asked_more P Q more old new leaves stops.NoFile h = h
-  asked_more P Q more old new leaves stops.TooLong h = h
-  asked_more P Q more old new leaves (stops.TooMany n) h = h
-  asked_more P Q more old new leaves (stops.BadLine n) h = h
+-- a folder that wasn't opened
+unopened_from : (old mid new : Holding) (was between now : LeavesByName) → mid ≡ old → ((n : FileName) → NoMore (was n) (between n)) → IsUnopened mid new (crashes between now) → IsUnopened old new (crashes was now)
+unopened_from old mid new was between now same earlier h = record { stands = h.stands ∙ same; no_more = λ n c left. earlier n c (h.no_more n c left) }
 
--- a file that isn't read leaves the folder as it was
-pub file_left : (standing : Standing) (IsAsked : List Command → Type 0) (old new : Holding) (leaves : LeavesByName) (before now : ℕ) (stop : Stop) → IsFileStop standing before now stop → new ≡ old → IsRunLeft IsAsked old new leaves stop
-file_left standing IsAsked old new leaves before now stops.NoFile h same = inl same
-file_left standing IsAsked old new leaves before now stops.TooLong h same = inl same
-file_left standing IsAsked old new leaves before now (stops.TooMany n) h same = inl same
-file_left standing IsAsked old new leaves before now (stops.BadLine n) h same = inl same
-file_left standing IsAsked old new leaves before now stops.SourceFault h same = inl same
-file_left standing IsAsked old new leaves before now stops.NoMemory h same = inl same
-file_left standing IsAsked old new leaves before now stop h same = absurd h
+-- one that is as it was
+as_it_was_from : (old new : Holding) (was between now : LeavesByName) → ((n : FileName) → NoMore (was n) (between n)) → StaysAsItWas old new (crashes between now) → StaysAsItWas old new (crashes was now)
+as_it_was_from None new was between now earlier h = tt
+as_it_was_from (Some None) new was between now earlier h = unopened_from (Some None) (Some None) new was between now refl earlier h
+as_it_was_from (Some (Some folder)) new was between now earlier h = h
+
+-- what is left of the folder for commands that have P is left for commands that have Q, since an earlier moment
+left_from : (P Q : List Command → Type 0) → ((asked : List Command) → P asked → Q asked) → (old new : Holding) (was between now : LeavesByName) → ((n : FileName) → NoMore (was n) (between n)) → (stop : Stop) → IsRunLeft P old new (crashes between now) stop → IsRunLeft Q old new (crashes was now) stop
+left_from P Q more old new was between now earlier stops.NoStore h = as_it_was_from old new was between now earlier h
+left_from P Q more old new was between now earlier (stops.BadManifest at) h = as_it_was_from old new was between now earlier h
+left_from P Q more old new was between now earlier (stops.BadLog n at) h = as_it_was_from old new was between now earlier h
+left_from P Q more old new was between now earlier stops.NoMemory (inl h) = inl (unopened_from old old new was between now refl earlier h)
+left_from P Q more old new was between now earlier stops.NoMemory (inr (inl h)) = inr (inl (as_it_was_from old new was between now earlier h))
+left_from P Q more old new was between now earlier stops.NoMemory (inr (inr h)) =
+    inr (inr (record { commands = h.commands; asked = more h.commands h.asked; m = h.m; lines = h.lines; end = h.end; legal = h.legal; all_or_none = h.all_or_none; left = h.left }))
+left_from P Q more old new was between now earlier stops.DiskFault (inl h) = inl (unopened_from old old new was between now refl earlier h)
+left_from P Q more old new was between now earlier stops.DiskFault (inr h) = inr (as_it_was_from old new was between now earlier h)
+left_from P Q more old new was between now earlier stops.StoreExists h = unopened_from old old new was between now refl earlier h
+left_from P Q more old new was between now earlier stops.SourceFault h = unopened_from old old new was between now refl earlier h
+left_from P Q more old new was between now earlier stops.BadWords h = unopened_from old old new was between now refl earlier h
+left_from P Q more old new was between now earlier stops.NoFile h = unopened_from old old new was between now refl earlier h
+left_from P Q more old new was between now earlier stops.TooLong h = unopened_from old old new was between now refl earlier h
+left_from P Q more old new was between now earlier (stops.TooMany n) h = unopened_from old old new was between now refl earlier h
+left_from P Q more old new was between now earlier (stops.BadLine n) h = unopened_from old old new was between now refl earlier h
+
+pub stopped_from : (standing : Standing) (old mid new : Holding) (was between leaves : LeavesByName) (first before now : ℕ) (commands : List Command) (stop : Stop) → IsReadAs standing commands → mid ≡ old → ((n : FileName) → NoMore (was n) (between n)) → first ≤ before
+    → IsStoppedAt mid new (crashes between leaves) before now commands stop → IsStoppedFrom standing old new (crashes was leaves) first now stop
+stopped_from standing old mid new was between leaves first before now commands stop read same earlier le stopped = record {
+  cause = inr (record { bytes = read.bytes; commands = commands; stands = read.stands; spelled = read.spelled }, stop_earlier old first before now stop le (subst (λ (h : Holding). IsOpenStop h before now stop) same stopped.cause));
+  left = left_from (λ asked. asked ≡ commands) (Spells standing) (λ asked is. subst (Spells standing) (sym is) (read.bytes, read.stands, read.spelled)) old new was between leaves earlier stop
+      (subst (λ (h : Holding). IsRunLeft (λ asked. asked ≡ commands) h new (crashes between leaves) stop) same stopped.left);
+}
+
+-- a file that isn't read leaves the folder unopened
+pub file_left : (standing : Standing) (IsAsked : List Command → Type 0) (old new : Holding) (crash : Crashes) (before now : ℕ) (stop : Stop) → IsFileStop standing before now stop → IsUnopened old new crash → IsRunLeft IsAsked old new crash stop
+file_left standing IsAsked old new crash before now stops.NoFile h same = same
+file_left standing IsAsked old new crash before now stops.TooLong h same = same
+file_left standing IsAsked old new crash before now (stops.TooMany n) h same = same
+file_left standing IsAsked old new crash before now (stops.BadLine n) h same = same
+file_left standing IsAsked old new crash before now stops.SourceFault h same = same
+file_left standing IsAsked old new crash before now stops.NoMemory h same = inl same
+file_left standing IsAsked old new crash before now stop h same = absurd h
 
 -- where no folder stands there, none does behind
-pub missing_stays : (old new : Holding) (leaves : LeavesByName) → IsNoFolder old → new ≡ old → StaysAsItWas old new leaves
-missing_stays None new leaves none same = tt
-missing_stays (Some None) new leaves none same = same
-missing_stays (Some (Some folder)) new leaves none same = absurd (cc none)
+pub missing_stays : (old new : Holding) (crash : Crashes) → IsNoFolder old → IsUnopened old new crash → StaysAsItWas old new crash
+missing_stays None new crash none same = tt
+missing_stays (Some None) new crash none same = same
+missing_stays (Some (Some folder)) new crash none same = absurd (cc none)

@@ -8,7 +8,7 @@ use Rattle.std.specs.Io.KnownBytes.{Appends}
 use Rattle.std.proofs.lemmas.List.Elements.{All-nil, All-get_or, All-from_get_or, All-more, All-weaker}
 use Rattle.udt_model.specs.declared.line.Line.{Line}
 use Rattle.client_runner.specs.Flows.{AppendsFront}
-use Rattle.client_runner.specs.Output.{HasRoom, HasRoomFor, Passes, Flushes}
+use Rattle.client_runner.specs.Output.{HasRoomForLines, HasRoomFor, Passes, Flushes}
 use Rattle.client_lang.specs.Print.{print_line, print_lines}
 use Rattle.client_lang.proofs.Texts.{flat_map-one_more, flat_map-around}
 
@@ -83,7 +83,7 @@ line_passes a b u v w text f e le = record {
 pub room_kept : (u v : Vec ℕ Global) (line : Line) → vec_capacity u ≤ vec_capacity v → HasRoomFor u line → HasRoomFor v line
 room_kept u v line le h = omega arith
 
-pub room_for_all : (v : Vec ℕ Global) (lines : List Line) (longest : ℕ) → All (λ l. length (print_line l) ≤ longest) lines → 65536 + longest ≤ vec_capacity v → HasRoom v lines
+pub room_for_all : (v : Vec ℕ Global) (lines : List Line) (longest : ℕ) → All (λ l. length (print_line l) ≤ longest) lines → 65536 + longest ≤ vec_capacity v → HasRoomForLines v lines
 room_for_all v [] longest all le = All-nil (HasRoomFor v)
 room_for_all v (l ∷ lines) longest all le = All-from_get_or (HasRoomFor v) (l ∷ lines) l (λ i lt. let h = All-get_or (λ (k : Line). length (print_line k) ≤ longest) (l ∷ lines) i l lt all in omega (arith, h))
 

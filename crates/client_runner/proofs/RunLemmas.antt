@@ -62,7 +62,6 @@ use Rattle.solo_runner.proofs.KeepingLemmas.{all_synced, opens_kept}
 use Rattle.solo_runner.proofs.VersionLemmas.{settled_state}
 use Rattle.recovery.proofs.OpeningLemmas.{chosen_isn't_log}
 use Rattle.solo_runner.proofs.SoloLemmas.{course_push, height_kept, sound_none}
-use Rattle.recovery.proofs.States.{opened_stands}
 
 -- ---- where no line tells a fault, all is synced at the end
 
@@ -231,14 +230,18 @@ module _ {D F : Type 0} (d : disk.Ghosts D F) (f : file.Ghosts F) where
       (same_or_other (f.name m) n)
 
   -- and a crash leaves nothing else
-  closed_leaves : (opened new : D) (parts : Parts D F f) (log : F) → IsClean d opened → (o : IsOpened d f opened parts) → OnlyReads d f (alone opened) (holding parts.disk (files_of parts)) → f.name log ≡ Log o.number
-      → IsClosed parts.disk new log (manifest_file parts.manifest) → (folder : Folder) → MayBeLeft (d.may_leave new) folder → IsSameBut o.number (d.stands opened) folder
-  closed_leaves opened new parts log clean o reads named closed folder left n other =
+  closed_leaf : (opened new : D) (parts : Parts D F f) (log : F) → IsClean d opened → (o : IsOpened d f opened parts) → OnlyReads d f (alone opened) (holding parts.disk (files_of parts)) → f.name log ≡ Log o.number
+      → IsClosed parts.disk new log (manifest_file parts.manifest) → (n : FileName) (c : Image) → n ≢ Log o.number → d.may_leave new n c → c ≡ d.stands opened n
+  closed_leaf opened new parts log clean o reads named closed n c other left =
       let m : F = manifest_file parts.manifest in
       ⊎_elim
-      (λ is. clean n (folder n) (subst (λ (k : FileName). d.may_leave opened k (folder n)) (sym is) (leaves_held d f opened parts.disk (files_of parts) reads m (inr (inl refl)) (one_manifest parts o.apart) (folder n) (closed.manifest_leaves (folder n) (subst (λ (k : FileName). d.may_leave new k (folder n)) is (left n))))))
-      (λ apart. clean n (folder n) (leaves_free d f opened parts.disk (files_of parts) reads n (folder n) (free_of parts.disk parts n apart (λ is. other (is ∙ o.name))) (closed.others n (folder n) apart (λ is. other (is ∙ named)) (left n))))
+      (λ is. clean n c (subst (λ (k : FileName). d.may_leave opened k c) (sym is) (leaves_held d f opened parts.disk (files_of parts) reads m (inr (inl refl)) (one_manifest parts o.apart) c (closed.manifest_leaves c (subst (λ (k : FileName). d.may_leave new k c) is left)))))
+      (λ apart. clean n c (leaves_free d f opened parts.disk (files_of parts) reads n c (free_of parts.disk parts n apart (λ is. other (is ∙ o.name))) (closed.others n c apart (λ is. other (is ∙ named)) left)))
       (same_or_other (f.name m) n)
+
+  closed_leaves : (opened new : D) (parts : Parts D F f) (log : F) → IsClean d opened → (o : IsOpened d f opened parts) → OnlyReads d f (alone opened) (holding parts.disk (files_of parts)) → f.name log ≡ Log o.number
+      → IsClosed parts.disk new log (manifest_file parts.manifest) → (folder : Folder) → MayBeLeft (d.may_leave new) folder → IsSameBut o.number (d.stands opened) folder
+  closed_leaves opened new parts log clean o reads named closed folder left n other = closed_leaf opened new parts log clean o reads named closed n (folder n) other (left n)
 
   -- the parts say what the manifest and the log say
   parts_say : (opened : D) (parts : Parts D F f) → (o : IsOpened d f opened parts) → state_of_parts parts ≡ stores.state_of o.fold o.batches
@@ -376,12 +379,14 @@ module _ {D F : Type 0} (d : disk.Ghosts D F) (f : file.Ghosts F) where
         sound = sound_back (d.faults parts.disk) (faults_of f first) (faults_of f now) (f.faults (manifest_file parts.manifest)) (d.faults new) lines back.faults zero made.sound;
         later = closed.later;
         kept = λ opened told clean o reads told_disk told_wal told_manifest. record {
-          opened = opened_stands d f opened parts o;
+          opened = record { fold = o.fold; means = o.means; number = o.number; live = o.live; batches = o.batches; held = o.held; state_is = parts_say opened parts o };
           left = record {
             crash = crash_left opened new parts first now lines end clean o reads wal made back;
             whole = whole_left opened new parts first now lines end told clean o reads told_disk told_wal told_manifest wal made back;
             whole_crash = whole_crash opened new parts first now lines end clean o reads wal made back;
           };
+          others = closed_stands opened new parts (wal_file (wal_of now)) told o reads told_disk told_manifest (made_name opened parts first now o wal made.same) back;
+          others_crash = closed_leaf opened new parts (wal_file (wal_of now)) clean o reads (made_name opened parts first now o wal made.same) back;
         };
       }
 

@@ -28,7 +28,7 @@ use Rattle.manifest.specs.declared.fold.Folded.{Folded}
 use Rattle.manifest.specs.Folders.{Means}
 use Rattle.manifest.specs.Folders.Meaning.{no_store, bad_at, store}
 use Rattle.manifest.proofs.Meanings.{means_once}
-use Rattle.client_runner.specs.Left.{LeavesByName, status_of_lines, tells_fault}
+use Rattle.client_runner.specs.Left.{Crashes, status_of_lines, tells_fault}
 use Rattle.recovery.specs.Fault.{RefusesOpening}
 use Rattle.client_runner.specs.Ready.{IsMessage, IsReadAs, IsTranscribed, IsReady, IsReadyStop, IsTried, stop_of_read}
 use Rattle.client_runner.specs.Runs.{stop_of_opening}
@@ -94,7 +94,7 @@ stop_of_fault bytes faults.NoMemory h = tt
 -- the message that was said is the stop's, or that of want of memory
 pub said_stop : (standing : Standing) (before now : ℕ) (path : List ℕ) (stop : Stop) (status : Status) (text : List ℕ) → IsFileStop standing before now stop → IsMessage path stop status text → StopsAt standing before now path status text
 said_stop standing before now path stop status text cause (inl said) = record { stop = stop; cause = cause; status_is = said.0; text_is = said.1 }
-said_stop standing before now path stop status text cause (inr want) = record { stop = NoMemory; cause = tt; status_is = want.0; text_is = want.1 }
+said_stop standing before now path stop status text cause (inr want) = record { stop = NoMemory; cause = tt; status_is = want.1; text_is = want.2 }
 
 -- ---- the other direction
 
@@ -282,10 +282,10 @@ file_stopped standing before now path meant text told t (inr stops) = stop_meant
 
 -- ---- run
 
-run_file_stopped : (standing : Standing) (old new : Holding) (leaves : LeavesByName) (before now : ℕ) (file : List ℕ) (meant : Status) (text : List ℕ) (told : Stop) → TellsStop standing told → IsRunWork standing old new leaves before now file meant text
+run_file_stopped : (standing : Standing) (old new : Holding) (crash : Crashes) (before now : ℕ) (file : List ℕ) (meant : Status) (text : List ℕ) (told : Stop) → TellsStop standing told → IsRunWork standing old new crash before now file meant text
     → IsMeant file told meant text
-run_file_stopped standing old new leaves before now file meant text told t (inl done) = absurd (not_read standing told done.bytes done.transcript.commands t done.stands done.transcript.spelled)
-run_file_stopped standing old new leaves before now file meant text told t (inr s) =
+run_file_stopped standing old new crash before now file meant text told t (inl done) = absurd (not_read standing told done.bytes done.transcript.commands t done.stands done.transcript.spelled)
+run_file_stopped standing old new crash before now file meant text told t (inr s) =
     elim s.cause [
       | inl cause ↦ stop_meant standing before now file meant text told s.stop t cause s.status_is s.text_is
       | inr cause ↦ absurd (not_read standing told cause.0.bytes cause.0.commands t cause.0.stands cause.0.spelled)
@@ -310,10 +310,10 @@ other_want : (before now : ℕ) (stop : Stop) (meant : Status) → meant ≡ sta
 other_want before now stop meant e quiet (inl fault) = absurd (quiet fault.1)
 other_want before now stop meant e quiet (inr want) = inr (e ∙ ap status_of want)
 
-run_done : (standing : Standing) (old new : Holding) (leaves : LeavesByName) (before now : ℕ) (file : List ℕ) (meant : Status) (text bytes : List ℕ) (commands : List Command) (folder : Folder) (m : State)
-    → standing ≡ Some (Some bytes) → IsFile bytes commands → old ≡ Some (Some folder) → FolderStands folder m → (Rose before now → ⊥) → IsRunWork standing old new leaves before now file meant text → IsDoneOrWant meant
-run_done standing old new leaves before now file meant text bytes commands folder m s spelled holds stands quiet (inl done) = run_is_done done.lines before now meant done.status_is done.cause quiet
-run_done standing old new leaves before now file meant text bytes commands folder m s spelled holds stands quiet (inr r) =
+run_done : (standing : Standing) (old new : Holding) (crash : Crashes) (before now : ℕ) (file : List ℕ) (meant : Status) (text bytes : List ℕ) (commands : List Command) (folder : Folder) (m : State)
+    → standing ≡ Some (Some bytes) → IsFile bytes commands → old ≡ Some (Some folder) → FolderStands folder m → (Rose before now → ⊥) → IsRunWork standing old new crash before now file meant text → IsDoneOrWant meant
+run_done standing old new crash before now file meant text bytes commands folder m s spelled holds stands quiet (inl done) = run_is_done done.lines before now meant done.status_is done.cause quiet
+run_done standing old new crash before now file meant text bytes commands folder m s spelled holds stands quiet (inr r) =
     elim r.cause [
       | inl cause ↦ inr (r.status_is ∙ ap status_of (no_stop standing before now r.stop bytes commands s spelled quiet cause))
       | inr cause ↦ elim (opening_met old folder before now r.stop holds cause.1) [
@@ -359,10 +359,10 @@ opening_told holding (BadManifest at) t = inr (t.0, opening.BadManifest at, t.1,
 opening_told holding (BadLog n at) t = inr (t.0, opening.BadLog n at, t.1, tt, refl, t.2)
 opening_told holding stop t = absurd t
 
-missing_refused : (standing : Standing) (old new : Holding) (leaves : LeavesByName) (before now : ℕ) (file : List ℕ) (meant : Status) (text bytes : List ℕ) (commands : List Command) → standing ≡ Some (Some bytes) → IsFile bytes commands → old ≡ Some None
-    → IsRunWork standing old new leaves before now file meant text → IsOpenMeant file NoStore meant text
-missing_refused standing old new leaves before now file meant text bytes commands s spelled holds (inl done) = absurd (rw holds at done.left)
-missing_refused standing old new leaves before now file meant text bytes commands s spelled holds (inr r) =
+missing_refused : (standing : Standing) (old new : Holding) (crash : Crashes) (before now : ℕ) (file : List ℕ) (meant : Status) (text bytes : List ℕ) (commands : List Command) → standing ≡ Some (Some bytes) → IsFile bytes commands → old ≡ Some None
+    → IsRunWork standing old new crash before now file meant text → IsOpenMeant file NoStore meant text
+missing_refused standing old new crash before now file meant text bytes commands s spelled holds (inl done) = absurd (rw holds at done.left)
+missing_refused standing old new crash before now file meant text bytes commands s spelled holds (inr r) =
     elim r.cause [
       | inl cause ↦ read_meant standing file NoStore r.stop before now meant text bytes commands s spelled cause r.status_is
       | inr cause ↦ elim (missing_met old before now r.stop holds cause.1) [
@@ -371,11 +371,11 @@ missing_refused standing old new leaves before now file meant text bytes command
       ]
     ]
 
-folder_refused : (standing : Standing) (old new : Holding) (leaves : LeavesByName) (before now : ℕ) (file : List ℕ) (meant : Status) (text bytes : List ℕ) (commands : List Command) (folder : Folder) (fault : OpenFault) → standing ≡ Some (Some bytes) → IsFile bytes commands
-    → old ≡ Some (Some folder) → IsToldRefusal fault → RefusesOpening folder fault → IsRunWork standing old new leaves before now file meant text → IsOpenMeant file (stop_of_opening fault) meant text
-folder_refused standing old new leaves before now file meant text bytes commands folder fault s spelled holds told why (inl done) =
+folder_refused : (standing : Standing) (old new : Holding) (crash : Crashes) (before now : ℕ) (file : List ℕ) (meant : Status) (text bytes : List ℕ) (commands : List Command) (folder : Folder) (fault : OpenFault) → standing ≡ Some (Some bytes) → IsFile bytes commands
+    → old ≡ Some (Some folder) → IsToldRefusal fault → RefusesOpening folder fault → IsRunWork standing old new crash before now file meant text → IsOpenMeant file (stop_of_opening fault) meant text
+folder_refused standing old new crash before now file meant text bytes commands folder fault s spelled holds told why (inl done) =
     absurd (refused_stands_for_none folder fault told why done.m (rw holds at done.left).opened)
-folder_refused standing old new leaves before now file meant text bytes commands folder fault s spelled holds told why (inr r) =
+folder_refused standing old new crash before now file meant text bytes commands folder fault s spelled holds told why (inr r) =
     elim r.cause [
       | inl cause ↦ read_meant standing file (stop_of_opening fault) r.stop before now meant text bytes commands s spelled cause r.status_is
       | inr cause ↦ elim (opening_met old folder before now r.stop holds cause.1) [
@@ -387,12 +387,12 @@ folder_refused standing old new leaves before now file meant text bytes commands
       ]
     ]
 
-run_refused : (standing : Standing) (old new : Holding) (leaves : LeavesByName) (before now : ℕ) (file : List ℕ) (meant : Status) (text bytes : List ℕ) (commands : List Command) (told : Stop) → standing ≡ Some (Some bytes) → IsFile bytes commands → TellsOpenStop old told
-    → IsRunWork standing old new leaves before now file meant text → IsOpenMeant file told meant text
-run_refused standing old new leaves before now file meant text bytes commands told s spelled t w =
+run_refused : (standing : Standing) (old new : Holding) (crash : Crashes) (before now : ℕ) (file : List ℕ) (meant : Status) (text bytes : List ℕ) (commands : List Command) (told : Stop) → standing ≡ Some (Some bytes) → IsFile bytes commands → TellsOpenStop old told
+    → IsRunWork standing old new crash before now file meant text → IsOpenMeant file told meant text
+run_refused standing old new crash before now file meant text bytes commands told s spelled t w =
     elim (opening_told old told t) [
-      | inl missing ↦ subst (λ (x : Stop). IsOpenMeant file x meant text) (sym missing.0) (missing_refused standing old new leaves before now file meant text bytes commands s spelled missing.1 w)
-      | inr found ↦ subst (λ (x : Stop). IsOpenMeant file x meant text) (sym found.4) (folder_refused standing old new leaves before now file meant text bytes commands found.0 found.1 s spelled found.2 found.3 found.5 w)
+      | inl missing ↦ subst (λ (x : Stop). IsOpenMeant file x meant text) (sym missing.0) (missing_refused standing old new crash before now file meant text bytes commands s spelled missing.1 w)
+      | inr found ↦ subst (λ (x : Stop). IsOpenMeant file x meant text) (sym found.4) (folder_refused standing old new crash before now file meant text bytes commands found.0 found.1 s spelled found.2 found.3 found.5 w)
     ]
 
 -- ---- init
@@ -413,26 +413,26 @@ none_met holding before now DiskFault e h = inl (refl, h)
 none_met holding before now NoMemory e h = inr refl
 none_met holding before now stop e h = absurd h
 
-init_done : (old new : Holding) (leaves : LeavesByName) (before now : ℕ) (families : List FamilyHead) (meant : Status) (text : List ℕ) → TellsNoStore old → (Rose before now → ⊥) → IsInitWork old new leaves before now families meant text → IsDoneOrWant meant
-init_done old new leaves before now families meant text t quiet (inl made) = inl made.status_is
-init_done old new leaves before now families meant text (inl missing) quiet (inr s) = other_want before now s.stop meant s.status_is quiet (none_met old before now s.stop missing s.cause)
-init_done old new leaves before now families meant text (inr found) quiet (inr s) =
+init_done : (old new : Holding) (crash : Crashes) (before now : ℕ) (families : List FamilyHead) (meant : Status) (text : List ℕ) → TellsNoStore old → (Rose before now → ⊥) → IsInitWork old new crash before now families meant text → IsDoneOrWant meant
+init_done old new crash before now families meant text t quiet (inl made) = inl made.status_is
+init_done old new crash before now families meant text (inl missing) quiet (inr s) = other_want before now s.stop meant s.status_is quiet (none_met old before now s.stop missing s.cause)
+init_done old new crash before now families meant text (inr found) quiet (inr s) =
     elim (making_met old found.0 before now s.stop found.1 s.cause) [
       | inl exists ↦ absurd (not_store found.0 exists.1.0 found.2 exists.1.1)
       | inr (inl bad) ↦ absurd (not_bad found.0 bad.0 found.2 bad.2)
       | inr (inr other) ↦ other_want before now s.stop meant s.status_is quiet other
     ]
 
-init_refused : (old new : Holding) (leaves : LeavesByName) (before now : ℕ) (families : List FamilyHead) (meant : Status) (text : List ℕ) (told : Stop) → TellsInitStop old told → IsInitWork old new leaves before now families meant text → IsOpenMeant [] told meant text
-init_refused old new leaves before now families meant text StoreExists t (inl made) = absurd (not_store t.0 t.2.0 (rw t.1 at made.left).0 t.2.1)
-init_refused old new leaves before now families meant text StoreExists t (inr s) =
+init_refused : (old new : Holding) (crash : Crashes) (before now : ℕ) (families : List FamilyHead) (meant : Status) (text : List ℕ) (told : Stop) → TellsInitStop old told → IsInitWork old new crash before now families meant text → IsOpenMeant [] told meant text
+init_refused old new crash before now families meant text StoreExists t (inl made) = absurd (not_store t.0 t.2.0 (rw t.1 at made.left).0 t.2.1)
+init_refused old new crash before now families meant text StoreExists t (inr s) =
     elim (making_met old t.0 before now s.stop t.1 s.cause) [
       | inl exists ↦ inl (s.status_is ∙ ap status_of exists.0, s.text_is ∙ ap (message []) exists.0)
       | inr (inl bad) ↦ absurd (store_not_bad t.0 t.2.0 bad.0 t.2.1 bad.2)
       | inr (inr other) ↦ other_meant [] StoreExists s.stop before now meant text s.status_is other
     ]
-init_refused old new leaves before now families meant text (BadManifest at) t (inl made) = absurd (not_bad t.0 at (rw t.1 at made.left).0 t.2)
-init_refused old new leaves before now families meant text (BadManifest at) t (inr s) =
+init_refused old new crash before now families meant text (BadManifest at) t (inl made) = absurd (not_bad t.0 at (rw t.1 at made.left).0 t.2)
+init_refused old new crash before now families meant text (BadManifest at) t (inr s) =
     elim (making_met old t.0 before now s.stop t.1 s.cause) [
       | inl exists ↦ absurd (store_not_bad t.0 exists.1.0 at exists.1.1 t.2)
       | inr (inl bad) ↦
@@ -440,13 +440,13 @@ init_refused old new leaves before now families meant text (BadManifest at) t (i
           inl (s.status_is ∙ ap status_of same, s.text_is ∙ ap (message []) same)
       | inr (inr other) ↦ other_meant [] (BadManifest at) s.stop before now meant text s.status_is other
     ]
-init_refused old new leaves before now families meant text stop t w = absurd t
+init_refused old new crash before now families meant text stop t w = absurd t
 
 -- ---- a command line
 
-module _ (words : List (List ℕ)) (standing : List ℕ → Standing) (old new : List ℕ → Holding) (leaves : List ℕ → LeavesByName) (before now : ℕ) where
+module _ (words : List (List ℕ)) (standing : List ℕ → Standing) (old new : List ℕ → Holding) (crash : List ℕ → Crashes) (before now : ℕ) where
   abbrev Work : Status → List ℕ → Type 0
-  Work = IsWork words standing old new leaves before now
+  Work = IsWork words standing old new crash before now
 
   work_of_try : (meant : Status) (text path : List ℕ) → IsTry words path → Work meant text → IsFileWork (standing path) before now path meant text
   work_of_try meant text path t (helps h e f) = absurd (help_no_try words path h t)
@@ -454,31 +454,31 @@ module _ (words : List (List ℕ)) (standing : List ℕ → Standing) (old new :
   work_of_try meant text path t (refuses h e f) = absurd (h.no_try path t)
   work_of_try meant text path t (tries file h w) = subst (λ (p : List ℕ). IsFileWork (standing p) before now p meant text) (try_once words file path h t) w
   work_of_try meant text path t (inits folder families h w) = absurd (try_no_init words path folder families t h)
-  work_of_try meant text path t (gives_up h e f) = absurd (init_word_no_try words path h t)
+  work_of_try meant text path t (gives_up h e f u) = absurd (init_word_no_try words path h t)
   work_of_try meant text path t (runs folder file h w) = absurd (try_no_run words path folder file t h)
 
-  work_of_run : (meant : Status) (text path file : List ℕ) → IsRun words path file → Work meant text → IsRunWork (standing file) (old path) (new path) (leaves path) before now file meant text
+  work_of_run : (meant : Status) (text path file : List ℕ) → IsRun words path file → Work meant text → IsRunWork (standing file) (old path) (new path) (crash path) before now file meant text
   work_of_run meant text path file r (helps h e f) = absurd (help_no_run words path file h r)
   work_of_run meant text path file r (tells_version h e f) = absurd (version_no_run words path file h r)
   work_of_run meant text path file r (refuses h e f) = absurd (h.no_run path file r)
   work_of_run meant text path file r (tries other h w) = absurd (try_no_run words other path file h r)
   work_of_run meant text path file r (inits folder families h w) = absurd (init_no_run words folder families path file h r)
-  work_of_run meant text path file r (gives_up h e f) = absurd (init_word_no_run words path file h r)
+  work_of_run meant text path file r (gives_up h e f u) = absurd (init_word_no_run words path file h r)
   work_of_run meant text path file r (runs folder other h w) =
       let same = run_once words folder other path file h r in
-      subst (λ (p : List ℕ). IsRunWork (standing file) (old p) (new p) (leaves p) before now file meant text) same.0
-      (subst (λ (x : List ℕ). IsRunWork (standing x) (old folder) (new folder) (leaves folder) before now x meant text) same.1 w)
+      subst (λ (p : List ℕ). IsRunWork (standing file) (old p) (new p) (crash p) before now file meant text) same.0
+      (subst (λ (x : List ℕ). IsRunWork (standing x) (old folder) (new folder) (crash folder) before now x meant text) same.1 w)
 
-  work_of_init : (meant : Status) (text path : List ℕ) (families : List FamilyHead) → IsInit words path families → Work meant text → IsInitWork (old path) (new path) (leaves path) before now families meant text ⊎ (meant ≡ statuses.NoMemory)
+  work_of_init : (meant : Status) (text path : List ℕ) (families : List FamilyHead) → IsInit words path families → Work meant text → IsInitWork (old path) (new path) (crash path) before now families meant text ⊎ (meant ≡ statuses.NoMemory)
   work_of_init meant text path families i (helps h e f) = absurd (help_no_init words path families h i)
   work_of_init meant text path families i (tells_version h e f) = absurd (version_no_init words path families h i)
   work_of_init meant text path families i (refuses h e f) = absurd (h.no_init path families i)
   work_of_init meant text path families i (tries file h w) = absurd (try_no_init words file path families h i)
   work_of_init meant text path families i (inits folder others h w) =
       let same = init_once words folder path others families h i in
-      inl (subst (λ (p : List ℕ). IsInitWork (old p) (new p) (leaves p) before now families meant text) same.0
-      (subst (λ (x : List FamilyHead). IsInitWork (old folder) (new folder) (leaves folder) before now x meant text) same.1 w))
-  work_of_init meant text path families i (gives_up h e f) = inr e
+      inl (subst (λ (p : List ℕ). IsInitWork (old p) (new p) (crash p) before now families meant text) same.0
+      (subst (λ (x : List FamilyHead). IsInitWork (old folder) (new folder) (crash folder) before now x meant text) same.1 w))
+  work_of_init meant text path families i (gives_up h e f u) = inr e
   work_of_init meant text path families i (runs folder file h w) = absurd (init_no_run words path families folder file i h)
 
   work_of_none : (meant : Status) (text : List ℕ) → IsNoCommand words → Work meant text → ((meant ≡ statuses.Usage) × (text ≡ message [] BadWords)) ⊎ ((meant ≡ statuses.NoMemory) × IsInitWord words)
@@ -487,7 +487,7 @@ module _ (words : List (List ℕ)) (standing : List ℕ → Standing) (old new :
   work_of_none meant text n (refuses h e f) = inl (e, f)
   work_of_none meant text n (tries file h w) = absurd (n.no_try file h)
   work_of_none meant text n (inits folder families h w) = absurd (n.no_init folder families h)
-  work_of_none meant text n (gives_up h e f) = inr (e, h)
+  work_of_none meant text n (gives_up h e f u) = inr (e, h)
   work_of_none meant text n (runs folder file h w) = absurd (n.no_run folder file h)
 
   work_of_help : (meant : Status) (text : List ℕ) → IsHelp words → Work meant text → (meant ≡ statuses.Done) × (text ≡ HELP.now)
@@ -496,7 +496,7 @@ module _ (words : List (List ℕ)) (standing : List ℕ → Standing) (old new :
   work_of_help meant text k (refuses h e f) = absurd (h.no_help k)
   work_of_help meant text k (tries file h w) = absurd (help_no_try words file k h)
   work_of_help meant text k (inits folder families h w) = absurd (help_no_init words folder families k h)
-  work_of_help meant text k (gives_up h e f) = absurd (init_word_no_help words h k)
+  work_of_help meant text k (gives_up h e f u) = absurd (init_word_no_help words h k)
   work_of_help meant text k (runs folder file h w) = absurd (help_no_run words folder file k h)
 
   work_of_version : (meant : Status) (text : List ℕ) → IsVersion words → Work meant text → (meant ≡ statuses.Done) × (text ≡ VERSION.now)
@@ -505,10 +505,10 @@ module _ (words : List (List ℕ)) (standing : List ℕ → Standing) (old new :
   work_of_version meant text k (refuses h e f) = absurd (h.no_version k)
   work_of_version meant text k (tries file h w) = absurd (version_no_try words file k h)
   work_of_version meant text k (inits folder families h w) = absurd (version_no_init words folder families k h)
-  work_of_version meant text k (gives_up h e f) = absurd (init_word_no_version words h k)
+  work_of_version meant text k (gives_up h e f u) = absurd (init_word_no_version words h k)
   work_of_version meant text k (runs folder file h w) = absurd (version_no_run words folder file k h)
 
-  module _ (status : Status) (was is : Option (List ℕ)) (failed : Type 0) (e : IsEnd (IsWork words standing old new leaves before now) status was is failed) where
+  module _ (status : Status) (was is : Option (List ℕ)) (failed : Type 0) (e : IsEnd (IsWork words standing old new crash before now) status was is failed) where
     pub is_complete : IsComplete status words standing (Rose before now) failed
     is_complete path bytes commands t s spelled quiet calm =
         done_or status e.meant e.text was is failed e.printed calm (file_done (standing path) before now path e.meant e.text bytes commands s spelled quiet (work_of_try e.meant e.text path t e.work))
@@ -516,13 +516,13 @@ module _ (words : List (List ℕ)) (standing : List ℕ → Standing) (old new :
     pub is_run_complete : IsRunComplete status words standing old (Rose before now) failed
     is_run_complete path file bytes commands folder m r s spelled holds stands quiet calm =
         done_or status e.meant e.text was is failed e.printed calm
-        (run_done (standing file) (old path) (new path) (leaves path) before now file e.meant e.text bytes commands folder m s spelled holds stands quiet (work_of_run e.meant e.text path file r e.work))
+        (run_done (standing file) (old path) (new path) (crash path) before now file e.meant e.text bytes commands folder m s spelled holds stands quiet (work_of_run e.meant e.text path file r e.work))
 
     pub is_init_complete : IsInitComplete status words old (Rose before now) failed
     is_init_complete path families i t quiet calm =
         done_or status e.meant e.text was is failed e.printed calm
         (elim (work_of_init e.meant e.text path families i e.work) [
-          | inl w ↦ init_done (old path) (new path) (leaves path) before now families e.meant e.text t quiet w
+          | inl w ↦ init_done (old path) (new path) (crash path) before now families e.meant e.text t quiet w
           | inr want ↦ inr want
         ])
 
@@ -542,7 +542,7 @@ module _ (words : List (List ℕ)) (standing : List ℕ → Standing) (old new :
     pub is_stopped : IsStopped status words standing was is
     is_stopped path told (inl t) tells = usage_or path told (file_stopped (standing path) before now path e.meant e.text told tells (work_of_try e.meant e.text path t e.work))
     is_stopped path told (inr r) tells =
-        usage_or path told (run_file_stopped (standing path) (old r.0) (new r.0) (leaves r.0) before now path e.meant e.text told tells (work_of_run e.meant e.text r.0 path r.1 e.work))
+        usage_or path told (run_file_stopped (standing path) (old r.0) (new r.0) (crash r.0) before now path e.meant e.text told tells (work_of_run e.meant e.text r.0 path r.1 e.work))
 
     folder_or : (path : List ℕ) (told : Stop) → IsOpenMeant path told e.meant e.text
         → ((status ≡ statuses.Folder) × Appends was is (message path told)) ⊎ ((status ≡ statuses.DiskFault) ⊎ ((status ≡ statuses.SinkFault) ⊎ ((status ≡ statuses.SourceFault) ⊎ (status ≡ statuses.NoMemory))))
@@ -559,13 +559,13 @@ module _ (words : List (List ℕ)) (standing : List ℕ → Standing) (old new :
 
     pub is_open_refused : IsOpenRefused status words standing old was is
     is_open_refused path file bytes commands told r s spelled tells =
-        folder_or file told (run_refused (standing file) (old path) (new path) (leaves path) before now file e.meant e.text bytes commands told s spelled tells (work_of_run e.meant e.text path file r e.work))
+        folder_or file told (run_refused (standing file) (old path) (new path) (crash path) before now file e.meant e.text bytes commands told s spelled tells (work_of_run e.meant e.text path file r e.work))
 
     pub is_init_refused : IsInitRefused status words old was is
     is_init_refused path families told i tells =
         folder_or [] told
         (elim (work_of_init e.meant e.text path families i e.work) [
-          | inl w ↦ init_refused (old path) (new path) (leaves path) before now families e.meant e.text told tells w
+          | inl w ↦ init_refused (old path) (new path) (crash path) before now families e.meant e.text told tells w
           | inr want ↦ inr (inr (inr want))
         ])
 

@@ -9,7 +9,7 @@ use Rattle.client_lang.specs.declared.command.Command.{Command}
 use Rattle.client_lang.specs.Print.{print_header}
 use Rattle.solo_runner.specs.Expand.{IsRunHistory}
 use Rattle.client_runner.specs.Ends.{IsRunLeft, IsRunStop, Spells}
-use Rattle.client_runner.specs.Left.{LeavesByName, ContinuesFrom}
+use Rattle.client_runner.specs.Left.{LeavesByName, ContinuesFrom, Crashes}
 use Rattle.client_runner.specs.Ready.{IsReadAs}
 use Rattle.client_runner.specs.Runs.{Waits}
 use Rattle.solo_runner.specs.Solo.{AreSoundUnless}
@@ -35,11 +35,11 @@ pub record IsRunFrom (standing : Standing) (old new : Holding) (leaves : LeavesB
   pub run : IsRunAt old new leaves before now commands r
 
 -- the folder isn't opened, or memory ran out
-pub record IsStoppedAt (old new : Holding) (leaves : LeavesByName) (before now : ℕ) (commands : List Command) (stop : Stop) : Type 0 where
+pub record IsStoppedAt (old new : Holding) (crash : Crashes) (before now : ℕ) (commands : List Command) (stop : Stop) : Type 0 where
   pub cause : IsOpenStop old before now stop
-  pub left : IsRunLeft (λ asked. asked ≡ commands) old new leaves stop
+  pub left : IsRunLeft (λ asked. asked ≡ commands) old new crash stop
 
 -- or the file isn't read
-pub record IsStoppedFrom (standing : Standing) (old new : Holding) (leaves : LeavesByName) (before now : ℕ) (stop : Stop) : Type 0 where
+pub record IsStoppedFrom (standing : Standing) (old new : Holding) (crash : Crashes) (before now : ℕ) (stop : Stop) : Type 0 where
   pub cause : IsRunStop standing old before now stop
-  pub left : IsRunLeft (Spells standing) old new leaves stop
+  pub left : IsRunLeft (Spells standing) old new crash stop

@@ -1,10 +1,8 @@
 -- What a command leaves of the files and folders that it doesn't name.
 use Rattle.std.specs.Prelude.{◌≡◌, ◌≢◌, ◌⊎◌, ℕ, ◌≤◌, List}
-use Rattle.udt_disk.specs.Crash.{Image, NoMore}
 use Rattle.udt_disk.specs.Opens.{Standing, StaysBut, without_source}
-use Rattle.udt_disk.specs.OpensFolder.{KeepsFolders, KeepsFoldersBut, LeavesNoMoreBut}
+use Rattle.udt_disk.specs.OpensFolder.{KeepsFolders, KeepsFoldersBut, LeavesNoMore, LeavesNoMoreBut}
 use Rattle.udt_disk.specs.declared.traits.Host.{Ghosts}
-use Rattle.udt_disk.specs.declared.name.FileName.{FileName}
 use Rattle.udt_model.specs.declared.line.FamilyHead.{FamilyHead}
 use Rattle.client_runner.specs.Commands.{IsTry, IsInit, IsRun}
 
@@ -29,9 +27,6 @@ StaysElsewhere file folder old new = (path : List ℕ) → path ≢ file → pat
 abbrev pub FileStaysOrGoes : List ℕ → List ℕ → (List ℕ → Standing) → (List ℕ → Standing) → Type 0
 FileStaysOrGoes file folder old new = file ≢ folder → StaysOrGoes (old file) (new file)
 
-abbrev pub LeavesNoMoreElsewhere : List ℕ → List ℕ → (List ℕ → FileName → Image → Type 0) → (List ℕ → FileName → Image → Type 0) → Type 0
-LeavesNoMoreElsewhere file folder old new = (path : List ℕ) (n : FileName) → path ≢ file → path ≢ folder → NoMore (old path n) (new path n)
-
 -- ---- one folder of a host
 
 module _ {H D F I : Type 0} (h : Ghosts H D F I) where
@@ -49,5 +44,5 @@ module _ {H D F I : Type 0} (h : Ghosts H D F I) where
     pub others : StaysBut path (h.standing old) (h.standing new)
     pub taken : StaysOrGoes (h.standing old path) (h.standing new path)
     pub folders : KeepsFolders (h.folder_at old) (h.folder_at new)
-    pub leaves : LeavesNoMoreBut path (h.leaves_at old) (h.leaves_at new)
+    pub leaves : LeavesNoMore (h.leaves_at old) (h.leaves_at new)
     pub later : h.faults old ≤ h.faults new

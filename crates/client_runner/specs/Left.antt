@@ -1,10 +1,11 @@
 -- What a command finds under the path of a folder, and what it leaves there.
-use Rattle.std.specs.Prelude.{◌≡◌, Bool, true, false, if◌then◌else◌, List, ⊤, Some, None}
+use Rattle.std.specs.Prelude.{◌≡◌, ◌≢◌, ℕ, Bool, true, false, if◌then◌else◌, List, ⊤, Some, None}
 use Rattle.std.specs.List.{list_any}
-use Rattle.udt_disk.specs.Crash.{Image}
+use Rattle.udt_disk.specs.Crash.{Image, NoMore}
 use Rattle.udt_disk.specs.Joint.{Folder}
 use Rattle.udt_disk.specs.OpensFolder.{Holding}
 use Rattle.udt_disk.specs.declared.name.FileName.{FileName}
+use Rattle.udt_disk.specs.declared.name.FileName.TheVariants.{Log}
 use Rattle.udt_model.specs.declared.line.Line.{Line}
 use Rattle.udt_model.specs.declared.line.FamilyHead.{FamilyHead}
 use Rattle.udt_model.specs.declared.reply.Reply.{Reply}
@@ -15,13 +16,25 @@ use Rattle.udt_model.specs.Crashes.{IsOutcome, course_start, course_behind, sett
 use Rattle.manifest.specs.Folders.{Means}
 use Rattle.manifest.specs.Folders.Meaning.{no_store}
 use Rattle.recovery.specs.Stores.{FolderStands}
-use Rattle.recovery.specs.Making.{new_state}
+use Rattle.recovery.specs.Making.{new_state, IsMakingName}
 use Rattle.client_runner.specs.declared.status.Status.{Status}
 use Rattle.client_runner.specs.declared.status.Status.TheVariants as statuses
 
 -- what a crash may leave under the names of a folder
 abbrev pub LeavesByName : Type 1
 LeavesByName = FileName → Image → Type 0
+
+-- what a crash might have left of a folder before a command, and what it may leave now
+pub record Crashes : Type 1 where
+  pub was : LeavesByName
+  pub now : LeavesByName
+
+abbrev pub crashes : LeavesByName → LeavesByName → Crashes
+crashes was now = record { was = was; now = now }
+
+-- the same of each folder of a host
+abbrev pub crashes_at : (List ℕ → LeavesByName) → (List ℕ → LeavesByName) → List ℕ → Crashes
+crashes_at was now path = crashes (was path) (now path)
 
 -- a crash may leave this folder
 abbrev pub MayBeLeft : LeavesByName → Folder → Type 0
@@ -48,11 +61,16 @@ pub record IsAsItWas (folder : Folder) (new : Holding) (leaves : LeavesByName) :
   pub same : (n : FileName) → stands n ≡ folder n
   pub crash : (n : FileName) (c : Image) → leaves n c → c ≡ folder n
 
+-- the folder wasn't opened: what stands there stays, and a crash leaves no more of it
+pub record IsUnopened (old new : Holding) (crash : Crashes) : Type 0 where
+  pub stands : new ≡ old
+  pub no_more : (n : FileName) → NoMore (crash.was n) (crash.now n)
+
 -- where it is told what stands there, it is as it was
-abbrev pub StaysAsItWas : Holding → Holding → LeavesByName → Type 0
-StaysAsItWas None new leaves = ⊤
-StaysAsItWas (Some None) new leaves = new ≡ Some None
-StaysAsItWas (Some (Some folder)) new leaves = IsAsItWas folder new leaves
+abbrev pub StaysAsItWas : Holding → Holding → Crashes → Type 0
+StaysAsItWas None new crash = ⊤
+StaysAsItWas (Some None) new crash = IsUnopened (Some None) new crash
+StaysAsItWas (Some (Some folder)) new crash = IsAsItWas folder new crash.now
 
 -- ---- what a run leaves
 
@@ -75,13 +93,16 @@ pub record IsLeft (m : State) (lines : List Line) (end : Point) (stands : Folder
   pub whole : status_of_lines lines ≡ statuses.Done → FolderStands stands (settled end.state)
   pub whole_crash : status_of_lines lines ≡ statuses.Done → (folder : Folder) → MayBeLeft leaves folder → FolderStands folder (settled end.state)
 
--- the same of the folder under a path, which stood for m and nothing else
+-- The same of the folder under a path, which stood for m and nothing else. Every file but the live log stands as before, and so a
+-- crash leaves it.
 pub record IsContinued (m : State) (lines : List Line) (end : Point) (folder : Folder) (new : Holding) (leaves : LeavesByName) : Type 0 where
   pub opened : FolderStands folder m
   pub only : (n : State) → FolderStands folder n → n ≡ m
   pub stands : Folder
   pub new_is : new ≡ Some (Some stands)
   pub left : IsLeft m lines end stands leaves
+  pub others : (n : FileName) → n ≢ Log opened.number → stands n ≡ folder n
+  pub others_crash : (n : FileName) (c : Image) → n ≢ Log opened.number → leaves n c → c ≡ folder n
 
 -- where it is told what stands there
 abbrev pub ContinuesFrom : Holding → Holding → LeavesByName → State → List Line → Point → Type 0
@@ -91,26 +112,33 @@ ContinuesFrom (Some (Some folder)) new leaves m lines end = IsContinued m lines 
 
 -- ---- what making a store leaves
 
--- the folder has P, and so does each that a crash may leave
-pub record IsMadeSo (P : Folder → Type 0) (new : Holding) (leaves : LeavesByName) : Type 0 where
+-- The folder has P, and so does each that a crash may leave. Names that belong to no new store stand as before, and so a crash
+-- leaves them.
+pub record IsMadeSo (P : Folder → Type 0) (before : Folder) (new : Holding) (leaves : LeavesByName) : Type 0 where
   pub stands : Folder
   pub new_is : new ≡ Some (Some stands)
   pub has : P stands
   pub crash : (folder : Folder) → MayBeLeft leaves folder → P folder
+  pub others : (n : FileName) → ¬ IsMakingName n → stands n ≡ before n
+  pub others_crash : (n : FileName) (c : Image) → ¬ IsMakingName n → leaves n c → c ≡ before n
+
+-- a folder without files
+abbrev pub no_files : Folder
+no_files name = None
 
 -- there was no store, and the folder is one of these families in which nothing was written
 abbrev pub IsMadeAt : Holding → Holding → LeavesByName → List FamilyHead → Type 0
 IsMadeAt None new leaves families = ⊤
-IsMadeAt (Some None) new leaves families = IsMadeSo (λ folder. FolderStands folder (new_state families)) new leaves
-IsMadeAt (Some (Some before)) new leaves families = Means before no_store × IsMadeSo (λ folder. FolderStands folder (new_state families)) new leaves
+IsMadeAt (Some None) new leaves families = IsMadeSo (λ folder. FolderStands folder (new_state families)) no_files new leaves
+IsMadeAt (Some (Some before)) new leaves families = Means before no_store × IsMadeSo (λ folder. FolderStands folder (new_state families)) before new leaves
 
 -- it wasn't made: where there was no store the folder has P, as each that a crash may leave; else it is as it was
 pub record IsUnmadeIn (P : Folder → Type 0) (before : Folder) (new : Holding) (leaves : LeavesByName) : Type 0 where
-  pub none : Means before no_store → IsMadeSo P new leaves
+  pub none : Means before no_store → IsMadeSo P before new leaves
   pub some : ¬ Means before no_store → IsAsItWas before new leaves
 
 -- where it is told what stands there
 abbrev pub IsUnmadeAt : (Folder → Type 0) → Holding → Holding → LeavesByName → Type 0
 IsUnmadeAt P None new leaves = ⊤
-IsUnmadeAt P (Some None) new leaves = IsMadeSo P new leaves
+IsUnmadeAt P (Some None) new leaves = IsMadeSo P no_files new leaves
 IsUnmadeAt P (Some (Some before)) new leaves = IsUnmadeIn P before new leaves

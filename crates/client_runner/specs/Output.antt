@@ -11,8 +11,8 @@ use Rattle.client_runner.specs.declared.output.TheConstants.{CHUNK}
 abbrev pub HasRoomFor : Vec ℕ Global → Line → Type 0
 HasRoomFor buffer line = CHUNK + length (print_line line) ≤ vec_capacity buffer
 
-abbrev pub HasRoom : Vec ℕ Global → List Line → Type 0
-HasRoom buffer lines = All (HasRoomFor buffer) lines
+abbrev pub HasRoomForLines : Vec ℕ Global → List Line → Type 0
+HasRoomForLines buffer lines = All (HasRoomFor buffer) lines
 
 -- What was in the buffer, and the text, went to the sink or stands in the buffer, in order. The buffer keeps its room.
 pub record Passes (taken_old taken_new : Option (List ℕ)) (old new : Vec ℕ Global) (text : List ℕ) : Type 0 where

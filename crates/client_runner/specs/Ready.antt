@@ -7,12 +7,12 @@ use Rattle.solo_runner.specs.Expand.{IsSoloHistory}
 use Rattle.client_lang.specs.declared.grammar.lines.ReadFault.{ReadFault}
 use Rattle.client_lang.specs.declared.grammar.lines.ReadFault.TheVariants as faults
 use Rattle.client_lang.specs.Faults.{Refuses}
-use Rattle.client_runner.specs.Output.{HasRoom}
+use Rattle.client_runner.specs.Output.{HasRoomForLines}
 use Rattle.client_lang.specs.Grammar.{IsFile}
 use Rattle.client_lang.specs.declared.grammar.lines.TheConstants.{COMMAND_LIMIT}
 use Rattle.client_lang.specs.Print.{IsBuiltCommand, IsBuiltLine, print_header, print_lines}
 use Rattle.client_lang.specs.Stamps.{IsStampedCommand}
-use Rattle.client_runner.specs.Stops.{message, status_of}
+use Rattle.client_runner.specs.Stops.{TakesMemory, message, status_of}
 use Rattle.solo_runner.specs.Transcripts.{IsTranscript, fresh}
 use Rattle.client_runner.specs.declared.output.Ready.{Ready}
 use Rattle.client_runner.specs.declared.status.Status.{Status}
@@ -40,13 +40,13 @@ pub record IsTranscribed (commands : List Command) (r : Ready) : Type 0 where
   pub sound : All IsSound r.lines.items
   pub header : r.buffer.items ≡ print_header 0 (heads_of fresh)
   pub built : All IsBuiltLine r.lines.items
-  pub room : HasRoom r.buffer r.lines.items
+  pub room : HasRoomForLines r.buffer r.lines.items
 
 -- the text is the transcript of these bytes, and the buffer has the room to write it
 pub record IsReady (bytes : List ℕ) (r : Ready) : Type 0 where
   pub transcript : IsTranscript bytes (text_of r)
   pub built : All IsBuiltLine r.lines.items
-  pub room : HasRoom r.buffer r.lines.items
+  pub room : HasRoomForLines r.buffer r.lines.items
 
 -- the same for the file that stands there
 pub record IsTried (standing : Standing) (r : Ready) : Type 0 where
@@ -69,7 +69,7 @@ IsReadyStop bytes (BadLine n) = Refuses bytes (faults.BadLine n)
 IsReadyStop bytes NoMemory = Unit {0}
 IsReadyStop bytes stop = ⊥
 
--- the status and the message of a stop, or of want of memory in its place
+-- the status and the message of a stop, or where that takes memory, of want of memory in its place
 abbrev pub IsMessage : List ℕ → Stop → Status → List ℕ → Type 0
 IsMessage path stop status text =
-    ((status ≡ status_of stop) × (text ≡ message path stop)) ⊎ ((status ≡ status_of NoMemory) × (text ≡ message path NoMemory))
+    ((status ≡ status_of stop) × (text ≡ message path stop)) ⊎ (TakesMemory stop × (status ≡ status_of NoMemory) × (text ≡ message path NoMemory))

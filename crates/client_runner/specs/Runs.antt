@@ -1,10 +1,11 @@
 -- Runs over a store, and over a folder.
-use Rattle.std.specs.Prelude.{◌≡◌, ◌⊎◌, ℕ, ◌-◌, ◌^◌, ◌<◌, ◌≤◌, List, [], ◌∷◌, All, IsTrue, IfOk, Result, None, Vec, length, vec_capacity}
+use Rattle.std.specs.Prelude.{◌≡◌, ◌≢◌, ◌⊎◌, ℕ, ◌-◌, ◌^◌, ◌<◌, ◌≤◌, List, [], ◌∷◌, All, IsTrue, IfOk, Result, None, Vec, length, vec_capacity}
 use Rattle.std.specs.declared.alloc.Global.{Global}
 use Rattle.client_lang.specs.Stamps.{IsStampedCommand}
 use Rattle.udt_disk.specs.Causes.{Rose}
 use Rattle.udt_disk.specs.Crash.{Image}
 use Rattle.udt_disk.specs.declared.name.FileName.{FileName}
+use Rattle.udt_disk.specs.declared.name.FileName.TheVariants.{Log}
 use Rattle.udt_disk.specs.declared.file.DiskFile as file
 use Rattle.udt_disk.specs.declared.disk.Disk as disk
 use Rattle.udt_model.specs.declared.line.Line.{Line}
@@ -17,7 +18,7 @@ use Rattle.client_runner.specs.Left.{IsLeft}
 use Rattle.udt_disk.specs.Moments.{IsClean}
 use Rattle.recovery.specs.Opening.{IsOpened}
 use Rattle.recovery.specs.Fault.{RefusesOpening}
-use Rattle.client_runner.specs.Output.{HasRoom}
+use Rattle.client_runner.specs.Output.{HasRoomForLines}
 use Rattle.manifest.specs.Manifest.{manifest_file}
 use Rattle.udt_disk.specs.Moments.{OnlyReads, alone, holding}
 use Rattle.wal.specs.Wals.{wal_file}
@@ -45,7 +46,7 @@ pub record Waits (header : List ℕ) (lines : List Line) (r : Ready) : Type 0 wh
   pub header_is : r.buffer.items ≡ header
   pub lines_are : r.lines.items ≡ lines
   pub built : All IsBuiltLine r.lines.items
-  pub room : HasRoom r.buffer r.lines.items
+  pub room : HasRoomForLines r.buffer r.lines.items
 
 module _ {F : Type 0} (g : file.Ghosts F) where
   -- The commands and the runner's sync were made over a store. Where there was memory, their lines wait behind the header.
@@ -73,10 +74,13 @@ abbrev pub files_of : {D F : Type 0} {f : file.Ghosts F} → Parts D F f → Lis
 files_of parts = wal_file parts.wal ∷ manifest_file parts.manifest ∷ []
 
 module _ {D F : Type 0} (d : disk.Ghosts D F) where
-  -- A folder that was just opened, and told what stood there, stood for the state m and keeps these lines.
+  -- A folder that was just opened, and told what stood there, stood for the state m and keeps these lines. Every file but the live
+  -- log stands as before, and so a crash leaves it.
   pub record KeepsLines (old new : D) (m : State) (lines : List Line) (end : Point) : Type 0 where
     pub opened : FolderStands (d.stands old) m
     pub left : IsLeft m lines end (d.stands new) (d.may_leave new)
+    pub others : (n : FileName) → n ≢ Log opened.number → d.stands new n ≡ d.stands old n
+    pub others_crash : (n : FileName) (c : Image) → n ≢ Log opened.number → d.may_leave new n c → c ≡ d.stands old n
 
   -- The transcript of the commands waits, from a state that the folder stood for, and the folder keeps its lines.
   pub record IsRunReady (old new : D) (commands : List Command) (r : Ready) : Type 0 where

@@ -60,6 +60,15 @@ status_of TooLong = statuses.Usage
 status_of (TooMany n) = statuses.Usage
 status_of (BadLine n) = statuses.Usage
 
+-- its line is put together, which takes memory
+abbrev pub TakesMemory : Stop → Type 0
+TakesMemory BadWords = ⊥
+TakesMemory SourceFault = ⊥
+TakesMemory StoreExists = ⊥
+TakesMemory NoStore = ⊥
+TakesMemory DiskFault = ⊥
+TakesMemory stop = ⊤
+
 -- the line that is printed for it, with the path of the file
 abbrev pub message : List ℕ → Stop → List ℕ
 message path BadWords = line_of (codes "bad words" ∷ [])

@@ -5,7 +5,7 @@ ghost use Rattle.udt_disk.specs.OpensFolder.{KeepsFoldersBut, LeavesNoMoreBut};
 ghost use Rattle.manifest.specs.Heads.{AreNew};
 ghost use Rattle.client_runner.specs.Hosts.{UsesFolder};
 ghost use Rattle.client_runner.specs.Inits.{stop_of_making, IsInitLeft};
-ghost use Rattle.client_runner.specs.Left.{IsMadeAt};
+ghost use Rattle.client_runner.specs.Left.{IsMadeAt, crashes};
 ghost use Rattle.client_runner.specs.Stops.{IsInitStop};
 
 use crate::status::Stop;
@@ -35,7 +35,7 @@ pub fn init_folder<H: Host>(
     requires { AreNew head.now.families }
     ensures made { OnOk result (IsMadeAt (H.folder_at host.old path.now) (H.folder_at host.new path.now) (H.leaves_at host.new path.now) head.now.families) }
     ensures stopped { IfErr result (IsInitStop (H.folder_at host.old path.now) (H.faults host.old) (H.faults host.new)) }
-    ensures unmade { IfErr result (IsInitLeft (H.folder_at host.old path.now) (H.folder_at host.new path.now) (H.leaves_at host.new path.now) (H.faults host.old) (H.faults host.new) head.now.families) }
+    ensures unmade { IfErr result (IsInitLeft (H.folder_at host.old path.now) (H.folder_at host.new path.now) (crashes (H.leaves_at host.old path.now) (H.leaves_at host.new path.now)) head.now.families) }
     ensures uses { UsesFolder H.Host path.now host.old host.new }
 {
     let Ok(opened) = host.open_folder(path, true) else {

@@ -3,7 +3,7 @@ ghost use Rattle.std.specs.Prelude.{◌≡◌, ◌≤◌, ◌++◌, All, length,
 ghost use Rattle.std.specs.Io.KnownBytes.{Appends};
 ghost use Rattle.udt_disk.specs.Causes.{Rose};
 ghost use Rattle.client_runner.specs.Flows.{AppendsFront};
-ghost use Rattle.client_runner.specs.Output.{HasRoom, HasRoomFor, Passes, Flushes};
+ghost use Rattle.client_runner.specs.Output.{HasRoomForLines, HasRoomFor, Passes, Flushes};
 ghost use Rattle.client_lang.specs.Print.{IsBuiltLine, print_line as line_text, print_lines as lines_text, print_header as header_text};
 
 use crate::flow::write_whole;
@@ -52,7 +52,7 @@ pub fn ready_of(alloc: Global, mut buffer: Vec<u8>, lines: Vec<Line>) -> Result<
     requires { All IsBuiltLine lines.items }
     ensures header { IfOk result (λ ready. ready.buffer.items ≡ buffer.items) }
     ensures lines { IfOk result (λ ready. ready.lines.items ≡ lines.items) }
-    ensures room { IfOk result (λ ready. HasRoom ready.buffer lines.items) }
+    ensures room { IfOk result (λ ready. HasRoomForLines ready.buffer lines.items) }
 {
     let Some(room) = longest_line(alloc, &lines)?.checked_add(CHUNK) else {
         return Err(AllocError);
@@ -93,7 +93,7 @@ fn write_line<K: Sink>(out: &mut K, buffer: &mut Vec<u8>, line: &Line) -> Result
 /// Writes what the buffer holds, and the lines behind it. Where the sink fails, it has taken a front of that.
 pub fn write_lines<K: Sink>(out: &mut K, buffer: &mut Vec<u8>, lines: &[Line]) -> Result<(), Failed>
     requires built { All IsBuiltLine lines.now }
-    requires room { HasRoom buffer.old lines.now }
+    requires room { HasRoomForLines buffer.old lines.now }
     ensures ok { OnOk result (Appends (K.taken out.old) (K.taken out.new) (buffer.old.items ++ lines_text lines.now)) }
     ensures front { OnErr result (AppendsFront (K.taken out.old) (K.taken out.new) (buffer.old.items ++ lines_text lines.now)) }
     ensures failed { OnErr result (Rose (K.faults out.old) (K.faults out.new)) }

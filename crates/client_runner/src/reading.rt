@@ -1,7 +1,7 @@
 //! The commands of a file under a path.
 ghost use Rattle.std.specs.Prelude.{◌≡◌, ◌≤◌, Some, IfOk, IfErr};
 ghost use Rattle.udt_disk.specs.Opens.{IsStanding, StaysBut};
-ghost use Rattle.udt_disk.specs.OpensFolder.{KeepsFolders, LeavesNoMoreBut};
+ghost use Rattle.udt_disk.specs.OpensFolder.{KeepsFolders, LeavesNoMore};
 ghost use Rattle.client_runner.specs.Hosts.{UsesFile, StaysOrGoes};
 ghost use Rattle.client_runner.specs.Ready.{IsReadAs, stop_of_read};
 ghost use Rattle.client_runner.specs.Stops.{IsFileStop};

@@ -10,9 +10,9 @@ ghost use Rattle.udt_disk.specs.declared.name.FileName.{FileName as NameOf};
 ghost use Rattle.wal.specs.Wals.{wal_file, wal_sizes, wal_pending, MayGoOn};
 ghost use Rattle.client_lang.specs.Print.{IsBuiltCommand};
 ghost use Rattle.client_lang.specs.Stamps.{IsStampedCommand};
-ghost use Rattle.client_runner.specs.Hosts.{UsesFolder, StaysElsewhere, FileStaysOrGoes, LeavesNoMoreElsewhere};
+ghost use Rattle.client_runner.specs.Hosts.{UsesFolder, StaysElsewhere, FileStaysOrGoes};
 ghost use Rattle.client_runner.specs.HostRuns.{IsRunAt, IsRunFrom, IsStoppedAt, IsStoppedFrom};
-ghost use Rattle.client_runner.specs.Left.{status_of_lines as status_of_list, tells_fault as reply_tells};
+ghost use Rattle.client_runner.specs.Left.{crashes, status_of_lines as status_of_list, tells_fault as reply_tells};
 ghost use Rattle.solo_runner.specs.LoggedStores.{IsInStep, state_of, wal_of};
 ghost use Rattle.client_runner.specs.Runs.{CanRun, HasRunOver, HasRunParts, IsRunReady, IsRunRefused, stop_of_opening};
 
@@ -176,7 +176,7 @@ fn run_folder<H: Host>(
 ) -> Result<Ready, Stop>
     requires can_run { CanRun commands.items lines }
     ensures ready { IfOk result (IsRunAt (H.folder_at host.old path.now) (H.folder_at host.new path.now) (H.leaves_at host.new path.now) (H.faults host.old) (H.faults host.new) commands.items) }
-    ensures stopped { IfErr result (IsStoppedAt (H.folder_at host.old path.now) (H.folder_at host.new path.now) (H.leaves_at host.new path.now) (H.faults host.old) (H.faults host.new) commands.items) }
+    ensures stopped { IfErr result (IsStoppedAt (H.folder_at host.old path.now) (H.folder_at host.new path.now) (crashes (H.leaves_at host.old path.now) (H.leaves_at host.new path.now)) (H.faults host.old) (H.faults host.new) commands.items) }
     ensures uses { UsesFolder H.Host path.now host.old host.new }
 {
     let Ok(opened) = host.open_folder(path, false) else {
@@ -199,11 +199,11 @@ pub fn run_path<H: Host>(
     host: &mut H,
 ) -> Result<Ready, Stop>
     ensures ready { IfOk result (IsRunFrom (H.standing host.old file.now) (H.folder_at host.old folder.now) (H.folder_at host.new folder.now) (H.leaves_at host.new folder.now) (H.faults host.old) (H.faults host.new)) }
-    ensures stopped { IfErr result (IsStoppedFrom (H.standing host.old file.now) (H.folder_at host.old folder.now) (H.folder_at host.new folder.now) (H.leaves_at host.new folder.now) (H.faults host.old) (H.faults host.new)) }
+    ensures stopped { IfErr result (IsStoppedFrom (H.standing host.old file.now) (H.folder_at host.old folder.now) (H.folder_at host.new folder.now) (crashes (H.leaves_at host.old folder.now) (H.leaves_at host.new folder.now)) (H.faults host.old) (H.faults host.new)) }
     ensures others { StaysElsewhere file.now folder.now (H.standing host.old) (H.standing host.new) }
     ensures taken { FileStaysOrGoes file.now folder.now (H.standing host.old) (H.standing host.new) }
     ensures folders { KeepsFoldersBut folder.now (H.folder_at host.old) (H.folder_at host.new) }
-    ensures leaves { LeavesNoMoreElsewhere file.now folder.now (H.leaves_at host.old) (H.leaves_at host.new) }
+    ensures leaves { LeavesNoMoreBut folder.now (H.leaves_at host.old) (H.leaves_at host.new) }
     ensures later { H.faults host.old ≤ H.faults host.new }
 {
     let commands = read_commands(alloc, file, host)?;

@@ -1,18 +1,19 @@
 //! The top call.
-ghost use Rattle.std.specs.Prelude.{◌≡◌, ℕ, List, ◌-◌, ◌^◌, ◌<◌, ◌≤◌, ◌++◌, [], All, length, IfOk, IfErr, OnOk};
+ghost use Rattle.std.specs.Prelude.{◌≡◌, ℕ, List, ◌-◌, ◌^◌, ◌<◌, ◌≤◌, ◌++◌, [], All, length, IfOk, IfErr, IfNone, IfSome, OnOk};
 ghost use Rattle.udt_disk.specs.Causes.{Rose};
 ghost use Rattle.udt_disk.specs.Crash.{NoMore};
 ghost use Rattle.udt_disk.specs.Opens.{StaysBut};
-ghost use Rattle.udt_disk.specs.OpensFolder.{KeepsFolders, KeepsFoldersBut, LeavesNoMoreBut};
+ghost use Rattle.udt_disk.specs.OpensFolder.{KeepsFolders, KeepsFoldersBut, LeavesNoMore, LeavesNoMoreBut};
 ghost use Rattle.udt_disk.specs.declared.name.FileName.{FileName as NameOf};
 ghost use Rattle.manifest.specs.Heads.{AreNew};
 ghost use Rattle.client_lang.specs.Print.{IsBuiltCommand, IsBuiltLine};
 ghost use Rattle.client_lang.specs.Stamps.{IsStampedCommand};
 ghost use Rattle.client_runner.specs.Ends.{IsAnswered, IsComplete, IsEnd, IsFileWork, IsInitComplete, IsInitRefused, IsInitWork, IsOpenRefused, IsPrinted, IsRefused, IsRunComplete, IsRunWork, IsStopped, IsWork};
-ghost use Rattle.client_runner.specs.Hosts.{UsesFile, UsesFolder, IsFileOf, IsFolderOf, StaysElsewhere, FileStaysOrGoes, LeavesNoMoreElsewhere, StaysOrGoes};
-ghost use Rattle.client_runner.specs.Output.{HasRoom};
+ghost use Rattle.client_runner.specs.Hosts.{UsesFile, UsesFolder, IsFileOf, IsFolderOf, StaysElsewhere, FileStaysOrGoes, StaysOrGoes};
+ghost use Rattle.client_runner.specs.Left.{crashes, crashes_at};
+ghost use Rattle.client_runner.specs.Output.{HasRoomForLines};
 ghost use Rattle.client_runner.specs.Ready.{IsMessage, IsTranscribed, IsTried, text_of};
-ghost use Rattle.client_runner.specs.Stops.{IsFileStop, message, status_of as status_of_stop};
+ghost use Rattle.client_runner.specs.Stops.{IsFileStop, TakesMemory, message, status_of as status_of_stop};
 
 use crate::flow::write_whole;
 use crate::init::init_folder;
@@ -73,12 +74,33 @@ fn status_of(stop: Stop) -> Status
     }
 }
 
+/// The line that is printed for a stop, where it is a fixed one.
+fn fixed_line(stop: Stop) -> Option<&'static [u8]>
+    ensures line { IfSome result (λ line. (path : List ℕ) → line.now ≡ message path stop) }
+    ensures none { IfNone result (TakesMemory stop) }
+{
+    match stop {
+        Stop::BadWords => Some(b"bad words\n"),
+        Stop::SourceFault => Some(b"source fault\n"),
+        Stop::StoreExists => Some(b"store exists\n"),
+        Stop::NoStore => Some(b"no store\n"),
+        Stop::DiskFault => Some(b"disk fault\n"),
+        Stop::NoFile
+        | Stop::TooLong
+        | Stop::TooMany { .. }
+        | Stop::BadLine { .. }
+        | Stop::BadManifest { .. }
+        | Stop::BadLog { .. }
+        | Stop::NoMemory => None,
+    }
+}
+
 /// Adds the line that is printed for a stop at the file of this path.
 fn push_message(text: &mut Vec<u8>, path: &[u8], stop: Stop) -> Result<(), NoMemory>
+    requires { TakesMemory stop }
     ensures { OnOk result (text.new.items ≡ text.old.items ++ message path.now stop) }
 {
     match stop {
-        Stop::BadWords => push_line(text, &[Word::Text(b"bad words")]),
         Stop::NoFile => push_line(text, &[Word::Text(b"no file"), Word::Text(path)]),
         Stop::TooLong => push_line(text, &[Word::Text(b"too long"), Word::Text(path)]),
         Stop::TooMany { line } => push_line(
@@ -97,9 +119,6 @@ fn push_message(text: &mut Vec<u8>, path: &[u8], stop: Stop) -> Result<(), NoMem
                 Word::Number(line),
             ],
         ),
-        Stop::SourceFault => push_line(text, &[Word::Text(b"source fault")]),
-        Stop::StoreExists => push_line(text, &[Word::Text(b"store exists")]),
-        Stop::NoStore => push_line(text, &[Word::Text(b"no store")]),
         Stop::BadManifest { at } => {
             push_line(text, &[Word::Text(b"bad manifest"), Word::Number(at)])
         }
@@ -111,8 +130,9 @@ fn push_message(text: &mut Vec<u8>, path: &[u8], stop: Stop) -> Result<(), NoMem
                 Word::Number(at),
             ],
         ),
-        Stop::DiskFault => push_line(text, &[Word::Text(b"disk fault")]),
         Stop::NoMemory => Ok(()),
+        Stop::BadWords | Stop::SourceFault | Stop::StoreExists | Stop::NoStore | Stop::DiskFault =>
+            unreachable!(),
     }
 }
 
@@ -133,10 +153,13 @@ pub fn refuse_words<K: Sink>(out: &mut K) -> Status
     say(out, b"bad words\n", Status::Usage)
 }
 
-/// Writes the line of a stop; where there is no memory for it, nothing.
+/// Writes the line of a stop. One that isn't fixed takes memory; where there is none, nothing is written.
 fn say_stop<K: Sink>(alloc: Global, out: &mut K, path: &[u8], stop: Stop) -> Status
     ensures { IsEnd (IsMessage path.now stop) result (K.taken out.old) (K.taken out.new) (Rose (K.faults out.old) (K.faults out.new)) }
 {
+    if let Some(line) = fixed_line(stop) {
+        return say(out, line, status_of(stop));
+    }
     let mut text = Vec::new(alloc);
     match push_message(&mut text, path, stop) {
         Ok(()) => say(out, &text, status_of(stop)),
@@ -147,7 +170,7 @@ fn say_stop<K: Sink>(alloc: Global, out: &mut K, path: &[u8], stop: Stop) -> Sta
 /// Writes a transcript, and answers the status, or that the sink failed.
 fn say_ready<K: Sink>(out: &mut K, mut ready: Ready, status: Status) -> Status
     requires built { All IsBuiltLine ready.lines.items }
-    requires room { HasRoom ready.buffer ready.lines.items }
+    requires room { HasRoomForLines ready.buffer ready.lines.items }
     ensures { IsPrinted result status (text_of ready) (K.taken out.old) (K.taken out.new) (Rose (K.faults out.old) (K.faults out.new)) }
 {
     match write_lines(out, &mut ready.buffer, &ready.lines) {
@@ -177,7 +200,7 @@ fn init<H: Host, K: Sink>(
     out: &mut K,
 ) -> Status
     requires { AreNew head.now.families }
-    ensures ends { IsEnd (IsInitWork (H.folder_at host.old path.now) (H.folder_at host.new path.now) (H.leaves_at host.new path.now) (H.faults host.old) (H.faults host.new) head.now.families)
+    ensures ends { IsEnd (IsInitWork (H.folder_at host.old path.now) (H.folder_at host.new path.now) (crashes (H.leaves_at host.old path.now) (H.leaves_at host.new path.now)) (H.faults host.old) (H.faults host.new) head.now.families)
         result (K.taken out.old) (K.taken out.new) (Rose (K.faults out.old) (K.faults out.new)) }
     ensures uses { UsesFolder H.Host path.now host.old host.new }
 {
@@ -203,12 +226,12 @@ fn run_file<H: Host, K: Sink>(
     host: &mut H,
     out: &mut K,
 ) -> Status
-    ensures ends { IsEnd (IsRunWork (H.standing host.old file.now) (H.folder_at host.old folder.now) (H.folder_at host.new folder.now) (H.leaves_at host.new folder.now) (H.faults host.old) (H.faults host.new) file.now)
+    ensures ends { IsEnd (IsRunWork (H.standing host.old file.now) (H.folder_at host.old folder.now) (H.folder_at host.new folder.now) (crashes (H.leaves_at host.old folder.now) (H.leaves_at host.new folder.now)) (H.faults host.old) (H.faults host.new) file.now)
         result (K.taken out.old) (K.taken out.new) (Rose (K.faults out.old) (K.faults out.new)) }
     ensures others { StaysElsewhere file.now folder.now (H.standing host.old) (H.standing host.new) }
     ensures taken { FileStaysOrGoes file.now folder.now (H.standing host.old) (H.standing host.new) }
     ensures folders { KeepsFoldersBut folder.now (H.folder_at host.old) (H.folder_at host.new) }
-    ensures leaves { LeavesNoMoreElsewhere file.now folder.now (H.leaves_at host.old) (H.leaves_at host.new) }
+    ensures leaves { LeavesNoMoreBut folder.now (H.leaves_at host.old) (H.leaves_at host.new) }
     ensures later { H.faults host.old ≤ H.faults host.new }
 {
     match run_path(alloc, folder, file, host) {
@@ -221,12 +244,12 @@ fn run_file<H: Host, K: Sink>(
 }
 
 fn plain<H: Host, K: Sink>(alloc: Global, words: &[Text], host: &mut H, out: &mut K) -> Status
-    ensures ends { IsEnd (IsWork words.now (H.standing host.old) (H.folder_at host.old) (H.folder_at host.new) (H.leaves_at host.new) (H.faults host.old) (H.faults host.new))
+    ensures ends { IsEnd (IsWork words.now (H.standing host.old) (H.folder_at host.old) (H.folder_at host.new) (crashes_at (H.leaves_at host.old) (H.leaves_at host.new)) (H.faults host.old) (H.faults host.new))
         result (K.taken out.old) (K.taken out.new) (Rose (K.faults out.old) (K.faults out.new)) }
     ensures others { (path : List ℕ) → ¬ IsFileOf words.now path → ¬ IsFolderOf words.now path → H.standing host.new path ≡ H.standing host.old path }
     ensures taken { (path : List ℕ) → IsFileOf words.now path → ¬ IsFolderOf words.now path → StaysOrGoes (H.standing host.old path) (H.standing host.new path) }
     ensures folders { (path : List ℕ) → ¬ IsFolderOf words.now path → H.folder_at host.new path ≡ H.folder_at host.old path }
-    ensures leaves { (path : List ℕ) (n : NameOf) → ¬ IsFileOf words.now path → ¬ IsFolderOf words.now path → NoMore (H.leaves_at host.old path n) (H.leaves_at host.new path n) }
+    ensures leaves { (path : List ℕ) (n : NameOf) → ¬ IsFolderOf words.now path → NoMore (H.leaves_at host.old path n) (H.leaves_at host.new path n) }
     ensures later { H.faults host.old ≤ H.faults host.new }
 {
     let Ok(command) = command_of(alloc, words) else {
@@ -260,7 +283,7 @@ pub fn store_plain<H: Host, K: Sink>(
     out: &mut K,
 ) -> Status
     // What the status says has its cause, the sink took what belongs to it, and the folder keeps it.
-    ensures ends { IsEnd (IsWork words.now (H.standing host.old) (H.folder_at host.old) (H.folder_at host.new) (H.leaves_at host.new) (H.faults host.old) (H.faults host.new))
+    ensures ends { IsEnd (IsWork words.now (H.standing host.old) (H.folder_at host.old) (H.folder_at host.new) (crashes_at (H.leaves_at host.old) (H.leaves_at host.new)) (H.faults host.old) (H.faults host.new))
         result (K.taken out.old) (K.taken out.new) (Rose (K.faults out.old) (K.faults out.new)) }
 
     // A command is done, where nothing fails and there is memory.
@@ -282,7 +305,7 @@ pub fn store_plain<H: Host, K: Sink>(
     ensures others { (path : List ℕ) → ¬ IsFileOf words.now path → ¬ IsFolderOf words.now path → H.standing host.new path ≡ H.standing host.old path }
     ensures taken { (path : List ℕ) → IsFileOf words.now path → ¬ IsFolderOf words.now path → StaysOrGoes (H.standing host.old path) (H.standing host.new path) }
     ensures folders { (path : List ℕ) → ¬ IsFolderOf words.now path → H.folder_at host.new path ≡ H.folder_at host.old path }
-    ensures leaves { (path : List ℕ) (n : NameOf) → ¬ IsFileOf words.now path → ¬ IsFolderOf words.now path → NoMore (H.leaves_at host.old path n) (H.leaves_at host.new path n) }
+    ensures leaves { (path : List ℕ) (n : NameOf) → ¬ IsFolderOf words.now path → NoMore (H.leaves_at host.old path n) (H.leaves_at host.new path n) }
     ensures later { H.faults host.old ≤ H.faults host.new }
 {
     plain(alloc, words, host, out)

@@ -5,7 +5,7 @@ use Rattle.client_runner.proofs.EndLemmas.{end_more, gave_up, stays_elsewhere}
 use Rattle.client_runner.proofs.top.plain.Goals as goal
 
 pub returns-in_default-clause-ends : goal.returns-in_default-clause-ends
-returns-in_default-clause-ends g c = gave_up _ _ _ (gives_up c.in_default.ensures.no_memory refl refl)
+returns-in_default-clause-ends g c = gave_up _ _ _ (gives_up c.in_default.ensures.no_memory refl refl (λ path. record { stands = refl; no_more = λ n image left. left }))
 
 pub returns-in-Some-Try-clause-ends : goal.returns-in-Some-Try-clause-ends
 returns-in-Some-Try-clause-ends g c =

@@ -7,7 +7,7 @@ pub returns-in-Ok-clause-ends : goal.returns-in-Ok-clause-ends
 returns-in-Ok-clause-ends g c = record {
   meant = c.status_of_lines-status.result;
   text = _;
-  work = run_told _ _ _ _ _ _ _ c.in-Ok.ready c.status_of_lines-status.result c.in-Ok.ensures.ready (c.status_of_lines-status.ensures ∙ ap status_of_lines c.deref.ensures.value);
+  work = run_told _ _ _ _ _ _ _ _ c.in-Ok.ready c.status_of_lines-status.result c.in-Ok.ensures.ready (c.status_of_lines-status.ensures ∙ ap status_of_lines c.deref.ensures.value);
   printed = c.say_ready.ensures;
 }
 

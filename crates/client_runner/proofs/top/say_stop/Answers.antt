@@ -8,6 +8,6 @@ pub returns : goal.returns
 returns g c = record {
   meant = status_of NoMemory;
   text = message c.args.path.now NoMemory;
-  work = inr (refl, refl);
+  work = inr (rw c.in_default.is at c.fixed_line.ensures.none, refl, refl);
   printed = inl (refl, Appends-nil (g.K.Sink.taken c.args.out.now));
 }
