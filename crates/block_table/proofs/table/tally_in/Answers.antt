@@ -1,0 +1,16 @@
+use Rattle.std.proofs.Common.{ℕ, ◌-◌, take, ap, sym, ◌∙◌, arith}
+use Rattle.block_table.specs.Tallies.{tally_of}
+use Rattle.block_table.proofs.table.tally_in.Goals as goal
+
+pub loop-c-init : goal.loop-c-init
+loop-c-init c =
+    let p = c.in_ok-c.ensures.first in
+    record {
+      versions = c.in_ok-c.ensures.versions;
+      first = omega (arith, p);
+      within = omega (arith, p);
+      tally = c.new-tally.ensures ∙ ap (λ (n : ℕ). tally_of (take (n - 1) c.args.versions.now)) (sym p);
+    }
+
+pub loop-c-preserved : goal.loop-c-preserved
+loop-c-preserved c = ?

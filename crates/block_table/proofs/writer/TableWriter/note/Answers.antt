@@ -1,0 +1,24 @@
+use Rattle.std.proofs.Common.{◌≡◌, ◌+◌, ◌++◌, length, sym, ap, ◌∙◌, arith, append_assoc, List, [], ◌∷◌, length-append}
+use Rattle.ts_key.specs.Items.{Item, item_of}
+use Rattle.ts_key.specs.Lists.{joined}
+use Rattle.ts_key.specs.StoredKeys.{IsItem}
+use Rattle.data_block.proofs.Written.{all_snoc}
+use Rattle.block_table.proofs.writer.TableWriter.note.Goals as goal
+
+pub returns-clause-noted : goal.returns-clause-noted
+returns-clause-noted c = λ t done vs b item.
+    let v = item_of c.args.v.now in
+    record {
+      family = b.family;
+      form = b.form;
+      collected_by = b.collected_by;
+      items = ap (λ (us : List Item). us ++ v ∷ []) b.items ∙ append_assoc (joined done) vs (v ∷ []);
+      bytes = b.bytes;
+      index = b.index;
+      versions = ?;
+      tally = ?;
+      range = ?;
+      fit = all_snoc (IsItem t.form) t.items v b.fit item;
+      readable = b.readable;
+      few = b.few;
+    }
