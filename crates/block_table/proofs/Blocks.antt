@@ -14,7 +14,10 @@ use Rattle.data_block.proofs.Faulting.{blocks_unique}
 use Rattle.block_table.specs.declared.handle.BlockHandle.{BlockHandle}
 use Rattle.block_table.specs.Tables.{EndsInTime, IsFull, AreCut, blocks, handles}
 use Rattle.block_table.specs.Pushed.{IsDone}
-use Rattle.block_table.specs.Gathering.{handle_of, IsBlockAt, AreBlocksOf, HasReadBlocks}
+use Rattle.std.specs.Prelude.{Err}
+use Rattle.block_table.specs.declared.fault.TableFault.{TableFault}
+use Rattle.block_table.specs.declared.fault.TableFault.TheVariants.{Bad, NoMemory}
+use Rattle.block_table.specs.Gathering.{handle_of, IsBlockAt, AddsBlock, AreBlocksOf, AreOnlyBlocksOf, ReadsBlocks, HasReadBlocks}
 use Rattle.block_table.proofs.Cuts.{joined_more, blocks_more, handles_more, length-handles, cut_more}
 use Rattle.block_table.proofs.Lists.{all_right, comes_after_in, joined_append}
 
@@ -86,6 +89,15 @@ module _ (form : Form) (image : List ℕ) (end : ℕ) (hs : List BlockHandle) (f
 
   pub next_block : (n at : ℕ) (items : List Item) (h : BlockHandle) (last : Bool) (cuts : List (List Item)) (r : HasReadBlocks form image end hs n at items) → AreBlocksOf form image end hs cuts → n < length hs → h ≡ get_or hs n h → (last ≡ false → n + 1 < length hs) → NextBlock r.done items h at last cuts
   next_block n at items h last cuts r a l h-is more = let o = r.only cuts a in next_on n at items h last cuts r a l h-is more o.0 o.1
+
+  -- there is no block where the next one was to stand
+  pub block_failed : (n at : ℕ) (items new : List Item) (h : BlockHandle) (last : Bool) (e : TableFault) → HasReadBlocks form image end hs n at items → AddsBlock form image items new h at end last (Err e) → n < length hs → h ≡ get_or hs n h → (last ≡ false → n + 1 < length hs) → ReadsBlocks form image end hs (Err e)
+  block_failed n at items new h last Bad r none l h-is more = λ cuts a. let x = next_block n at items h last cuts r a l h-is more in none x.vs x.there
+  block_failed n at items new h last NoMemory r none l h-is more = tt
+
+  -- there is a block
+  pub no_handles : length hs ≡ 0 → (cuts : List (List Item)) → AreBlocksOf form image end hs cuts → ⊥
+  no_handles none cuts a = let some = a.some in omega (arith, none, some, ap length a.handles, length-handles form 0 cuts)
 
   -- two blocks of one handle at one place are one
   same_block : (items : List Item) (h : BlockHandle) (at : ℕ) (last : Bool) (vs ws : List Item) → IsBlockAt form image items h at end last vs → IsBlockAt form image items h at end last ws → ws ≡ vs
@@ -160,6 +172,9 @@ module _ (form : Form) (image : List ℕ) (end : ℕ) (hs : List BlockHandle) (f
       on (vs ∷ rest) is =
           let len : length hs ≡ length others = ap length a.handles ∙ length-handles form 0 others in
           absurd (omega (arith, len, ap length is, length-append r.done (vs ∷ rest), r.count))
+
+  pub blocks_read : (n at : ℕ) (items : List Item) → HasReadBlocks form image end hs n at items → length hs ≤ n → 0 < length hs → at ≡ end → AreOnlyBlocksOf form image end hs items
+  blocks_read n at items r most some ends = record { cuts = r.done; are = all_read n at items r most some ends; joins = r.versions; only = only_read n at items r most }
 
   -- they end elsewhere
   pub ends_wrong : (n at : ℕ) (items : List Item) → HasReadBlocks form image end hs n at items → length hs ≤ n → (at ≡ end → ⊥) → (cuts : List (List Item)) → AreBlocksOf form image end hs cuts → ⊥

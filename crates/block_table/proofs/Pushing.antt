@@ -7,7 +7,7 @@ use Rattle.ts_key.specs.Lists.{IsSorted, joined}
 use Rattle.ts_key.specs.StoredKeys.{IsItem}
 use Rattle.ts_key.specs.declared.version.Form.{Form}
 use Rattle.ts_key.specs.declared.version.Version.{Version}
-use Rattle.data_block.specs.Grammar.{block_target, block_entries, block, IsBlock}
+use Rattle.data_block.specs.Grammar.{block_target, entries, block_entries, block, IsBlock}
 use Rattle.data_block.specs.Written.{Written, HasWritten}
 use Rattle.data_block.proofs.Written.{all_snoc}
 use Rattle.block_table.specs.declared.handle.BlockHandle.{BlockHandle}
@@ -80,6 +80,19 @@ closed_last w t done vs each room some b = record {
   some_each = all_snoc (λ us. 0 < length us) done vs (some_done t.form done each) some;
 }
 
+-- one version more, which filled the open block, and the block was put behind the others
+pub push_full : (w : TableWriter) (t : Contents) (done : List (List Item)) (os : List Item) (v : Item) → AllByRecursion (IsDone t.form) done → length (block_entries t.form os) < block_target → IsFull t.form (os ++ v ∷ [])
+    → IsBehind w t (done ++ (os ++ v ∷ []) ∷ []) [] → IsOpen t.form w.block [] → HasPushed w t
+unfolding entries
+push_full w t done os v each room full b o = record {
+  done = done ++ (os ++ v ∷ []) ∷ [];
+  open_items = [];
+  behind = b;
+  is_open = o;
+  each = all_snoc (IsDone t.form) done (os ++ v ∷ []) each (record { full = full; in_time = ends_with t.form os v room });
+  room = omega arith;
+}
+
 -- how many bytes the blocks have
 bytes_on : (w : TableWriter) (t : Contents) (done : List (List Item)) (os : List Item) → AllByRecursion (IsDone t.form) done → length os ≡ 0 → IsBehind w t done os → HaveBlockBytes t (length w.blocks.items)
 bytes_on w t done [] each l b = record {
@@ -91,8 +104,8 @@ bytes_on w t done [] each l b = record {
 }
 bytes_on w t done (v ∷ os) each l b = absurd (omega (arith, l))
 
-pub bytes_done : (w : TableWriter) (t : Contents) (h : HasPushed w t) → w.versions ≡ 0 → HaveBlockBytes t (length w.blocks.items)
-bytes_done w t h none = bytes_on w t h.done h.open_items h.each (sym h.behind.versions ∙ none) h.behind
+pub bytes_done : (w : TableWriter) (t : Contents) (h : HasPushed w t) (n : ℕ) → w.versions ≡ 0 → n ≡ length w.blocks.items → HaveBlockBytes t n
+bytes_done w t h n none is = subst (HaveBlockBytes t) (sym is) (bytes_on w t h.done h.open_items h.each (sym h.behind.versions ∙ none) h.behind)
 
 pub bytes_open : (w : TableWriter) (t : Contents) (h : HasPushed w t) (n : ℕ) → (w.versions ≡ 0 → ⊥) → n ≡ length w.blocks.items + length (block t.form h.open_items) → HaveBlockBytes t n
 bytes_open w t h n some is =

@@ -13,12 +13,12 @@ use Rattle.block_table.specs.declared.parts.Head.{Head}
 use Rattle.block_table.specs.declared.properties.Properties.{Properties}
 use Rattle.block_table.specs.Contents.{Contents, properties_of}
 use Rattle.block_table.specs.Tables.{magic, footer, with_footer, blocks, handles, index, properties, AreBlocks, IsTable}
-use Rattle.block_table.specs.Parts.{FitsHead, FitsFound, IsHead}
+use Rattle.block_table.specs.Parts.{ReadsParts, FitsHead, FitsFound, IsHead}
 use Rattle.block_table.specs.Indexes.{IsHandle, AreHandles}
-use Rattle.std.specs.Prelude.{Err}
+use Rattle.std.specs.Prelude.{Err, None}
 use Rattle.block_table.specs.declared.fault.TableFault.{TableFault}
 use Rattle.block_table.specs.declared.fault.TableFault.TheVariants.{Bad, NoMemory}
-use Rattle.block_table.specs.Gathering.{AreBlocksOf, ReadsBlocks}
+use Rattle.block_table.specs.Gathering.{AreBlocksOf, AreOnlyBlocksOf, ReadsBlocks}
 use Rattle.block_table.specs.Reads.{contents_in, contents_with, IsOnlyTable, AreOnlyContents, ReadsContents}
 use Rattle.block_table.proofs.Cuts.{length-handles}
 use Rattle.block_table.proofs.Footers.{Split, footed, length-footer}
@@ -62,6 +62,10 @@ unfolding with_footer
 longer b i p =
     let foot = footer (length b) (length b + length i) in
     omega (arith, length-append (b ++ i ++ p) foot, length-append (b ++ i) p, length-append b i)
+
+-- an image with no parts is no table
+pub no_parts : (image : List ℕ) → ReadsParts image None → (t : Contents) → IsTable t image → ⊥
+no_parts image none t h = none (blocks t.form h.cuts) (index (handles t.form 0 h.cuts)) (properties (properties_of t)) h.spelled
 
 -- handles of blocks whose numbers fit
 are_handles : (form : Form) (at : ℕ) (cuts : List (List Item)) → AllByRecursion (λ vs. length vs < 2 ^ 32) cuts → at + length (blocks form cuts) < 2 ^ 63 → AllByRecursion IsHandle (handles form at cuts)
@@ -119,24 +123,27 @@ module _ (image b i p : List ℕ) (is : image ≡ with_footer b i p) (small : le
     blocks_failed Bad none = λ t h. none h.cuts (its_blocks t h)
     blocks_failed NoMemory none = tt
 
-    module _ (items : List Item) (cuts : List (List Item)) (a : AreBlocksOf head.form image (length b) hs cuts) (items-are : items ≡ joined cuts) (only : (others : List (List Item)) → AreBlocksOf head.form image (length b) hs others → others ≡ cuts) (q : Properties) (q-is : q ≡ properties_of (contents_with head items)) where
+    module _ (items : List Item) (own : AreOnlyBlocksOf head.form image (length b) hs items) (q : Properties) (q-is : q ≡ properties_of (contents_with head items)) where
       -- a table has these contents
       one : (t : Contents) → IsTable t image → t ≡ contents_with head items
       one t h =
           let w = told t h in
           let k = knows (properties_of t) (fits_of t h) w.2 in
-          let is-items : t.items ≡ items = h.blocks.joins ∙ ap joined (only h.cuts (its_blocks t h)) ∙ sym items-are in
+          let is-items : t.items ≡ items = h.blocks.joins ∙ ap joined (own.only h.cuts (its_blocks t h)) ∙ sym own.joins in
           λ j. record { family = sym k.family j; form = sym k.form j; collected_by = sym k.collected_by j; items = is-items j }
 
       pub other_properties : (p ≡ properties q → ⊥) → (t : Contents) → IsTable t image → ⊥
       other_properties wrong t h = let w = told t h in wrong (w.2 ∙ ap (λ (u : Contents). properties (properties_of u)) (one t h) ∙ ap properties (sym q-is))
 
-      own : contents_in q items ≡ contents_with head items
-      own = ap (λ (r : Properties). contents_in r items) q-is
+      same_contents : contents_in q items ≡ contents_with head items
+      same_contents = ap (λ (r : Properties). contents_in r items) q-is
 
       pub is_read : FitsFound head → p ≡ properties q → AreOnlyContents image q items
       is_read fits p-is =
           let t = contents_with head items in
+          let cuts = own.cuts in
+          let a = own.are in
+          let items-are = own.joins in
           let n : length (handles head.form 0 cuts) ≡ length cuts = length-handles head.form 0 cuts in
           let count = are.count in
           let b-is : b ≡ blocks head.form cuts = sym (take_blocks b i p) ∙ ap (take (length b)) (sym is) ∙ a.spelled in
@@ -162,7 +169,7 @@ module _ (image b i p : List ℕ) (is : image ≡ with_footer b i p) (small : le
           } in
           let only-table : IsOnlyTable t image = record { is = table; only = one } in
           record {
-            told = q-is ∙ ap properties_of (sym own);
+            told = q-is ∙ ap properties_of (sym same_contents);
             fit = subst (λ (r : Properties). AllByRecursion (IsItem r.form) items) (sym q-is) (subst (AllByRecursion (IsItem head.form)) (sym items-are) (items_of_blocks head.form cuts a.each));
-            table = subst (λ (u : Contents). IsOnlyTable u image) (sym own) only-table;
+            table = subst (λ (u : Contents). IsOnlyTable u image) (sym same_contents) only-table;
           }

@@ -164,7 +164,8 @@ impl TableWriter {
         block.push(v)?;
         self.note(v)?;
         if block.full() {
-            return self.close(block);
+            self.close(block)?;
+            return Ok(());
         }
         self.block = block;
         Ok(())

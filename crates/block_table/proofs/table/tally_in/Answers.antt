@@ -1,5 +1,7 @@
-use Rattle.std.proofs.Common.{ℕ, ◌-◌, take, ap, sym, ◌∙◌, arith}
+use Rattle.std.proofs.Common.{◌≡◌, ◌≤◌, ℕ, ◌-◌, take, ap, sym, ◌∙◌, arith, length, Some}
+use Rattle.ts_key.specs.Items.{shown}
 use Rattle.block_table.specs.Tallies.{tally_of}
+use Rattle.block_table.proofs.Tallying.{take_standing, standing_within}
 use Rattle.block_table.proofs.table.tally_in.Goals as goal
 
 pub loop-c-init : goal.loop-c-init
@@ -12,5 +14,3 @@ loop-c-init c =
       tally = c.new-tally.ensures ∙ ap (λ (n : ℕ). tally_of (take (n - 1) c.args.versions.now)) (sym p);
     }
 
-pub loop-c-preserved : goal.loop-c-preserved
-loop-c-preserved c = ?
