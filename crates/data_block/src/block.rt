@@ -143,7 +143,7 @@ impl Block {
         )
     }
 
-    /// A cursor at the first version. It takes no memory yet.
+    /// A cursor at the first version. Making it takes no memory.
     pub fn cursor(&self, _alloc: Global) -> Result<BlockCursor<'_>, NoMemory>
         ensures made { IsOk result }
         ensures versions { IfOk result (λ c. versions_of c ≡ self.now) }

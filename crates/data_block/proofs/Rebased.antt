@@ -11,8 +11,8 @@ use Rattle.data_block.proofs.Runs.{items_keep}
 use Rattle.data_block.specs.Index.{key_at, value_at, item_at, items_at, IsWithin}
 
 -- the entry in the joined keys and in the image
-abbrev pub moved : ℕ → ℕ → Entry → Entry
-moved base from e = record e { key_from = base + e.key_from; value_from = from + e.value_from }
+abbrev pub rebased : ℕ → ℕ → Entry → Entry
+rebased base from e = record e { key_from = base + e.key_from; value_from = from + e.value_from }
 
 take_take : (a m : ℕ) (xs : List ℕ) → a ≤ m → take a (take m xs) ≡ take a xs
 take_take zero m xs le = refl
@@ -26,36 +26,36 @@ inner n from m xs le =
     let whole : from + (m - from) ≡ m = omega arith in
     ap (λ (k : ℕ). take n (drop from (take k xs))) (sym whole) ∙ ap (take n) (drop-take from (m - from) xs) ∙ take_take n (m - from) (drop from xs) (omega arith)
 
-pub item_moved : (keys more image region : List ℕ) (from : ℕ) (e : Entry) → IsWithin more region e → region ≡ slice_range image from (from + length region) → item_at (keys ++ more) image (moved (length keys) from e) ≡ item_at more region e
-item_moved keys more image region from e h is =
+pub item_rebased : (keys more image region : List ℕ) (from : ℕ) (e : Entry) → IsWithin more region e → region ≡ slice_range image from (from + length region) → item_at (keys ++ more) image (rebased (length keys) from e) ≡ item_at more region e
+item_rebased keys more image region from e h is =
     let hk = h.key in
     let hv = h.value in
     let size : from + length region - from ≡ length region = omega arith in
     let front : region ≡ take (length region) (drop from image) = is ∙ ap (λ (n : ℕ). take n (drop from image)) size in
     let kn : length keys + e.key_from + e.key_len - (length keys + e.key_from) ≡ e.key_from + e.key_len - e.key_from = omega arith in
     let vn : from + e.value_from + e.value_len - (from + e.value_from) ≡ e.value_from + e.value_len - e.value_from = omega arith in
-    let key : key_at (keys ++ more) (moved (length keys) from e) ≡ key_at more e =
+    let key : key_at (keys ++ more) (rebased (length keys) from e) ≡ key_at more e =
     ap (λ (n : ℕ). take n (drop (length keys + e.key_from) (keys ++ more))) kn ∙ ap (take (e.key_from + e.key_len - e.key_from)) (drop-append-add keys more e.key_from) in
-    let value : value_at image (moved (length keys) from e) ≡ value_at region e =
+    let value : value_at image (rebased (length keys) from e) ≡ value_at region e =
     ap (λ (n : ℕ). take n (drop (from + e.value_from) image)) vn
     ∙ ap (take (e.value_from + e.value_len - e.value_from)) (sym (drop-drop e.value_from from image))
     ∙ sym (inner (e.value_from + e.value_len - e.value_from) e.value_from (length region) (drop from image) (omega arith))
     ∙ ap (λ (r : List ℕ). take (e.value_from + e.value_len - e.value_from) (drop e.value_from r)) (sym front) in
     λ i. record { sort_key = record { key = key i; ts = e.ts.0; seq = e.seq.0 }; kind = e.kind; value = value i }
 
-within_moved : (keys more image region : List ℕ) (from : ℕ) (e : Entry) → IsWithin more region e → from + length region ≤ length image → IsWithin (keys ++ more) image (moved (length keys) from e)
-within_moved keys more image region from e h le =
+within_rebased : (keys more image region : List ℕ) (from : ℕ) (e : Entry) → IsWithin more region e → from + length region ≤ length image → IsWithin (keys ++ more) image (rebased (length keys) from e)
+within_rebased keys more image region from e h le =
     let k = h.key in
     let v = h.value in
     record { key = omega (arith, length-append keys more); value = omega arith }
 
-items_moved : (keys more image region : List ℕ) (from : ℕ) (es : List Entry) → AllByRecursion (IsWithin more region) es → region ≡ slice_range image from (from + length region) → items_at (keys ++ more) image (map (moved (length keys) from) es) ≡ items_at more region es
-items_moved keys more image region from [] h is = refl
-items_moved keys more image region from (e ∷ es) h is = λ i. item_moved keys more image region from e h.0 is i ∷ items_moved keys more image region from es h.1 is i
+items_rebased : (keys more image region : List ℕ) (from : ℕ) (es : List Entry) → AllByRecursion (IsWithin more region) es → region ≡ slice_range image from (from + length region) → items_at (keys ++ more) image (map (rebased (length keys) from) es) ≡ items_at more region es
+items_rebased keys more image region from [] h is = refl
+items_rebased keys more image region from (e ∷ es) h is = λ i. item_rebased keys more image region from e h.0 is i ∷ items_rebased keys more image region from es h.1 is i
 
-all_moved : (keys more image region : List ℕ) (from : ℕ) (es : List Entry) → AllByRecursion (IsWithin more region) es → from + length region ≤ length image → AllByRecursion (IsWithin (keys ++ more) image) (map (moved (length keys) from) es)
-all_moved keys more image region from [] h le = tt
-all_moved keys more image region from (e ∷ es) h le = (within_moved keys more image region from e h.0 le, all_moved keys more image region from es h.1 le)
+all_rebased : (keys more image region : List ℕ) (from : ℕ) (es : List Entry) → AllByRecursion (IsWithin more region) es → from + length region ≤ length image → AllByRecursion (IsWithin (keys ++ more) image) (map (rebased (length keys) from) es)
+all_rebased keys more image region from [] h le = tt
+all_rebased keys more image region from (e ∷ es) h le = (within_rebased keys more image region from e h.0 le, all_rebased keys more image region from es h.1 le)
 
 items_append : (keys image : List ℕ) (es more : List Entry) → items_at keys image (es ++ more) ≡ items_at keys image es ++ items_at keys image more
 items_append keys image [] more = refl
@@ -70,19 +70,19 @@ all_append P [] ys h g = g
 all_append P (x ∷ xs) ys h g = (h.0, all_append P xs ys h.1 g)
 
 pub gathered_items : (keys more image region : List ℕ) (from : ℕ) (old es : List Entry) → All (IsWithin keys image) old → All (IsWithin more region) es → region ≡ slice_range image from (from + length region)
-    → items_at (keys ++ more) image (old ++ map (moved (length keys) from) es) ≡ items_at keys image old ++ items_at more region es
+    → items_at (keys ++ more) image (old ++ map (rebased (length keys) from) es) ≡ items_at keys image old ++ items_at more region es
 gathered_items keys more image region from old es h g is =
-    items_append (keys ++ more) image old (map (moved (length keys) from) es)
-    ∙ (λ i. items_keep keys more image old (recursion_from_All (IsWithin keys image) old h) i ++ items_moved keys more image region from es (recursion_from_All (IsWithin more region) es g) is i)
+    items_append (keys ++ more) image old (map (rebased (length keys) from) es)
+    ∙ (λ i. items_keep keys more image old (recursion_from_All (IsWithin keys image) old h) i ++ items_rebased keys more image region from es (recursion_from_All (IsWithin more region) es g) is i)
 
 pub gathered_within : (keys more image region : List ℕ) (from : ℕ) (old es : List Entry) → All (IsWithin keys image) old → All (IsWithin more region) es → from + length region ≤ length image
-    → All (IsWithin (keys ++ more) image) (old ++ map (moved (length keys) from) es)
+    → All (IsWithin (keys ++ more) image) (old ++ map (rebased (length keys) from) es)
 gathered_within keys more image region from old es h g le =
-    All-from_recursion (IsWithin (keys ++ more) image) (old ++ map (moved (length keys) from) es)
-    (all_append (IsWithin (keys ++ more) image) old (map (moved (length keys) from) es) (all_keep keys more image old (recursion_from_All (IsWithin keys image) old h)) (all_moved keys more image region from es (recursion_from_All (IsWithin more region) es g) le))
+    All-from_recursion (IsWithin (keys ++ more) image) (old ++ map (rebased (length keys) from) es)
+    (all_append (IsWithin (keys ++ more) image) old (map (rebased (length keys) from) es) (all_keep keys more image old (recursion_from_All (IsWithin keys image) old h)) (all_rebased keys more image region from es (recursion_from_All (IsWithin more region) es g) le))
 
 pub within_all : (keys more image region : List ℕ) (from : ℕ) (old es : List Entry) (i : ℕ) → All (IsWithin keys image) old → All (IsWithin more region) es → from + length region ≤ length image
-    → All (IsWithin (keys ++ more) image) (old ++ map (moved (length keys) from) (take i es))
+    → All (IsWithin (keys ++ more) image) (old ++ map (rebased (length keys) from) (take i es))
 within_all keys more image region from old es i h g le = gathered_within keys more image region from old (take i es) h (All-take (IsWithin more region) i es g) le
 
 -- the entries of a block in its image
