@@ -1,5 +1,5 @@
 -- Blocks that were read, one block more.
-use Rattle.std.proofs.Common.{◌≡◌, ℕ, zero, suc, ◌+◌, ◌-◌, ◌<◌, ◌≤◌, Bool, false, List, [], ◌∷◌, ◌++◌, length, get_or, take, drop, refl, sym, ap, subst, ◌∙◌, arith, length-append, append_assoc}
+use Rattle.std.proofs.Common.{◌≡◌, ℕ, zero, suc, ◌+◌, ◌-◌, ◌<◌, ◌≤◌, Bool, true, false, List, [], ◌∷◌, ◌++◌, length, get_or, take, drop, refl, sym, ap, subst, ◌∙◌, ⊎_elim, eqb, eq-eqb, ne_eqb, arith, length-append, append_assoc}
 use Rattle.std.specs.List.{AllByRecursion, slice_range}
 use Rattle.std.proofs.lemmas.List.{append-nil, take_at, drop_at, take_all, take_more, take-append-drop, length-take-le}
 use Rattle.std.proofs.Math.Seq.{take-add}
@@ -15,9 +15,10 @@ use Rattle.block_table.specs.declared.handle.BlockHandle.{BlockHandle}
 use Rattle.block_table.specs.Tables.{EndsInTime, IsFull, AreCut, blocks, handles}
 use Rattle.block_table.specs.Pushed.{IsDone}
 use Rattle.std.specs.Prelude.{Err}
+use Rattle.std.proofs.lemmas.Bool.{cases_lt}
 use Rattle.block_table.specs.declared.fault.TableFault.{TableFault}
 use Rattle.block_table.specs.declared.fault.TableFault.TheVariants.{Bad, NoMemory}
-use Rattle.block_table.specs.Gathering.{handle_of, IsBlockAt, AddsBlock, AreBlocksOf, AreOnlyBlocksOf, ReadsBlocks, HasReadBlocks}
+use Rattle.block_table.specs.Gathering.{handle_of, IsBlockAt, HasAddedBlock, AddsBlock, AreBlocksOf, AreOnlyBlocksOf, ReadsBlocks, HasReadBlocks}
 use Rattle.block_table.proofs.Cuts.{joined_more, blocks_more, handles_more, length-handles, cut_more}
 use Rattle.block_table.proofs.Lists.{all_right, comes_after_in, joined_append}
 
@@ -38,6 +39,11 @@ cut_at form [] vs [] c = (c, λ l. absurd (omega (arith, l)))
 cut_at form [] vs (ws ∷ rest) c = (c.1, λ l. c.0)
 cut_at form (d ∷ []) vs rest c = cut_at form [] vs rest c.2
 cut_at form (d ∷ e ∷ done) vs rest c = cut_at form (e ∷ done) vs rest c.2
+
+get_or_any : (hs : List BlockHandle) (n : ℕ) (a b : BlockHandle) → n < length hs → get_or hs n a ≡ get_or hs n b
+get_or_any [] n a b l = absurd (omega (arith, l))
+get_or_any (h ∷ hs) zero a b l = refl
+get_or_any (h ∷ hs) (suc n) a b l = get_or_any hs n a b (omega (arith, l))
 
 module _ (form : Form) (image : List ℕ) (end : ℕ) (hs : List BlockHandle) (fits : end ≤ length image) where
   -- the block behind those that were read, of those that are there
@@ -132,6 +138,20 @@ module _ (form : Form) (image : List ℕ) (end : ℕ) (hs : List BlockHandle) (f
             let same : nx.vs ≡ vs = same_block items h at last vs nx.vs x nx.there in
             (nx.rest, nx.is ∙ ap (λ (us : List Item). done ++ us ∷ nx.rest) same ∙ sym (append_assoc done (vs ∷ []) nx.rest));
       }
+
+  -- the block of the handle with index n, of m
+  module _ (n at m : ℕ) (items new : List Item) (h : BlockHandle) (r : HasReadBlocks form image end hs n at items) (d : BlockHandle) (m-is : m ≡ length hs) (l : n < length hs) (is : h ≡ get_or hs n d) (source : List ℕ) (source-is : source ≡ image) where
+    h-is : h ≡ get_or hs n h
+    h-is = is ∙ get_or_any hs n d h l
+
+    goes_on : (eqb (n + 1) m) ≡ false → n + 1 < length hs
+    goes_on no = ⊎_elim (λ (less : n + 1 < length hs). less) (λ (most : length hs ≤ n + 1). absurd (let y : (eqb (n + 1) m) ≡ true = eq-eqb (n + 1) m (omega arith) in cc)) (cases_lt (n + 1) (length hs))
+
+    pub failed_at : (e : TableFault) → AddsBlock form source items new h at end (eqb (n + 1) m) (Err e) → ReadsBlocks form image end hs (Err e)
+    failed_at e none = block_failed n at items new h (eqb (n + 1) m) e r (subst (λ (b : List ℕ). AddsBlock form b items new h at end (eqb (n + 1) m) (Err e)) source-is none) l h-is goes_on
+
+    pub read_at : (to : ℕ) → HasAddedBlock form source items new h at end (eqb (n + 1) m) to → HasReadBlocks form image end hs (n + 1) to new
+    read_at to y = let x = subst (λ (b : List ℕ). HasAddedBlock form b items new h at end (eqb (n + 1) m) to) source-is y in more_read n at to items new h (eqb (n + 1) m) x.vs r x.is_at l h-is goes_on (λ less. ne_eqb (n + 1) m (λ same. omega arith)) x.ends x.behind
 
   -- before the first block
   pub none_read : (items : List Item) → items ≡ [] → HasReadBlocks form image end hs 0 0 items

@@ -4,7 +4,8 @@ use Rattle.std.specs.List.{AllByRecursion}
 use Rattle.std.specs.declared.cmp.Ordering.TheVariants.{Less}
 use Rattle.std.proofs.lemmas.List.{append-nil}
 use Rattle.ts_key.specs.Order.{SortKey, sort_cmp}
-use Rattle.ts_key.specs.Items.{Item}
+use Rattle.ts_key.specs.declared.version.Version.{Version}
+use Rattle.ts_key.specs.Items.{Item, item_of, items_of}
 use Rattle.ts_key.specs.Lists.{IsSorted, joined}
 use Rattle.data_block.specs.Reading.{EndsBefore}
 use Rattle.data_block.specs.Gathered.{ComesAfter}
@@ -26,6 +27,12 @@ all_both P (x ∷ xs) ys g h = (g.0, all_both P xs ys g.1 h)
 pub all_last : {A : Type 0} (P : A → Type 0) (xs : List A) (x : A) → AllByRecursion P (xs ++ x ∷ []) → P x
 all_last P [] x h = h.0
 all_last P (y ∷ xs) x h = all_last P xs x h.1
+
+-- ---- versions without their family
+
+pub items_snoc : (vs : List Version) (v : Version) → items_of (vs ++ v ∷ []) ≡ items_of vs ++ item_of v ∷ []
+items_snoc [] v = refl
+items_snoc (x ∷ vs) v = ap (λ (us : List Item). item_of x ∷ us) (items_snoc vs v)
 
 -- ---- sorted lists
 

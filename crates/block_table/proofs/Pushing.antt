@@ -1,6 +1,7 @@
 -- A table as it is written.
-use Rattle.std.proofs.Common.{◌≡◌, ℕ, zero, suc, ◌+◌, ◌^◌, ◌<◌, ◌≤◌, List, [], ◌∷◌, ◌++◌, length, refl, sym, ap, subst, ◌∙◌, arith, length-append, append_assoc, Some}
+use Rattle.std.proofs.Common.{◌≡◌, ℕ, zero, suc, ◌+◌, ◌^◌, ◌<◌, ◌≤◌, List, [], ◌∷◌, ◌++◌, length, refl, sym, ap, subst, ◌∙◌, Bool, true, false, ⊎_elim, arith, length-append, append_assoc, Some}
 use Rattle.std.specs.List.{AllByRecursion}
+use Rattle.std.proofs.lemmas.Bool.{cases_lt}
 use Rattle.std.proofs.lemmas.List.{append-nil}
 use Rattle.ts_key.specs.Items.{Item, item_of}
 use Rattle.ts_key.specs.Lists.{IsSorted, joined}
@@ -50,6 +51,7 @@ pub items_moved : (done : List (List Item)) (vs items : List Item) → items ≡
 items_moved done vs items e = e ∙ sym (joined_more done vs) ∙ sym (append-nil (joined (done ++ vs ∷ [])))
 
 some_done : (form : Form) (done : List (List Item)) → AllByRecursion (IsDone form) done → AllByRecursion (λ vs. 0 < length vs) done
+unfolding entries
 some_done form [] each = tt
 some_done form ([] ∷ done) each = let f : block_target ≤ length (block_entries form []) = each.0.full in absurd (omega (arith, f))
 some_done form ((v ∷ vs) ∷ done) each = (omega arith, some_done form done each.1)
@@ -79,6 +81,14 @@ closed_last w t done vs each room some b = record {
   cut = cut_more t.form done vs each (ends_open t.form vs room);
   some_each = all_snoc (λ us. 0 < length us) done vs (some_done t.form done each) some;
 }
+
+-- where nothing was written, there are no bytes
+pub nothing_written : (w : Written) → HasWritten w [] → length w.entries ≡ 0
+unfolding entries
+nothing_written w h = ap length h.entries
+
+pub not_full : (n : ℕ) (b : Bool) → (block_target ≤ n → b ≡ true) → b ≡ false → n < block_target
+not_full n b full no = ⊎_elim (λ l. l) (λ m. absurd (let y : b ≡ true = full m in cc)) (cases_lt n block_target)
 
 -- one version more, which filled the open block, and the block was put behind the others
 pub push_full : (w : TableWriter) (t : Contents) (done : List (List Item)) (os : List Item) (v : Item) → AllByRecursion (IsDone t.form) done → length (block_entries t.form os) < block_target → IsFull t.form (os ++ v ∷ [])

@@ -160,6 +160,7 @@ impl Table {
     pub fn newest(&self, key: &[u8]) -> Option<Ts>
         ensures { option_map (λ ts. ts.0) result ≡ newest_ts self.now.contents.items key.now }
     {
+        let _image = &self.image;
         match self.find(key, Ts(u64::MAX), Seq(u64::MAX)) {
             Some(hit) => Some(hit.ts),
             None => None,

@@ -93,13 +93,14 @@ impl TableWriter {
         ensures form { IfOk result (λ w. w.form ≡ form) }
         ensures pushed { IfOk result (λ w. HasPushed w (contents_of family form collected_by [])) }
     {
+        let block = BlockWriter::new(alloc, form)?;
         Ok(TableWriter {
             family,
             form,
             collected_by,
             blocks: Vec::new(alloc),
             handles: Vec::new(alloc),
-            block: BlockWriter::new(alloc, form)?,
+            block,
             versions: 0,
             tally: Tally::new(),
             range: None,

@@ -25,7 +25,7 @@ loop-i-preserved c =
     record {
       count = ap length pushed ∙ length-append hs (h ∷ []) ∙ omega (arith, inv.count);
       each = subst (AllByRecursion IsHandle) (sym pushed) (all_snoc IsHandle hs h inv.each c.handle_of-h.ensures.fits);
-      spelled = ap (flat_map handle_bytes) pushed ∙ handles_read c.split_at.result.1.now _ c.loop-i.i hs h inv.spelled ? c.handle_of-h.ensures.spelled;
+      spelled = ap (flat_map handle_bytes) pushed ∙ handles_read c.split_at.result.1.now _ c.loop-i.i hs h inv.spelled refl c.handle_of-h.ensures.spelled;
     }
 
 pub returns : goal.returns

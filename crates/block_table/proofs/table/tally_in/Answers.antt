@@ -4,8 +4,8 @@ use Rattle.block_table.specs.Tallies.{tally_of}
 use Rattle.block_table.proofs.Tallying.{take_standing, standing_within}
 use Rattle.block_table.proofs.table.tally_in.Goals as goal
 
-pub loop-c-init : goal.loop-c-init
-loop-c-init c =
+pub loop-key-init : goal.loop-key-init
+loop-key-init c =
     let p = c.in_ok-c.ensures.first in
     record {
       versions = c.in_ok-c.ensures.versions;
@@ -14,3 +14,6 @@ loop-c-init c =
       tally = c.new-tally.ensures ∙ ap (λ (n : ℕ). tally_of (take (n - 1) c.args.versions.now)) (sym p);
     }
 
+
+pub loop-key-preserved : goal.loop-key-preserved
+loop-key-preserved c = ?

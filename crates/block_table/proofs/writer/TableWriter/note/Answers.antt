@@ -1,4 +1,4 @@
-use Rattle.std.proofs.Common.{◌≡◌, ◌+◌, ◌++◌, length, sym, ap, ◌∙◌, arith, append_assoc, List, [], ◌∷◌, length-append}
+use Rattle.std.proofs.Common.{◌≡◌, ◌+◌, ◌++◌, length, refl, sym, ap, ◌∙◌, arith, append_assoc, List, [], ◌∷◌, length-append}
 use Rattle.ts_key.specs.Items.{Item, item_of}
 use Rattle.ts_key.specs.Lists.{joined}
 use Rattle.ts_key.specs.StoredKeys.{IsItem}
@@ -8,6 +8,7 @@ use Rattle.block_table.proofs.writer.TableWriter.note.Goals as goal
 pub returns-clause-noted : goal.returns-clause-noted
 returns-clause-noted c = λ t done vs b item.
     let v = item_of c.args.v.now in
+    let n = b.versions in
     record {
       family = b.family;
       form = b.form;
@@ -15,9 +16,9 @@ returns-clause-noted c = λ t done vs b item.
       items = ap (λ (us : List Item). us ++ v ∷ []) b.items ∙ append_assoc (joined done) vs (v ∷ []);
       bytes = b.bytes;
       index = b.index;
-      versions = ?;
-      tally = ?;
-      range = ?;
+      versions = omega (arith, n, length-append vs (v ∷ []));
+      tally = c.and.ensures.tally t.items v b.tally refl refl;
+      range = c.in_ok-range.ensures t.items v b.range refl;
       fit = all_snoc (IsItem t.form) t.items v b.fit item;
       readable = b.readable;
       few = b.few;
