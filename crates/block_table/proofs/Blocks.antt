@@ -145,7 +145,7 @@ module _ (form : Form) (image : List ℕ) (end : ℕ) (hs : List BlockHandle) (f
     h-is = is ∙ get_or_any hs n d h l
 
     goes_on : (eqb (n + 1) m) ≡ false → n + 1 < length hs
-    goes_on no = ⊎_elim (λ (less : n + 1 < length hs). less) (λ (most : length hs ≤ n + 1). absurd (let y : (eqb (n + 1) m) ≡ true = eq-eqb (n + 1) m (omega arith) in cc)) (cases_lt (n + 1) (length hs))
+    goes_on not_last = ⊎_elim (λ (less : n + 1 < length hs). less) (λ (most : length hs ≤ n + 1). absurd (let y : (eqb (n + 1) m) ≡ true = eq-eqb (n + 1) m (omega arith) in cc)) (cases_lt (n + 1) (length hs))
 
     pub failed_at : (e : TableFault) → AddsBlock form source items new h at end (eqb (n + 1) m) (Err e) → ReadsBlocks form image end hs (Err e)
     failed_at e none = block_failed n at items new h (eqb (n + 1) m) e r (subst (λ (b : List ℕ). AddsBlock form b items new h at end (eqb (n + 1) m) (Err e)) source-is none) l h-is goes_on

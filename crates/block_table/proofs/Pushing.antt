@@ -88,7 +88,7 @@ unfolding entries
 nothing_written w h = ap length h.entries
 
 pub not_full : (n : ℕ) (b : Bool) → (block_target ≤ n → b ≡ true) → b ≡ false → n < block_target
-not_full n b full no = ⊎_elim (λ l. l) (λ m. absurd (let y : b ≡ true = full m in cc)) (cases_lt n block_target)
+not_full n b full less = ⊎_elim (λ l. l) (λ m. absurd (let y : b ≡ true = full m in cc)) (cases_lt n block_target)
 
 -- one version more, which filled the open block, and the block was put behind the others
 pub push_full : (w : TableWriter) (t : Contents) (done : List (List Item)) (os : List Item) (v : Item) → AllByRecursion (IsDone t.form) done → length (block_entries t.form os) < block_target → IsFull t.form (os ++ v ∷ [])
@@ -153,7 +153,7 @@ are_blocks form [] readable some sorted = tt
 are_blocks form (vs ∷ cuts) readable some sorted =
     (readable.0 (sorted_left vs (joined cuts) sorted) some.0, are_blocks form cuts readable.1 some.1 (sorted_right vs (joined cuts) sorted))
 
-pub spelled_table : (t : Contents) (image : List ℕ) → IsSpelled t image → IsSorted t.items → length image < 2 ^ 63 → IsTable t image
+pub spelled_table : (t : Contents) (image : List ℕ) → IsSpelled t image → IsSorted t.items → length image < 2 ^ 64 → IsTable t image
 spelled_table t image s sorted small = record {
   cuts = s.cuts;
   blocks = record {

@@ -15,7 +15,7 @@ use Rattle.block_table.specs.Contents.{Contents, properties_of}
 use Rattle.block_table.specs.Tables.{magic, footer, with_footer, blocks, handles, index, properties, AreBlocks, IsTable}
 use Rattle.block_table.specs.Parts.{ReadsParts, FitsHead, FitsFound, IsHead}
 use Rattle.block_table.specs.Indexes.{IsHandle, AreHandles}
-use Rattle.std.specs.Prelude.{Err, None}
+use Rattle.std.specs.Prelude.{Result, Err, None}
 use Rattle.block_table.specs.declared.fault.TableFault.{TableFault}
 use Rattle.block_table.specs.declared.fault.TableFault.TheVariants.{Bad, NoMemory}
 use Rattle.block_table.specs.Gathering.{AreBlocksOf, AreOnlyBlocksOf, ReadsBlocks}
@@ -67,8 +67,21 @@ longer b i p =
 pub no_parts : (image : List ℕ) → ReadsParts image None → (t : Contents) → IsTable t image → ⊥
 no_parts image none t h = none (blocks t.form h.cuts) (index (handles t.form 0 h.cuts)) (properties (properties_of t)) h.spelled
 
+-- the same blocks, told of by other terms
+pub moved_blocks : (form : Form) (image other : List ℕ) (end to : ℕ) (hs ks : List BlockHandle) (r : Result (List Item) TableFault) → image ≡ other → end ≡ to → hs ≡ ks → ReadsBlocks form image end hs r → ReadsBlocks form other to ks r
+moved_blocks form image other end to hs ks r a b c h =
+    subst (λ (xs : List BlockHandle). ReadsBlocks form other to xs r) c (subst (λ (n : ℕ). ReadsBlocks form other n hs r) b (subst (λ (bs : List ℕ). ReadsBlocks form bs end hs r) a h))
+
+some_on : (form : Form) (image : List ℕ) (end : ℕ) (hs : List BlockHandle) (items : List Item) (cuts : List (List Item)) → AreBlocksOf form image end hs cuts → items ≡ joined cuts → 0 < length items
+some_on form image end hs items [] a e = absurd (let s = a.some in omega (arith, s))
+some_on form image end hs items (vs ∷ rest) a e = let s = a.each.0.some in omega (arith, s, ap length e, length-append vs (joined rest))
+
+-- blocks that were read have a version
+pub some_read : (form : Form) (image : List ℕ) (end : ℕ) (hs : List BlockHandle) (items : List Item) → AreOnlyBlocksOf form image end hs items → 0 < length items
+some_read form image end hs items o = some_on form image end hs items o.cuts o.are o.joins
+
 -- handles of blocks whose numbers fit
-are_handles : (form : Form) (at : ℕ) (cuts : List (List Item)) → AllByRecursion (λ vs. length vs < 2 ^ 32) cuts → at + length (blocks form cuts) < 2 ^ 63 → AllByRecursion IsHandle (handles form at cuts)
+are_handles : (form : Form) (at : ℕ) (cuts : List (List Item)) → AllByRecursion (λ vs. length vs < 2 ^ 32) cuts → at + length (blocks form cuts) < 2 ^ 64 → AllByRecursion IsHandle (handles form at cuts)
 are_handles form at [] few small = tt
 are_handles form at (vs ∷ cuts) few small =
     let len : length (blocks form (vs ∷ cuts)) ≡ length (block form vs) + length (blocks form cuts) = length-append (block form vs) (blocks form cuts) in
@@ -78,7 +91,7 @@ few_versions : (form : Form) (at : ℕ) (cuts : List (List Item)) → AllByRecur
 few_versions form at [] h = tt
 few_versions form at (vs ∷ cuts) h = (h.0.versions, few_versions form (at + length (block form vs)) cuts h.1)
 
-module _ (image b i p : List ℕ) (is : image ≡ with_footer b i p) (small : length image < 2 ^ 63) where
+module _ (image b i p : List ℕ) (is : image ≡ with_footer b i p) (small : length image < 2 ^ 64) where
   -- the parts of an image that is a table
   told : (t : Contents) (h : IsTable t image) → (b ≡ blocks t.form h.cuts) × (i ≡ index (handles t.form 0 h.cuts)) × (p ≡ properties (properties_of t))
   told t h =

@@ -2,7 +2,8 @@
 use Rattle.std.proofs.Common.{◌≡◌, ℕ, zero, suc, ◌+◌, ◌-◌, ◌^◌, ◌<◌, ◌≤◌, List, [], ◌∷◌, ◌++◌, length, take, refl, sym, ap, subst, ◌∙◌, arith, length-append, min, max, Some}
 use Rattle.std.specs.Prelude.{slice_get}
 use Rattle.ts_key.specs.Items.{Item}
-use Rattle.ts_key.specs.Lists.{standing}
+use Rattle.std.proofs.lemmas.Bool.Decides.{nat_tests}
+use Rattle.ts_key.specs.Lists.{standing, onward}
 use Rattle.block_table.specs.declared.tally.Tally.{Tally}
 use Rattle.block_table.specs.Contents.{least_of, greatest_of, first_key, last_user_key}
 use Rattle.block_table.specs.Tallies.{tally_of}
@@ -49,6 +50,9 @@ last_standing [] v e = absurd cc
 last_standing (w ∷ vs) v e = last_get w vs v e
 
 -- ---- a walk
+
+pub onward_more : (len place : ℕ) → place ≤ len → onward len place ≡ place + 1
+onward_more len place l = grind (arith, nat_tests)
 
 get_some : (vs : List Item) (i : ℕ) → i < length vs → (v : Item) × (Some v ≡ slice_get vs i)
 get_some [] i l = absurd (omega arith)

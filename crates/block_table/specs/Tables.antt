@@ -96,7 +96,7 @@ pub record AreBlocks (t : Contents) (cuts : List (List Item)) : Type 0 where
   pub sorted : IsSorted t.items
   pub family : t.family < 2 ^ 32
   pub collected_by : t.collected_by < 2 ^ 64
-  pub short : length (blocks t.form cuts) < 2 ^ 63
+  pub short : length (blocks t.form cuts) < 2 ^ 64
 
 -- the bytes are the table of these contents
 pub record IsTable (t : Contents) (image : List ℕ) : Type 0 where

@@ -1,6 +1,6 @@
 //! The parts of a table, which its footer tells apart.
 
-ghost use Rattle.std.specs.Prelude.{◌≡◌, ◌↔◌, IsTrue, IfSome, MatchOption};
+ghost use Rattle.std.specs.Prelude.{◌≡◌, ◌<◌, ◌^◌, ◌↔◌, length, IsTrue, IfSome, MatchOption};
 ghost use Rattle.block_table.specs.Tables.{magic, form_number, properties};
 ghost use Rattle.ts_key.specs.declared.version.Form.{Form as FormOf};
 ghost use Rattle.block_table.specs.Parts.{ReadsParts, FitsHead, FitsFound, IsHead};
@@ -36,7 +36,8 @@ fn is_magic(bytes: &[u8]) -> bool
 
 /// The parts of an image, where it has them.
 pub(crate) fn parts_of(image: &[u8]) -> Option<Parts<'_>>
-    ensures { ReadsParts image.now result }
+    ensures parts { ReadsParts image.now result }
+    ensures bound { length image.now < 2 ^ 64 }
 {
     if image.len() < FOOTER_LEN {
         return None;

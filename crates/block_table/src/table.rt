@@ -122,8 +122,9 @@ fn read_contents(alloc: Global, image: &Bytes) -> Result<(Properties, Block), Ta
     let Some(head) = head_of(parts.properties) else {
         return Err(TableFault::Bad);
     };
-    let Some(handles) = read_index(alloc, parts.index)? else {
-        return Err(TableFault::Bad);
+    let handles = match read_index(alloc, parts.index)? {
+        Some(handles) => handles,
+        None => return Err(TableFault::Bad),
     };
     let end = parts.blocks.len();
     let versions = read_blocks(alloc, head.form, image.clone()?, end, &handles)?;

@@ -77,7 +77,8 @@ pub(crate) fn put_tail(
     put_index(out, handles)?;
     let properties_at = out.len() as u64;
     put_properties(out, p)?;
-    put_footer(out, index_at, properties_at)
+    put_footer(out, index_at, properties_at)?;
+    Ok(())
 }
 
 impl TableWriter {

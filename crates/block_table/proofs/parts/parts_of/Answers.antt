@@ -2,11 +2,11 @@ use Rattle.std.proofs.Common.{List, ℕ, arith}
 use Rattle.block_table.proofs.Footers.{Split, Footed, footed, parted, long}
 use Rattle.block_table.proofs.parts.parts_of.Goals as goal
 
-pub returns-then-image-lt-FOOTER_LEN : goal.returns-then-image-lt-FOOTER_LEN
-returns-then-image-lt-FOOTER_LEN c = λ b i p e. let l = long c.args.image.now b i p e in omega arith
+pub returns-then-image-lt-FOOTER_LEN-clause-parts : goal.returns-then-image-lt-FOOTER_LEN-clause-parts
+returns-then-image-lt-FOOTER_LEN-clause-parts c = λ b i p e. let l = long c.args.image.now b i p e in omega arith
 
-pub returns-then-not-is_magic : goal.returns-then-not-is_magic
-returns-then-not-is_magic c = λ b i p e.
+pub returns-then-not-is_magic-clause-parts : goal.returns-then-not-is_magic-clause-parts
+returns-then-not-is_magic-clause-parts c = λ b i p e.
     let h : Split c.args.image.now c.split_at.result.0.now c.split_at.result.1.now c.split_at-2.result.0.now c.split_at-2.result.1.now c.split_at-3.result.0.now c.split_at-3.result.1.now c.u64_of-index_at.result c.u64_of-properties_at.result = record {
       whole = c.split_at.ensures.by_index.0;
       size = omega arith;
@@ -23,8 +23,8 @@ returns-then-not-is_magic c = λ b i p e.
     let q = c.if-not-is_magic.true in
     cc
 
-pub returns-then-index_at-properties_at : goal.returns-then-index_at-properties_at
-returns-then-index_at-properties_at c = λ b i p e.
+pub returns-then-index_at-properties_at-clause-parts : goal.returns-then-index_at-properties_at-clause-parts
+returns-then-index_at-properties_at-clause-parts c = λ b i p e.
     let h : Split c.args.image.now c.split_at.result.0.now c.split_at.result.1.now c.split_at-2.result.0.now c.split_at-2.result.1.now c.split_at-3.result.0.now c.split_at-3.result.1.now c.u64_of-index_at.result c.u64_of-properties_at.result = record {
       whole = c.split_at.ensures.by_index.0;
       size = omega arith;
@@ -39,8 +39,8 @@ returns-then-index_at-properties_at c = λ b i p e.
     let f = footed _ _ _ _ _ _ _ _ _ b i p h e in
     omega (arith, f.index_at, f.properties_at)
 
-pub returns-then-properties_at-front_len : goal.returns-then-properties_at-front_len
-returns-then-properties_at-front_len c = λ b i p e.
+pub returns-then-properties_at-front_len-clause-parts : goal.returns-then-properties_at-front_len-clause-parts
+returns-then-properties_at-front_len-clause-parts c = λ b i p e.
     let h : Split c.args.image.now c.split_at.result.0.now c.split_at.result.1.now c.split_at-2.result.0.now c.split_at-2.result.1.now c.split_at-3.result.0.now c.split_at-3.result.1.now c.u64_of-index_at.result c.u64_of-properties_at.result = record {
       whole = c.split_at.ensures.by_index.0;
       size = omega arith;
@@ -55,8 +55,8 @@ returns-then-properties_at-front_len c = λ b i p e.
     let f = footed _ _ _ _ _ _ _ _ _ b i p h e in
     omega (arith, f.properties_at, f.long_front)
 
-pub returns : goal.returns
-returns c =
+pub returns-clause-parts : goal.returns-clause-parts
+returns-clause-parts c =
     let h : Split c.args.image.now c.split_at.result.0.now c.split_at.result.1.now c.split_at-2.result.0.now c.split_at-2.result.1.now c.split_at-3.result.0.now c.split_at-3.result.1.now c.u64_of-index_at.result c.u64_of-properties_at.result = record {
       whole = c.split_at.ensures.by_index.0;
       size = omega arith;

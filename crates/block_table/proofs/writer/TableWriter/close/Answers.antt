@@ -1,4 +1,4 @@
-use Rattle.std.proofs.Common.{◌≡◌, ◌+◌, ◌<◌, ◌^◌, List, length, refl, sym, ap, subst, ◌∙◌, arith}
+use Rattle.std.proofs.Common.{◌≡◌, ◌+◌, ◌<◌, ◌^◌, ◌++◌, ℕ, List, length, refl, sym, ap, subst, ◌∙◌, arith}
 use Rattle.ts_key.specs.Items.{Item}
 use Rattle.ts_key.specs.declared.version.Form.{Form}
 use Rattle.data_block.specs.Grammar.{block, IsBlock}
@@ -21,7 +21,7 @@ returns-clause-closed c = λ t done vs b o.
       form = b.form;
       collected_by = b.collected_by;
       items = items_moved done vs t.items b.items;
-      bytes = bytes_more t.form done vs old.blocks.items _ bytes.items b.bytes bytes-is ?;
+      bytes = bytes_more t.form done vs old.blocks.items _ bytes.items b.bytes bytes-is (c.in_ok-extend_from_slice.ensures.items ∙ ap (λ (xs : List ℕ). old.blocks.items ++ xs) c.deref.ensures.value);
       index = index_more t.form done vs old.handles.items _ _ b.index (at ∙ ap length b.bytes) (size ∙ ap length bytes-is) n c.in_ok-push.ensures.items;
       versions = refl;
       tally = b.tally;

@@ -14,6 +14,7 @@ returns c = λ t cuts h.
     let family = b.family in
     let floor = b.collected_by in
     let tail = c.in_ok-put_tail.ensures in
+    let handles-are = c.deref.ensures.value ∙ b.index in
     record {
       cuts = cuts;
       some = h.some;
@@ -25,5 +26,5 @@ returns c = λ t cuts h.
       few = b.few;
       family = omega (arith, family);
       collected_by = omega (arith, floor);
-      spelled = tail ∙ (λ i. with_footer (b.bytes i) (index (b.index i)) (properties (told i)));
+      spelled = tail ∙ (λ i. with_footer (b.bytes i) (index (handles-are i)) (properties (told i)));
     }
