@@ -1,6 +1,6 @@
 use Rattle.std.proofs.Common.{◌≡◌, ◌+◌, ◌++◌, List, [], ◌∷◌, length, take, get_or, sym, ap, subst, ◌∙◌}
 use Rattle.std.specs.Prelude.{All}
-use Rattle.std.proofs.lemmas.List.{take_more}
+use Rattle.std.proofs.lemmas.List.{take_all, take_more}
 use Rattle.std.proofs.lemmas.List.Elements.{All-get_or}
 use Rattle.ts_key.specs.Items.{Item, items_of}
 use Rattle.ts_key.specs.StoredKeys.{IsStamp, IsSequence}
@@ -44,3 +44,8 @@ loop-v-preserved c =
           subst (λ (us : List Item). HasPushed c.push.new.self (contents_of family c.args.form c.args.collected_by us)) (sym more)
           (c.in_ok-push.ensures.pushed _ (inv.pushed family all));
     }
+
+pub returns : goal.returns
+returns c = λ family all.
+    let vs = c.args.versions.now in
+    subst (λ (us : List Version). HasPushed c.loop-v.w (contents_of family c.args.form c.args.collected_by (items_of us))) (take_all c.loop-v.v-index vs c.loop-v-test.false) (c.loop-v.invariant.pushed family all)

@@ -7,6 +7,6 @@ use Rattle.block_table.proofs.write.writer_of.Given as goal
 
 abbrev pub invariant-loop-v : goal.invariant-loop-v
 invariant-loop-v l = record {
-  form : l.w.form ≡ l.form;
-  pushed : (family : Family) → All (λ v. v.family ≡ family) l.versions → HasPushed l.w (contents_of family l.form l.collected_by (items_of (take l.v-index l.versions)));
+  form : l.w.form ≡ l.fn.form;
+  pushed : (family : Family) → All (λ v. v.family ≡ family) l.versions → HasPushed l.w (contents_of family l.fn.form l.fn.collected_by (items_of (take l.v-index l.versions)));
 }

@@ -17,11 +17,14 @@ returns-in-Ok-2 g c = λ t h.
     let image = c.in_ok-image.image.items in
     let is : IsTable t image = spelled_table t image (c.in_ok-image.ensures t h.pushed h.some) h.sorted (omega arith) in
     let read = c.in-Ok.ensures in
-    (sym (read.1.only t is), subst (IsTable t) (sym read.0) is, ?)
+    let wrote = subst (λ (b : List ℕ). WritesSynced g.F.DiskFile 0 b c.args.file.now c.write_image.new.file (Ok tt)) c.bytes.ensures c.in-Ok-2.ensures in
+    (sym (read.1.only t is), subst (IsTable t) (sym read.0) is, wrote)
 
 pub returns-in-Err : goal.returns-in-Err
 returns-in-Err g c = λ t h.
     let image = c.in_ok-image.image.items in
     let is : IsTable t image = spelled_table t image (c.in_ok-image.ensures t h.pushed h.some) h.sorted (omega arith) in
     let read = c.in-Ok.ensures in
-    (image, ?, (is, ?))
+    let failed = c.in-Err.field-0 in
+    let wrote = subst (λ (b : List ℕ). WritesSynced g.F.DiskFile 0 b c.args.file.now c.write_image.new.file (Err failed)) c.bytes.ensures c.in-Err.ensures in
+    (c.in-Ok.table.image, failed, (subst (IsTable t) (sym read.0) is, wrote))
