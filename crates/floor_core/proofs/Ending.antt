@@ -117,6 +117,24 @@ end_left c job pieces tables h e some =
     ∙ ap (λ o. record c { store = with_live_numbers (with_compaction c.store o pieces) }) e
     ∙ sym (ap (λ b. record c { store = if b then with_live_numbers (effect c.store (c.events + 1) (CompactEnd pieces)) else c.store }) (end_accepted c job pieces tables h e some))
 
+pub halted_told : (c : CoreState) (pieces : List Piece) → true ≡ is_some c.store.halted → replies.Refused ≡ told c (CompactEnd pieces)
+halted_told c pieces e = (end_refused c pieces (refused_halted c pieces e)).0
+
+pub halted_stays : (c : CoreState) (pieces : List Piece) → true ≡ is_some c.store.halted → c ≡ changed_by c (CompactEnd pieces)
+halted_stays c pieces e = (end_refused c pieces (refused_halted c pieces e)).1
+
+pub idle_told : (c : CoreState) (pieces : List Piece) → None ≡ c.store.compaction → replies.Refused ≡ told c (CompactEnd pieces)
+idle_told c pieces e = (end_refused c pieces (refused_no_job c pieces e)).0
+
+pub idle_stays : (c : CoreState) (pieces : List Piece) → None ≡ c.store.compaction → c ≡ changed_by c (CompactEnd pieces)
+idle_stays c pieces e = (end_refused c pieces (refused_no_job c pieces e)).1
+
+pub parts_told : (c : CoreState) (job : Compaction) (pieces : List Piece) → Some job ≡ c.store.compaction → None ≡ tables_behind c.store job pieces → replies.Refused ≡ told c (CompactEnd pieces)
+parts_told c job pieces e none = (end_refused c pieces (refused_pieces c job pieces e none)).0
+
+pub parts_stay : (c : CoreState) (job : Compaction) (pieces : List Piece) → Some job ≡ c.store.compaction → None ≡ tables_behind c.store job pieces → c ≡ changed_by c (CompactEnd pieces)
+parts_stay c job pieces e none = (end_refused c pieces (refused_pieces c job pieces e none)).1
+
 -- ---- the end of a flush
 
 pub flush_told : (c : CoreState) (table : ℕ) → true ≡ is_accepted c (FlushEnd table) → replies.Done ≡ told c (FlushEnd table)
@@ -136,6 +154,12 @@ no_flush c table e none =
     on : (a b : Bool) → true ≡ ((a && false) && b) → ⊥
     on true b e = cc
     on false b e = cc
+
+pub flush_idle_told : (c : CoreState) (table : ℕ) → true ≡ is_accepted c (FlushEnd table) → None ≡ c.store.flush → replies.Refused ≡ told c (FlushEnd table)
+flush_idle_told c table y e = absurd (no_flush c table y e)
+
+pub flush_idle_stays : (c : CoreState) (table : ℕ) → true ≡ is_accepted c (FlushEnd table) → None ≡ c.store.flush → c ≡ changed_by c (FlushEnd table)
+flush_idle_stays c table y e = absurd (no_flush c table y e)
 
 pub flush_left : (c : CoreState) (job : Flush) (table : ℕ) (made : LiveTable) (floor : Ts) → true ≡ is_accepted c (FlushEnd table) → Some job ≡ c.store.flush → made ≡ record { number = table; level = 0; versions = flush_kept c.store job } → floor ≡ flush_floor c.store job
     → record c { store = with_live_numbers (record c.store { families = changed_at job.family.0 (flushed made job.through floor) c.store.families; flush = None }) } ≡ changed_by c (FlushEnd table)

@@ -11,4 +11,5 @@ pub mod Flushes
 pub mod Picked
 pub mod Plans
 pub mod Ending
+pub mod Begun
 pub mod CoreRows

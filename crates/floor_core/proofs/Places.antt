@@ -27,7 +27,7 @@ has_more : (n : ℕ) (xs ys : List ℕ) → has_number (xs ++ ys) n ≡ (has_num
 has_more n [] ys = refl
 has_more n (x ∷ xs) ys = ap (λ b. (x == n) || b) (has_more n xs ys) ∙ sym (or_assoc (x == n) (has_number xs n) (has_number ys n))
 
-has_mapped : (n : ℕ) (ts : List LiveTable) → list_any (λ (t : LiveTable). t.number == n) ts ≡ has_number (numbers_of ts) n
+pub has_mapped : (n : ℕ) (ts : List LiveTable) → list_any (λ (t : LiveTable). t.number == n) ts ≡ has_number (numbers_of ts) n
 has_mapped n [] = refl
 has_mapped n (t ∷ ts) = ap (λ b. (t.number == n) || b) (has_mapped n ts)
 

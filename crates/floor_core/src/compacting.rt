@@ -1,6 +1,7 @@
 //! What compactions take and make.
 ghost use Rattle.std.specs.Prelude.{◌≡◌, ◌≤◌, ◌∷◌, ◌&&◌, ◌||◌, ◌++◌, [], drop, filter, flat_map, length, nat_lt, not, if◌then◌else◌, IfOk, OnOk};
 ghost use Rattle.std.specs.List.{list_all, list_any};
+ghost use Rattle.std.specs.Str.{bytes_eq};
 ghost use Rattle.udt_model.specs.Jobs.{are_new as have_new, goes_with as goes, has_number, is_amid as amid, is_ascending as ascends, is_input as input, is_wanted, numbers_of_pieces, spans_of};
 ghost use Rattle.udt_model.specs.Orders.{higher_of, joined, lower_of, meets as meet, span_of as spans, span_of_key};
 ghost use Rattle.udt_model.specs.State.{numbers_of};
@@ -377,6 +378,13 @@ pub(crate) fn are_new(used: Vec<u64>, pieces: &[Piece]) -> Result<bool, NoMemory
     Ok(true)
 }
 
+/// Whether the versions are of different keys.
+fn differ(a: &Version, b: &Version) -> bool
+    ensures { result ≡ not (bytes_eq a.now.key b.now.key) }
+{
+    a.key.bytes() != b.key.bytes()
+}
+
 /// Whether the versions from a place on may be parted behind so many.
 fn fits(versions: &[Version], start: usize, count: u64) -> bool
     requires { start ≤ length versions.now }
@@ -389,7 +397,7 @@ fn fits(versions: &[Version], start: usize, count: u64) -> bool
     if end == versions.len() {
         return true;
     }
-    versions[end - 1].key.bytes() != versions[end].key.bytes()
+    differ(&versions[end - 1], &versions[end])
 }
 
 /// A table of copies of the versions.

@@ -194,6 +194,7 @@ pub(crate) fn add_flushed(
 ) -> Result<(), NoMemory>
     ensures ok { OnOk result (families.new.items ≡ changed_at family.0 (flushed table through floor) families.old.items) }
     ensures err { OnErr result (families.new.items ≡ families.old.items) }
+    ensures count { length families.new.items ≡ length families.old.items }
 {
     let place = family.0 as usize;
     if place >= families.len() {

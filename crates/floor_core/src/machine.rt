@@ -16,7 +16,7 @@ use crate::flushing::{add_flushed, floor_over, flush_versions, join_all};
 use crate::lists::{append, append_contents, between_of};
 use crate::parts::{
     CoreCompaction, CoreFamily, CoreFlush, CorePinned, CoreSnap, CoreTable, CoreView, FlushMade,
-    copy_numbers, forget, fresh_families, is_live_in, live_numbers, set_floor, set_tables,
+    copy_numbers, fresh_families, is_live_in, live_numbers, other_snaps, set_floor, set_tables,
 };
 use collection_laws::plain_collect;
 use std::alloc::AllocError;
@@ -73,6 +73,7 @@ fn version_of(op: &WriteOp, sequence: u64) -> Result<Version, NoMemory>
 impl Core {
     /// The core before every event, with families of these forms, whose numbers are their places. `NoMemory` comes where there is
     /// no memory, and for more families than 32 bits number.
+    #[tactic(auto, using(crate::proofs::Begun::fresh_is))]
     pub fn fresh(forms: Vec<Form>) -> Result<Core, NoMemory>
         ensures { IfOk result (λ core. core ≡ fresh_core forms.items) }
     {
@@ -334,15 +335,17 @@ impl Core {
         Ok(CoreReply::Done)
     }
 
-    fn release(&mut self, id: u64) -> CoreReply
-        ensures told { result ≡ told self.old (CoreEvent.Release id) }
-        ensures left { self.new ≡ changed_by self.old (CoreEvent.Release id) }
+    fn release(&mut self, id: u64) -> Result<CoreReply, NoMemory>
+        ensures told { IfOk result (λ reply. reply ≡ told self.old (CoreEvent.Release id)) }
+        ensures left { OnOk result (self.new ≡ changed_by self.old (CoreEvent.Release id)) }
+        ensures kept { OnErr result (self.new ≡ self.old) }
     {
         if !self.is_registered(id) {
-            return CoreReply::Refused;
+            return Ok(CoreReply::Refused);
         }
-        forget(&mut self.snaps, id);
-        CoreReply::Done
+        let kept = other_snaps(*self.snaps.allocator(), &self.snaps, id)?;
+        self.snaps = kept;
+        Ok(CoreReply::Done)
     }
 
     /// What a view keeps of a family of now.
@@ -692,7 +695,7 @@ impl Core {
             } => self.get(*family, key, *t, *snap),
             CoreEvent::Raise { family, floor } => Ok(self.raise(*family, *floor)),
             CoreEvent::Snap => self.snap(),
-            CoreEvent::Release { id } => Ok(self.release(*id)),
+            CoreEvent::Release { id } => self.release(*id),
             CoreEvent::Pin => self.pin(),
             CoreEvent::PinnedGet {
                 pin,

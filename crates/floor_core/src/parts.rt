@@ -1,5 +1,5 @@
 //! Parts of the core's state.
-ghost use Rattle.std.specs.Prelude.{◌≡◌, ◌==◌, ◌++◌, not, filter, flat_map, map, IfOk, OnOk};
+ghost use Rattle.std.specs.Prelude.{◌≡◌, ◌==◌, ◌++◌, ◌∷◌, [], if◌then◌else◌, not, filter, flat_map, length, map, IfOk, OnOk};
 ghost use Rattle.std.specs.List.{list_any};
 ghost use Rattle.udt_model.specs.State.{changed_at, numbers_of, unflushed_family, with_floor};
 ghost use Rattle.udt_model.specs.Jobs.{has_number};
@@ -143,7 +143,8 @@ impl Model for CoreView {
 
 /// Sets the floor of a family, where there is one of this number.
 pub(crate) fn set_floor(families: &mut Vec<CoreFamily>, family: Family, floor: Ts)
-    ensures { families.new.items ≡ changed_at family.0 (with_floor floor) families.old.items }
+    ensures set { families.new.items ≡ changed_at family.0 (with_floor floor) families.old.items }
+    ensures count { length families.new.items ≡ length families.old.items }
 {
     let place = family.0 as usize;
     if place < families.len() {
@@ -159,11 +160,33 @@ fn is_other(s: &CoreSnap, id: u64) -> bool
     s.event != id
 }
 
-/// Takes the snapshots of this number out.
-pub(crate) fn forget(snaps: &mut Vec<CoreSnap>, id: u64)
-    ensures { snaps.new.items ≡ filter (λ s. not (s.event == id)) snaps.old.items }
+/// Appends a copy of a snapshot where it is kept.
+fn push_snap(kept: &mut Vec<CoreSnap>, s: &CoreSnap, keep: bool) -> Result<(), NoMemory>
+    ensures { OnOk result (kept.new.items ≡ (if keep then kept.old.items ++ s.now ∷ [] else kept.old.items)) }
 {
-    snaps.retain(|s| is_other(s, id));
+    if !keep {
+        return Ok(());
+    }
+    kept.push(CoreSnap {
+        event: s.event,
+        seq: s.seq,
+    })?;
+    Ok(())
+}
+
+/// The snapshots of other numbers.
+pub(crate) fn other_snaps(
+    alloc: Global,
+    snaps: &[CoreSnap],
+    id: u64,
+) -> Result<Vec<CoreSnap>, NoMemory>
+    ensures { IfOk result (λ kept. kept.items ≡ filter (λ s. not (s.event == id)) snaps.now) }
+{
+    let mut kept = Vec::new(alloc);
+    for s in snaps {
+        push_snap(&mut kept, s, is_other(s, id))?;
+    }
+    Ok(kept)
 }
 
 /// Whether a table of the family has this number.
@@ -189,7 +212,8 @@ pub(crate) fn is_live_in(families: &[CoreFamily], table: u64) -> bool
 
 /// Sets the tables of a family, where there is one of this number.
 pub(crate) fn set_tables(families: &mut Vec<CoreFamily>, family: Family, tables: Vec<CoreTable>)
-    ensures { families.new.items ≡ changed_at family.0 (holding tables.items) families.old.items }
+    ensures set { families.new.items ≡ changed_at family.0 (holding tables.items) families.old.items }
+    ensures count { length families.new.items ≡ length families.old.items }
 {
     let place = family.0 as usize;
     if place < families.len() {
