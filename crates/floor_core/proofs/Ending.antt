@@ -169,3 +169,9 @@ flush_left c job table made floor y e is left =
     ∙ ap (λ (z : Ts). record c { store = with_live_numbers (record m { families = changed_at job.family.0 (flushed (record { number = table; level = 0; versions = flush_kept m job }) job.through z) m.families; flush = None }) }) left
     ∙ ap (λ o. record c { store = with_live_numbers (flush_ended m o table) }) e
     ∙ sym (ap (λ b. record c { store = if b then with_live_numbers (effect m (c.events + 1) (FlushEnd table)) else m }) (sym y))
+
+-- the same of a list of families that is known to be that
+pub end_left_by : (c : CoreState) (job : Compaction) (pieces : List Piece) (tables : List LiveTable) (fs : List FamilyState) → fs ≡ changed_at job.family.0 (holding tables) c.store.families
+    → false ≡ is_some c.store.halted → Some job ≡ c.store.compaction → Some tables ≡ tables_behind c.store job pieces → record c { store = with_live_numbers (record c.store { families = fs; compaction = None }) } ≡ changed_by c (CompactEnd pieces)
+end_left_by c job pieces tables fs is h e some =
+    ap (λ (z : List FamilyState). record c { store = with_live_numbers (record c.store { families = z; compaction = None }) }) is ∙ end_left c job pieces tables h e some

@@ -140,19 +140,20 @@ pub(crate) fn floor_over(form: Form, floor: Ts, taken: &[Version]) -> Result<Ts,
     }
 }
 
-/// The place of the first table whose number isn't below this one.
-fn first_from(tables: &[CoreTable], number: u64) -> Option<usize>
-    ensures { result ≡ position (λ o. not (nat_lt o.number number)) tables.now }
+/// The place of the first table whose number isn't below that of this one.
+fn first_from(tables: &[CoreTable], table: &CoreTable) -> Option<usize>
+    ensures { result ≡ position (λ o. not (nat_lt o.number table.now.number)) tables.now }
 {
+    let number = table.number;
     tables.iter().position(|o| !(o.number < number))
 }
 
 /// The same, or behind the last.
-fn place_from(tables: &[CoreTable], number: u64) -> usize
-    ensures place { result ≡ position_or_len (λ o. not (nat_lt o.number number)) tables.now }
+fn place_from(tables: &[CoreTable], table: &CoreTable) -> usize
+    ensures place { result ≡ position_or_len (λ o. not (nat_lt o.number table.now.number)) tables.now }
     ensures within { result ≤ length tables.now }
 {
-    match first_from(tables, number) {
+    match first_from(tables, table) {
         Some(place) => place,
         None => tables.len(),
     }
@@ -163,7 +164,7 @@ fn join(tables: &mut Vec<CoreTable>, table: CoreTable) -> Result<(), NoMemory>
     ensures ok { OnOk result (tables.new.items ≡ with_table table tables.old.items) }
     ensures err { OnErr result (tables.new.items ≡ tables.old.items) }
 {
-    let place = place_from(tables.as_slice(), table.number);
+    let place = place_from(tables.as_slice(), &table);
     tables.insert(place, table)?;
     Ok(())
 }
