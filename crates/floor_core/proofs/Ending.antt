@@ -84,22 +84,6 @@ none_halted : (o : Option ℕ) → false ≡ is_some o → is_none o ≡ true
 none_halted None e = refl
 none_halted (Some n) e = absurd (cc)
 
--- a refused end
-pub end_refused : (c : CoreState) (pieces : List Piece) → is_accepted c (CompactEnd pieces) ≡ false → (replies.Refused ≡ told c (CompactEnd pieces)) × (c ≡ changed_by c (CompactEnd pieces))
-end_refused c pieces e = (
-  sym (ap (λ b. if b then replies.Done else replies.Refused) e),
-  sym (ap (λ b. record c { store = if b then with_live_numbers (effect c.store (c.events + 1) (CompactEnd pieces)) else c.store }) e),
-)
-
-pub refused_halted : (c : CoreState) (pieces : List Piece) → true ≡ is_some c.store.halted → is_accepted c (CompactEnd pieces) ≡ false
-refused_halted c pieces e = first_false _ _ _ (halt_is c.store.halted ∙ some_halted c.store.halted e)
-
-pub refused_no_job : (c : CoreState) (pieces : List Piece) → None ≡ c.store.compaction → is_accepted c (CompactEnd pieces) ≡ false
-refused_no_job c pieces e = no_job c pieces (sym e)
-
-pub refused_pieces : (c : CoreState) (job : Compaction) (pieces : List Piece) → Some job ≡ c.store.compaction → None ≡ tables_behind c.store job pieces → is_accepted c (CompactEnd pieces) ≡ false
-refused_pieces c job pieces e none = test_is c job pieces (sym e) ∙ rest_false _ _ _ (none_behind c job pieces none)
-
 pub end_accepted : (c : CoreState) (job : Compaction) (pieces : List Piece) (tables : List LiveTable) → false ≡ is_some c.store.halted → Some job ≡ c.store.compaction → Some tables ≡ tables_behind c.store job pieces
     → is_accepted c (CompactEnd pieces) ≡ true
 end_accepted c job pieces tables h e some = test_is c job pieces (sym e) ∙ rest_true _ _ _ (none_halted c.store.halted h) (some_behind c job pieces tables some).0
@@ -116,24 +100,6 @@ end_left c job pieces tables h e some =
     ap (λ z. record c { store = with_live_numbers (record c.store { families = z; compaction = None }) }) same
     ∙ ap (λ o. record c { store = with_live_numbers (with_compaction c.store o pieces) }) e
     ∙ sym (ap (λ b. record c { store = if b then with_live_numbers (effect c.store (c.events + 1) (CompactEnd pieces)) else c.store }) (end_accepted c job pieces tables h e some))
-
-pub halted_told : (c : CoreState) (pieces : List Piece) → true ≡ is_some c.store.halted → replies.Refused ≡ told c (CompactEnd pieces)
-halted_told c pieces e = (end_refused c pieces (refused_halted c pieces e)).0
-
-pub halted_stays : (c : CoreState) (pieces : List Piece) → true ≡ is_some c.store.halted → c ≡ changed_by c (CompactEnd pieces)
-halted_stays c pieces e = (end_refused c pieces (refused_halted c pieces e)).1
-
-pub idle_told : (c : CoreState) (pieces : List Piece) → None ≡ c.store.compaction → replies.Refused ≡ told c (CompactEnd pieces)
-idle_told c pieces e = (end_refused c pieces (refused_no_job c pieces e)).0
-
-pub idle_stays : (c : CoreState) (pieces : List Piece) → None ≡ c.store.compaction → c ≡ changed_by c (CompactEnd pieces)
-idle_stays c pieces e = (end_refused c pieces (refused_no_job c pieces e)).1
-
-pub parts_told : (c : CoreState) (job : Compaction) (pieces : List Piece) → Some job ≡ c.store.compaction → None ≡ tables_behind c.store job pieces → replies.Refused ≡ told c (CompactEnd pieces)
-parts_told c job pieces e none = (end_refused c pieces (refused_pieces c job pieces e none)).0
-
-pub parts_stay : (c : CoreState) (job : Compaction) (pieces : List Piece) → Some job ≡ c.store.compaction → None ≡ tables_behind c.store job pieces → c ≡ changed_by c (CompactEnd pieces)
-parts_stay c job pieces e none = (end_refused c pieces (refused_pieces c job pieces e none)).1
 
 -- ---- the end of a flush
 
