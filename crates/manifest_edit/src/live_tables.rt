@@ -1,6 +1,6 @@
 //! The live tables of a family, by ascending number.
 
-ghost use Rattle.std.specs.Prelude.{◌≡◌, [], length, OnOk, OnErr};
+ghost use Rattle.std.specs.Prelude.{◌≡◌, [], length, IfOk, OnOk, OnErr};
 ghost use Rattle.manifest_edit.specs.LiveTables.{has_table_number, place_table, place_tables, without_table, without_tables};
 
 use crate::{NoMemory, TableAt};
@@ -45,6 +45,28 @@ impl LiveTables {
         self.levels.len()
     }
 
+    /// The tables, by ascending number.
+    pub fn to_vec(&self, alloc: Global) -> Result<Vec<TableAt>, NoMemory>
+        ensures { IfOk result (λ tables. tables.items ≡ self.now) }
+    {
+        self.levels
+            .iter()
+            .map(|(number, level)| TableAt {
+                level: *level,
+                number: *number,
+            })
+            .collect(alloc)
+    }
+
+    /// The same tables. It costs time linear in their count.
+    pub fn copy(&self) -> Result<LiveTables, NoMemory>
+        ensures { IfOk result (λ tables. tables ≡ self.now) }
+    {
+        Ok(LiveTables {
+            levels: self.levels.clone()?,
+        })
+    }
+
     /// Is one of this number there? It costs the logarithm of their count.
     pub fn has(&self, number: u64) -> bool
         ensures { result ≡ has_table_number self.now number }
@@ -69,7 +91,7 @@ impl LiveTables {
         let _level = self.levels.remove(&number);
     }
 
-    /// Puts tables at their places, one after another.
+    /// Puts tables at their places, one after another. Where memory runs out some of them may be there.
     pub fn insert_all(&mut self, tables: &[TableAt]) -> Result<(), NoMemory>
         ensures { OnOk result (self.new ≡ place_tables tables.now self.old) }
     {

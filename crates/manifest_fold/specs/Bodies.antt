@@ -12,6 +12,10 @@ pub record LeadsTo (fold : Folded) (body : List ℕ) (next : Folded) : Type 0 wh
   pub accepted : IsAccepted fold edit
   pub is : next ≡ fold_with fold edit
 
+-- the body is no edit, or none that the fold accepts
+abbrev pub LeadsNowhere : Folded → List ℕ → Type 0
+LeadsNowhere fold body = (next : Folded) → LeadsTo fold body next → ⊥
+
 -- these bodies, one after another, lead from one fold to the other
 abbrev pub LeadAll : Folded → List (List ℕ) → Folded → Type 0
 LeadAll fold [] end = end ≡ fold

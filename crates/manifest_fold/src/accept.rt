@@ -1,6 +1,6 @@
 //! Which edits a fold accepts.
 
-ghost use Rattle.std.specs.Prelude.{◌≡◌, ◌<◌, ◌≤◌, ◌==◌, ◌↔◌, IsTrue, All, map, take, length};
+ghost use Rattle.std.specs.Prelude.{◌≡◌, ◌<◌, ◌≤◌, ◌==◌, ◌↔◌, IsTrue, All, map, take, length, slice_index};
 ghost use Rattle.std.specs.List.{list_any};
 ghost use Rattle.std.specs.List.Sorted.{IsStrictlyIncreasing};
 ghost use Rattle.manifest_fold.specs.Folds.{IsAccepted, IsLogsEdit, IsPart, IsOnePart, IsTablesEdit, IsFree, is_live, newest_log};
@@ -8,7 +8,7 @@ ghost use Rattle.manifest_edit.specs.LiveTables.{has_table_number};
 ghost use Rattle.manifest_edit.specs.declared.edit.TableAt.{TableAt as Table};
 
 use crate::{FamilyFold, Folded};
-use manifest_edit::{Edit, FamilyEdit, TableAt, LiveTables};
+use manifest_edit::{Edit, FamilyEdit, LiveTables, TableAt};
 use ts_key::SEQUENCE_LIMIT;
 
 /// The greatest number that the next file may have.
@@ -120,12 +120,21 @@ fn accepts_tables(families: &[FamilyFold], next: u64, old: &FamilyFold, part: &F
         && are_free(families, remove, add)
 }
 
+/// The number of the table at an index.
+#[tactic(auto, using(crate::proofs::Ascending::number_there))]
+fn number_at(tables: &[TableAt], i: usize) -> u64
+    requires { i < length tables.now }
+    ensures { result ≡ slice_index (map (λ (t : Table). t.number) tables.now) i }
+{
+    tables[i].number
+}
+
 /// Does each table's number stand below the next one's?
 fn ascend_by_number(tables: &[TableAt]) -> bool
     ensures { IsTrue result ↔ IsStrictlyIncreasing (map (λ (t : Table). t.number) tables.now) }
 {
     for i in 1..tables.len() {
-        if tables[i - 1].number >= tables[i].number {
+        if number_at(tables, i - 1) >= number_at(tables, i) {
             return false;
         }
     }

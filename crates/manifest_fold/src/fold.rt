@@ -5,6 +5,7 @@ ghost use Rattle.manifest_fold.specs.Folds.{family_with, fold_with, logs_with, o
 
 use crate::NoMemory;
 use manifest_edit::{Edit, FamilyEdit, LiveTables};
+use std::alloc::Global;
 use ts_key::{Form, Name, Seq, Ts};
 use udt_model::Items;
 
@@ -29,6 +30,19 @@ pub struct Folded {
 }
 
 impl FamilyFold {
+    /// The same family. It shares the name's bytes.
+    fn copy(&self) -> Result<FamilyFold, NoMemory>
+        ensures { IfOk result (λ family. family ≡ self.now) }
+    {
+        Ok(FamilyFold {
+            name: self.name.copy()?,
+            form: self.form,
+            floor: self.floor,
+            through: self.through,
+            tables: self.tables.copy()?,
+        })
+    }
+
     /// Makes of the family what the edit says. It costs the logarithm of the live tables for each table and number of the edit.
     fn change(&mut self, edit: &FamilyEdit) -> Result<(), NoMemory>
         ensures { OnOk result (self.new ≡ family_with self.old edit.now) }
@@ -41,6 +55,20 @@ impl FamilyFold {
 }
 
 impl Folded {
+    /// The same fold. It costs time linear in the live tables and logs.
+    pub fn copy(&self, alloc: Global) -> Result<Folded, NoMemory>
+        ensures { IfOk result (λ fold. fold ≡ self.now) }
+    {
+        let families = same_families(alloc, self.families.as_slice())?;
+        let logs = self.logs.as_slice().to_vec(alloc)?;
+        Ok(Folded {
+            families: Items::of(families),
+            logs: Items::of(logs),
+            next_file: self.next_file,
+            last: self.last,
+        })
+    }
+
     /// What the edit makes of the fold. It costs time linear in the edit times the logarithm of the live tables, and linear in
     /// the live logs where it drops one.
     pub fn with(self, edit: &Edit) -> Result<Folded, NoMemory>
@@ -58,6 +86,17 @@ impl Folded {
             last: edit.last,
         })
     }
+}
+
+/// The same families.
+fn same_families(alloc: Global, families: &[FamilyFold]) -> Result<Vec<FamilyFold>, NoMemory>
+    ensures { IfOk result (λ copied. copied.items ≡ families.now) }
+{
+    let mut copied = Vec::new(alloc);
+    for family in families {
+        copied.push(family.copy()?)?;
+    }
+    Ok(copied)
 }
 
 /// The families, one of them changed.

@@ -2,9 +2,11 @@
 #![tactic(auto)]
 
 pub mod accept;
+pub mod body;
 pub mod fold;
 
 pub use accept::{FILE_LIMIT, LOWEST_LEVEL};
+pub use body::fold_body;
 pub use fold::{FamilyFold, Folded};
 
 /// Memory ran out.

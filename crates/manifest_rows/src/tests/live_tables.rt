@@ -1,6 +1,6 @@
 //! The live tables of a family.
 
-use manifest_edit::{NoMemory, TableAt, LiveTables};
+use manifest_edit::{LiveTables, NoMemory, TableAt};
 use std::alloc::Global;
 use std::test::Fail;
 
