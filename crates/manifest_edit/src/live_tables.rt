@@ -45,19 +45,6 @@ impl LiveTables {
         self.levels.len()
     }
 
-    /// The tables, by ascending number.
-    pub fn to_vec(&self, alloc: Global) -> Result<Vec<TableAt>, NoMemory>
-        ensures { IfOk result (λ tables. tables.items ≡ self.now) }
-    {
-        self.levels
-            .iter()
-            .map(|(number, level)| TableAt {
-                level: *level,
-                number: *number,
-            })
-            .collect(alloc)
-    }
-
     /// The same tables. It costs time linear in their count.
     pub fn copy(&self) -> Result<LiveTables, NoMemory>
         ensures { IfOk result (λ tables. tables ≡ self.now) }
