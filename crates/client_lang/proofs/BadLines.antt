@@ -16,18 +16,18 @@ use Rattle.client_lang.specs.Grammar.{IsLine, AreLines, AreCommands, IsBadLine, 
 abbrev IsSpelled : List ℕ → Type 0
 IsSpelled line = (command : Command) × IsLine line command
 
-kept_first : (l : List ℕ) (ls : List (List ℕ)) (commands : List Command) → wants_command l ≡ true → AreLines (l ∷ ls) commands → IsSpelled l × ((es : List Command) × AreLines ls es)
-kept_first l ls [] k h = absurd (rw k at h)
-kept_first l ls (e ∷ es) k h = let p = rw k at h in ((e, p.0), (es, p.1))
+wanted_first : (l : List ℕ) (ls : List (List ℕ)) (commands : List Command) → wants_command l ≡ true → AreLines (l ∷ ls) commands → IsSpelled l × ((es : List Command) × AreLines ls es)
+wanted_first l ls [] k h = absurd (rw k at h)
+wanted_first l ls (e ∷ es) k h = let p = rw k at h in ((e, p.0), (es, p.1))
 
--- of lines with commands, each one that is kept is a command
+-- of lines with commands, each one that wants a command is one
 is_spelled : (lines : List (List ℕ)) (commands : List Command) (i : ℕ) → AreLines lines commands → i < length lines → wants_command (get_or lines i []) ≡ true → IsSpelled (get_or lines i [])
-is_spelled [] commands i h lt kept = absurd (omega arith)
-is_spelled (l ∷ ls) commands zero h lt kept = (kept_first l ls commands kept h).0
-is_spelled (l ∷ ls) commands (suc i) h lt kept =
+is_spelled [] commands i h lt wanted = absurd (omega arith)
+is_spelled (l ∷ ls) commands zero h lt wanted = (wanted_first l ls commands wanted h).0
+is_spelled (l ∷ ls) commands (suc i) h lt wanted =
     elim (cases_Bool (wants_command l)) [
-      | inl k ↦ (let p = kept_first l ls commands k h in is_spelled ls p.1.0 i p.1.1 (omega arith) kept)
-      | inr k ↦ is_spelled ls commands i (rw k at h) (omega arith) kept
+      | inl k ↦ (let p = wanted_first l ls commands k h in is_spelled ls p.1.0 i p.1.1 (omega arith) wanted)
+      | inr k ↦ is_spelled ls commands i (rw k at h) (omega arith) wanted
     ]
 
 -- a front of lines with commands has commands too, and no more
@@ -59,7 +59,7 @@ bad_ends lines n b =
       counted = b.place.0;
       before = b.before;
       none = λ commands h.
-          let p = rw there at (is_spelled (take n lines) commands (n - 1) h.lines_are long (rw there b.kept)) in
+          let p = rw there at (is_spelled (take n lines) commands (n - 1) h.lines_are long (rw there b.wanted)) in
           b.bad p.0 p.1;
     }
 
@@ -68,14 +68,14 @@ many_ends lines n t =
     let lt : n - 1 < length lines = omega (arith, t.place.0, t.place.1) in
     let step : n - 1 + 1 ≡ n = omega (arith, t.place.0) in
     let whole : take n lines ≡ take (n - 1) lines ++ get_or lines (n - 1) [] ∷ [] = ap (λ (k : ℕ). take k lines) (sym step) ∙ take_more lines (n - 1) [] lt in
-    let kept : filter wants_command (take n lines) ≡ filter wants_command (take (n - 1) lines) ++ get_or lines (n - 1) [] ∷ [] = ap (filter wants_command) whole ∙ keeps_last (take (n - 1) lines) (get_or lines (n - 1) []) t.kept in
+    let wanted : filter wants_command (take n lines) ≡ filter wants_command (take (n - 1) lines) ++ get_or lines (n - 1) [] ∷ [] = ap (filter wants_command) whole ∙ keeps_last (take (n - 1) lines) (get_or lines (n - 1) []) t.wanted in
     record {
       counted = t.place.0;
       before = (t.before.0, t.before.1);
       none = λ commands h.
           let all = AllZip-long IsLine (filter wants_command (take n lines)) commands h.lines_are in
           let front = AllZip-long IsLine (filter wants_command (take (n - 1) lines)) t.before.0 t.before.1.lines_are in
-          let size = ap length kept ∙ length_push (filter wants_command (take (n - 1) lines)) (get_or lines (n - 1) []) in
+          let size = ap length wanted ∙ length_push (filter wants_command (take (n - 1) lines)) (get_or lines (n - 1) []) in
           let full = t.before.2 in
           let few = h.few in
           omega arith;

@@ -27,7 +27,7 @@ record Prints (words : List (List ℕ)) (o : NamedOp) : Type 0 where
   words_are : words ≡ op_words o
   typed : IsTypedOp o
 
-ts_back : (s t : Ts) → IsNat64 s.0 → IsNat64 t.0 → decimal s.0 ≡ decimal t.0 → s ≡ t
+pub ts_back : (s t : Ts) → IsNat64 s.0 → IsNat64 t.0 → decimal s.0 ≡ decimal t.0 → s ≡ t
 ts_back s t p q e = ap at_ts (number_back s.0 t.0 p q e)
 
 words_once : (f g k l : List ℕ) (s t : Ts) (x y : Op) → IsTypedOp (named f k s x) → IsTypedOp (named g l t y) → op_words_of (named f k s x) x ≡ op_words_of (named g l t y) y → named f k s x ≡ named g l t y

@@ -13,3 +13,4 @@ pub mod Spelling
 pub mod EventsByWords
 pub mod RepliesByWords
 pub mod LinesByText
+pub mod Transcripts

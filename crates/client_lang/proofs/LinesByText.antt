@@ -86,7 +86,7 @@ words_back k l p q e =
 
 -- ---- one list of words of a text
 
-abbrev all_clear : List (List ℕ) → Bool
+abbrev pub all_clear : List (List ℕ) → Bool
 all_clear words = list_all is_clear words
 
 line_clear : (l : Line) → IsTypedLine l → all_clear (line_words l) ≡ true
@@ -116,7 +116,7 @@ word_once u v s t a b p q e =
 cons_words : (u v : List ℕ) (us vs : List (List ℕ)) → u ≡ v → us ≡ vs → u ∷ us ≡ v ∷ vs
 cons_words u v us vs p q = rw (p, q) refl
 
-followed_once : (us vs : List (List ℕ)) (s t : List ℕ) → all_clear us ≡ true → all_clear vs ≡ true → followed us ++ 10 ∷ s ≡ followed vs ++ 10 ∷ t → (us ≡ vs) × (s ≡ t)
+pub followed_once : (us vs : List (List ℕ)) (s t : List ℕ) → all_clear us ≡ true → all_clear vs ≡ true → followed us ++ 10 ∷ s ≡ followed vs ++ 10 ∷ t → (us ≡ vs) × (s ≡ t)
 followed_once [] [] s t a b e = (refl, ap (drop 1) e)
 followed_once [] (v ∷ vs) s t a b e = let h = ap (λ (x : List ℕ). get_or x 0 0) e in absurd (omega arith)
 followed_once (u ∷ us) [] s t a b e = let h = ap (λ (x : List ℕ). get_or x 0 0) e in absurd (omega arith)

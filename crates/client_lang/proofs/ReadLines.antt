@@ -11,7 +11,8 @@ use Rattle.udt_model.specs.declared.event.Event.{Event}
 use Rattle.client_lang.specs.declared.command.Command.{Command}
 use Rattle.client_lang.specs.declared.command.Command.TheVariants.{Line}
 use Rattle.client_lang.specs.Print.{IsBuiltCommand}
-use Rattle.client_lang.specs.Grammar.{IsEvent, IsLine, AreLines, AreCommands, IsFile, IsBadLine, IsTooMany, wants_command, words_of, lines_of, without_empty_end, command_limit}
+use Rattle.client_lang.specs.Grammar.{IsEvent, IsLine, AreLines, AreCommands, IsFile, IsBadLine, IsTooMany, wants_command, words_of, lines_of, without_empty_end}
+use Rattle.client_lang.specs.declared.grammar.lines.TheConstants.{COMMAND_LIMIT}
 use Rattle.client_lang.proofs.OneEvent.{is_built, same_command}
 use Rattle.client_lang.specs.declared.grammar.lines.TheConstants.{FILE_LIMIT}
 
@@ -49,9 +50,9 @@ skips_last (l ∷ ls) line e =
 
 -- a line that is a command
 pub read_more : (lines : List (List ℕ)) (i : ℕ) (line : List ℕ) (commands : List Command) (command : Command) → i < length lines → line ≡ get_or lines i [] → ReadSoFar lines i commands → wants_command line ≡ true
-    → IsLine line command → length commands < command_limit → ReadSoFar lines (i + 1) (commands ++ command ∷ [])
-read_more lines i line commands command lt at h kept p room = record {
-  lines_are = rw (take_more lines i [] lt, ← at, keeps_last (take i lines) line kept) (AllZip-push IsLine (filter wants_command (take i lines)) commands line command h.lines_are p);
+    → IsLine line command → length commands < COMMAND_LIMIT → ReadSoFar lines (i + 1) (commands ++ command ∷ [])
+read_more lines i line commands command lt at h wanted p room = record {
+  lines_are = rw (take_more lines i [] lt, ← at, keeps_last (take i lines) line wanted) (AllZip-push IsLine (filter wants_command (take i lines)) commands line command h.lines_are p);
   few = let size = length_push commands command in omega arith;
 }
 
@@ -93,49 +94,49 @@ one_line : (b : ℕ) (line : List ℕ) → without_empty_end ((b ∷ line) ∷ [
 one_line b line = rw (isn't_empty b line) refl
 
 -- an empty part at the end is skipped
-kept_parts : (parts : List (List ℕ)) → filter wants_command (without_empty_end parts) ≡ filter wants_command parts
-kept_parts [] = refl
-kept_parts ([] ∷ []) = refl
-kept_parts ((b ∷ line) ∷ []) = ap (filter wants_command) (one_line b line)
-kept_parts (l ∷ next ∷ parts) =
+wanted_parts : (parts : List (List ℕ)) → filter wants_command (without_empty_end parts) ≡ filter wants_command parts
+wanted_parts [] = refl
+wanted_parts ([] ∷ []) = refl
+wanted_parts ((b ∷ line) ∷ []) = ap (filter wants_command) (one_line b line)
+wanted_parts (l ∷ next ∷ parts) =
     elim (cases_Bool (wants_command l)) [
-      | inl k ↦ rw (k, kept_parts (next ∷ parts)) refl
-      | inr k ↦ rw (k, kept_parts (next ∷ parts)) refl
+      | inl k ↦ rw (k, wanted_parts (next ∷ parts)) refl
+      | inr k ↦ rw (k, wanted_parts (next ∷ parts)) refl
     ]
 
 pub is_file : (bytes : List ℕ) (commands : List Command) → length bytes ≤ FILE_LIMIT → AreCommands (parts_of bytes) commands → IsFile bytes commands
 is_file bytes commands short h = record {
   short = short;
-  lines = subst (λ (kept : List (List ℕ)). AllZip IsLine kept commands) (sym (kept_parts (parts_of bytes))) h.lines_are;
+  lines = subst (λ (wanted : List (List ℕ)). AllZip IsLine wanted commands) (sym (wanted_parts (parts_of bytes))) h.lines_are;
   few = h.few;
 }
 
--- a part that is kept is a line, at the same place
+-- a part that wants a command is a line, at the same place
 record IsSamePlace (parts : List (List ℕ)) (i : ℕ) : Type 0 where
   within : i < length (without_empty_end parts)
   before : take i (without_empty_end parts) ≡ take i parts
   here : get_or (without_empty_end parts) i [] ≡ get_or parts i []
 
 same_place : (parts : List (List ℕ)) (i : ℕ) → i < length parts → wants_command (get_or parts i []) ≡ true → IsSamePlace parts i
-same_place [] i lt kept = absurd (omega arith)
-same_place ([] ∷ []) zero lt kept = cc kept
-same_place ((b ∷ line) ∷ []) zero lt kept = let e = one_line b line in record { within = rw e lt; before = refl; here = rw e refl }
-same_place (l ∷ []) (suc i) lt kept = absurd (omega arith)
-same_place (l ∷ next ∷ parts) zero lt kept = record { within = omega arith; before = refl; here = refl }
-same_place (l ∷ next ∷ parts) (suc i) lt kept =
-    let h = same_place (next ∷ parts) i (omega arith) kept in
+same_place [] i lt wanted = absurd (omega arith)
+same_place ([] ∷ []) zero lt wanted = cc wanted
+same_place ((b ∷ line) ∷ []) zero lt wanted = let e = one_line b line in record { within = rw e lt; before = refl; here = rw e refl }
+same_place (l ∷ []) (suc i) lt wanted = absurd (omega arith)
+same_place (l ∷ next ∷ parts) zero lt wanted = record { within = omega arith; before = refl; here = refl }
+same_place (l ∷ next ∷ parts) (suc i) lt wanted =
+    let h = same_place (next ∷ parts) i (omega arith) wanted in
     record { within = omega (arith, h.within); before = ap (λ (ls : List (List ℕ)). l ∷ ls) h.before; here = h.here }
 
 pub is_bad_line : (bytes line : List ℕ) (i : ℕ) (commands : List Command) → i < length (parts_of bytes) → line ≡ get_or (parts_of bytes) i [] → ReadSoFar (parts_of bytes) i commands → wants_command line ≡ true
     → ((command : Command) → IsLine line command → ⊥) → IsBadLine (lines_of bytes) (i + 1)
-is_bad_line bytes line i commands lt at h kept bad =
+is_bad_line bytes line i commands lt at h wanted bad =
     let e : i + 1 - 1 ≡ i = omega arith in
-    let s = same_place (parts_of bytes) i lt (rw (← at) kept) in
+    let s = same_place (parts_of bytes) i lt (rw (← at) wanted) in
     let here : get_or (lines_of bytes) i [] ≡ line = s.here ∙ sym at in
     record {
       place = (omega arith, omega (arith, s.within));
       before = rw e (commands, rw s.before h);
-      kept = rw (e, here) kept;
+      wanted = rw (e, here) wanted;
       bad = rw (e, here) bad;
     }
 
@@ -144,15 +145,15 @@ pub no_line : (line : List ℕ) → ((event : Event) → IsEvent (words_of line)
 no_line line none (Line event) p = none event p
 
 pub is_too_many : (bytes line : List ℕ) (i : ℕ) (commands : List Command) (command : Command) → i < length (parts_of bytes) → line ≡ get_or (parts_of bytes) i [] → ReadSoFar (parts_of bytes) i commands → wants_command line ≡ true
-    → IsLine line command → length commands ≡ command_limit → IsTooMany (lines_of bytes) (i + 1)
-is_too_many bytes line i commands command lt at h kept p full =
+    → IsLine line command → length commands ≡ COMMAND_LIMIT → IsTooMany (lines_of bytes) (i + 1)
+is_too_many bytes line i commands command lt at h wanted p full =
     let e : i + 1 - 1 ≡ i = omega arith in
-    let s = same_place (parts_of bytes) i lt (rw (← at) kept) in
+    let s = same_place (parts_of bytes) i lt (rw (← at) wanted) in
     let here : get_or (lines_of bytes) i [] ≡ line = s.here ∙ sym at in
     record {
       place = (omega arith, omega (arith, s.within));
       before = rw e (commands, rw s.before h, full);
-      kept = rw (e, here) kept;
+      wanted = rw (e, here) wanted;
       more = rw (e, here) (command, p);
     }
 

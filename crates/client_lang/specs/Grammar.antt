@@ -109,10 +109,6 @@ IsLine line command = IsCommand (words_of line) command
 
 -- ---- files
 
--- a command file has at most so many commands
-abbrev pub command_limit : ℕ
-command_limit = COMMAND_LIMIT
-
 -- the line wants a command: it is neither empty nor a comment, which are skipped
 abbrev pub wants_command : List ℕ → Bool
 wants_command [] = false
@@ -126,27 +122,27 @@ AreLines lines commands = AllZip IsLine (filter wants_command lines) commands
 pub record IsFile (bytes : List ℕ) (commands : List Command) : Type 0 where
   pub short : length bytes ≤ FILE_LIMIT
   pub lines : AreLines (lines_of bytes) commands
-  pub few : length commands ≤ command_limit
+  pub few : length commands ≤ COMMAND_LIMIT
 
 -- ---- the first line that ends a file
 
 -- the lines are these commands, and not too many
 pub record AreCommands (lines : List (List ℕ)) (commands : List Command) : Type 0 where
   pub lines_are : AreLines lines commands
-  pub few : length commands ≤ command_limit
+  pub few : length commands ≤ COMMAND_LIMIT
 
 -- the n-th line, counted from 1, is the first that is neither skipped nor a command
 pub record IsBadLine (lines : List (List ℕ)) (n : ℕ) : Type 0 where
   pub place : (0 < n) × (n ≤ length lines)
   pub before : (commands : List Command) × AreCommands (take (n - 1) lines) commands
-  pub kept : wants_command (slice_index_or lines (n - 1) []) ≡ true
+  pub wanted : wants_command (slice_index_or lines (n - 1) []) ≡ true
   pub bad : (command : Command) → IsLine (slice_index_or lines (n - 1) []) command → ⊥
 
 -- the n-th line, counted from 1, is a command behind as many as a file may have
 pub record IsTooMany (lines : List (List ℕ)) (n : ℕ) : Type 0 where
   pub place : (0 < n) × (n ≤ length lines)
-  pub before : (commands : List Command) × AreCommands (take (n - 1) lines) commands × (length commands ≡ command_limit)
-  pub kept : wants_command (slice_index_or lines (n - 1) []) ≡ true
+  pub before : (commands : List Command) × AreCommands (take (n - 1) lines) commands × (length commands ≡ COMMAND_LIMIT)
+  pub wanted : wants_command (slice_index_or lines (n - 1) []) ≡ true
   pub more : (command : Command) × IsLine (slice_index_or lines (n - 1) []) command
 
 -- ---- readers

@@ -6,3 +6,4 @@ pub mod Faults
 pub mod Stamps
 pub mod Readers
 pub mod Typed
+pub mod Transcripts

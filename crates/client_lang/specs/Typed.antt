@@ -11,6 +11,7 @@ use Rattle.udt_model.specs.declared.reply.Reply.{Reply}
 use Rattle.udt_model.specs.declared.reply.Reply.TheVariants.{OkAt, Fell, Below, Full, Found, Collapsed, Halted}
 use Rattle.udt_model.specs.declared.reply.Stamp.{Stamp}
 use Rattle.udt_model.specs.declared.reply.Stamp.TheVariants as stamps
+use Rattle.udt_model.specs.declared.line.FamilyHead.{FamilyHead}
 use Rattle.udt_model.specs.declared.line.Line.{Line}
 use Rattle.udt_model.specs.declared.line.Who.{Who}
 use Rattle.udt_model.specs.declared.line.Who.TheVariants.{Client}
@@ -60,3 +61,8 @@ pub record IsTypedLine (l : Line) : Type 0 where
   pub who : IsTypedWho l.who
   pub event : IsTypedEvent l.event
   pub reply : IsTypedReply l.reply
+
+-- so are a family's name and floor
+pub record IsTypedHead (h : FamilyHead) : Type 0 where
+  pub name : IsTrue (is_name h.name)
+  pub floor : IsNat64 h.floor.0

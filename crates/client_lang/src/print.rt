@@ -18,6 +18,7 @@ ghost use Rattle.hex.specs.Hex.{encode_lower, lower_digits};
 ghost use Rattle.client_lang.specs.Pushes.{Pushes};
 ghost use Rattle.udt_model.specs.declared.line.Line.{Line};
 ghost use Rattle.client_lang.specs.Print as printed;
+ghost use Rattle.client_lang.specs.Transcripts.{IsTypedTranscript, Transcript, print_transcript};
 ghost use Rattle.client_lang.specs.Typed.{IsTypedLine};
 ghost use Rattle.client_lang.specs.Words.{followed, next_op_text, word_text};
 
@@ -90,6 +91,9 @@ fn push_event_line(out: &mut Vec<u8>, line: &Line) -> Result<(), NoMemory>
 pub fn print_header(last: u64, heads: &[FamilyHead], out: &mut Vec<u8>) -> Result<(), NoMemory>
     ensures text { Pushes out.old out.new result (printed.print_header last heads.now) }
     ensures kept { OnErr result (out.new.items ≡ out.old.items) }
+
+    // No two transcripts have the same text.
+    ensures one { (a b : Transcript) → IsTypedTranscript a → IsTypedTranscript b → print_transcript a ≡ print_transcript b → a ≡ b }
 {
     let before = out.len();
     let pushed = push_header(out, last, heads);

@@ -17,7 +17,7 @@ use Rattle.client_runner.specs.HostRuns.{IsRunFrom, IsStoppedFrom}
 use Rattle.client_runner.specs.Inits.{IsInitLeft}
 use Rattle.client_runner.specs.Left.{LeavesByName, status_of_lines, tells_fault}
 use Rattle.client_runner.specs.Ready.{IsMessage, text_of}
-use Rattle.client_runner.specs.Solo.{AreSoundUnless}
+use Rattle.solo_runner.specs.Solo.{AreSoundUnless}
 use Rattle.client_runner.specs.Stops.{IsInitStop}
 use Rattle.client_runner.specs.declared.output.Ready.{Ready}
 use Rattle.client_runner.specs.declared.status.Status.{Status}

@@ -3,6 +3,7 @@ use Rattle.std.proofs.Common.{◌∙◌, ◌≡◌, ℕ, ◌+◌, Bool, true, fa
 use Rattle.std.specs.Prelude.{All, option_map, nat_lt, if◌then◌else◌, length, ◌-◌, ◌^◌}
 use Rattle.std.specs.List.{list_any}
 use Rattle.std.proofs.lemmas.List.Elements.{All-head, All-tail}
+use Rattle.ts_key.specs.declared.limits.TheConstants.{SEQUENCE_LIMIT}
 use Rattle.ts_key.specs.declared.numbers.Ts.{Ts}
 use Rattle.ts_key.specs.declared.version.Version.{Version}
 use Rattle.udt_model.specs.declared.event.NamedOp.{NamedOp}
@@ -16,15 +17,15 @@ use Rattle.udt_model.specs.declared.read.ModelRead.TheVariants as reads
 use Rattle.udt_model.specs.declared.reply.Reply.{Reply}
 use Rattle.udt_model.specs.declared.reply.Reply.TheVariants.{Fault, Halted, OkAt}
 use Rattle.udt_model.specs.State.{State}
-use Rattle.client_runner.specs.Named.{accepted_unless, admitted, done_unless, full, place_of, refusal, refused, synced, unknown, family_of, version_of}
+use Rattle.solo_runner.specs.Named.{accepted_unless, admitted, done_unless, full, place_of, refusal, refused, reply_of_sync, unknown, family_of, version_of}
 use Rattle.udt_model.specs.Refusals.{fell, halt, unknown_place, ◌or_else◌}
 use Rattle.udt_model.specs.Steps.{got, reply_of_read}
-use Rattle.client_runner.specs.Named.{IsReply, IsTold, after}
+use Rattle.solo_runner.specs.Named.{IsReply, IsTold, after}
 use Rattle.udt_model.specs.Lines.{says_fault}
 use Rattle.udt_model.specs.Versions.{newest_of, of_key}
 use Rattle.udt_model.specs.Histories.{Point, IsSound, Leads, behind}
 use Rattle.client_lang.specs.Print.{IsBuilt, IsBuiltLine}
-use Rattle.client_runner.proofs.Naming.{after_agrees, reply_agrees_back}
+use Rattle.solo_runner.proofs.Naming.{after_agrees, reply_agrees_back}
 use Rattle.client_runner.specs.Left.{tells_fault}
 
 -- a refusal that isn't that of a halted store
@@ -63,7 +64,7 @@ halt_calm : (m : State) → m.halted ≡ None → IsCalm (halt m)
 halt_calm m e = subst (λ (h : Option ℕ). IsCalm (option_map Halted h)) (sym e) tt
 
 full_calm : (m : State) (os : List NamedOp) → IsCalm (full m os)
-full_calm m os = if_calm (nat_lt (2 ^ 56 - 1) (m.last.0 + length os)) _ _ refl tt
+full_calm m os = if_calm (nat_lt SEQUENCE_LIMIT (m.last.0 + length os)) _ _ refl tt
 
 accepted_calm : (n : ℕ) (r : Option Reply) → IsCalm r → tells_fault (accepted_unless n r) ≡ false
 accepted_calm n None h = refl
@@ -85,7 +86,7 @@ got_calm : (m : State) (p : Option Place) (key : List ℕ) (t : Ts) → tells_fa
 got_calm m None key t = refl
 got_calm m (Some p) key t = read_calm _
 
-synced_calm : (m : State) → m.halted ≡ None → tells_fault (synced m) ≡ false
+synced_calm : (m : State) → m.halted ≡ None → tells_fault (reply_of_sync m) ≡ false
 synced_calm m e = subst (λ (h : Option ℕ). tells_fault (done_unless (option_map Halted h)) ≡ false) (sym e) refl
 
 told_calm : (m : State) (event : Event) (reply : Reply) → m.halted ≡ None → IsTold m event reply → tells_fault reply ≡ false

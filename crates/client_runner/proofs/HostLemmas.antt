@@ -33,7 +33,7 @@ use Rattle.recovery.specs.declared.fault.InitFault.TheVariants as inits
 use Rattle.recovery.specs.Fault.{IsBadLog, IsBadLogFile, RefusesOpening}
 use Rattle.client_runner.specs.Ready.{IsReadAs}
 use Rattle.client_runner.specs.Runs.{KeepsLines, KeepsSome, IsSameFolder, IsRunReady, IsRunRefused, stop_of_opening}
-use Rattle.client_runner.specs.Solo.{AreSoundUnless}
+use Rattle.solo_runner.specs.Solo.{AreSoundUnless}
 use Rattle.client_runner.specs.Stops.{IsFileStop, IsOpenStop}
 use Rattle.recovery.specs.Stores.{FolderStands, sizes_of}
 use Rattle.client_runner.specs.declared.output.Ready.{Ready}
@@ -41,7 +41,7 @@ use Rattle.recovery.specs.declared.fault.OpenFault.{OpenFault}
 use Rattle.recovery.specs.declared.fault.OpenFault.TheVariants as faults
 use Rattle.client_runner.specs.declared.status.Stop.{Stop}
 use Rattle.client_runner.specs.declared.status.Stop.TheVariants as stops
-use Rattle.client_runner.proofs.SoloLemmas.{rose_earlier}
+use Rattle.solo_runner.proofs.SoloLemmas.{rose_earlier}
 use Rattle.recovery.proofs.States.{one_state}
 
 -- ---- folders that hold the same under each name

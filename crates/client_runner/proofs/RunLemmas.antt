@@ -21,12 +21,12 @@ use Rattle.udt_model.specs.declared.line.FamilyHead.{FamilyHead}
 use Rattle.udt_model.specs.declared.line.Line.{Line}
 use Rattle.udt_model.specs.declared.line.Who.TheVariants.{Client}
 use Rattle.udt_model.specs.State.{State, unflushed}
-use Rattle.client_runner.specs.Named.{IsReply, after}
+use Rattle.solo_runner.specs.Named.{IsReply, after}
 use Rattle.udt_model.specs.Histories.{Point, start, IsLegal, behind, Leads, own}
 use Rattle.udt_model.specs.Crashes.{Course, IsOutcome, course_start, course_behind, settled}
 use Rattle.udt_model.proofs.Laws.{heads_unflushed}
-use Rattle.client_runner.specs.Named.{course_after}
-use Rattle.client_runner.proofs.Naming.{after_agrees, reply_agrees_back}
+use Rattle.solo_runner.specs.Named.{course_after}
+use Rattle.solo_runner.proofs.Naming.{after_agrees, reply_agrees_back}
 use Rattle.udt_disk.specs.Runs.{IsSameFile}
 use Rattle.wal.specs.declared.numbered.Numbered.{Numbered}
 use Rattle.wal.specs.declared.wal.Wal.{Wal}
@@ -42,26 +42,26 @@ use Rattle.udt_disk.specs.Moments.{alone, holding, OnlyReads}
 use Rattle.udt_disk.proofs.Moments.{stands_free, stands_held, leaves_free, leaves_held}
 use Rattle.client_lang.specs.declared.command.Command.{Command}
 use Rattle.client_lang.specs.Print.{IsBuilt, print_header}
-use Rattle.client_runner.specs.Expand.{IsRunHistory}
+use Rattle.solo_runner.specs.Expand.{IsRunHistory}
 use Rattle.client_runner.specs.Left.{MayBeLeft, status_of_lines, tells_fault}
-use Rattle.client_runner.specs.LoggedStores.{state_of, wal_of}
+use Rattle.solo_runner.specs.LoggedStores.{state_of, wal_of}
 use Rattle.udt_disk.specs.Moments.{IsClean}
 use Rattle.recovery.specs.Opening.{IsOpened}
 use Rattle.client_runner.specs.Runs.{HasRunOver, HasRunParts, IsRunReady, IsRunRefused, KeepsLines, Waits, files_of, state_of_parts}
-use Rattle.client_runner.specs.Sessions.{HasSession, KeepsCourse, faults_of}
-use Rattle.client_runner.specs.Solo.{AreSoundUnless}
+use Rattle.solo_runner.specs.Sessions.{HasSession, KeepsCourse, faults_of}
+use Rattle.solo_runner.specs.Solo.{AreSoundUnless}
 use Rattle.recovery.specs.Stores.{FolderStands, sizes_of}
 use Rattle.recovery.specs.Stores as stores
 use Rattle.client_runner.specs.declared.output.Ready.{Ready}
 use Rattle.recovery.specs.declared.fault.OpenFault.TheVariants as opens
 use Rattle.recovery.specs.declared.opening.Parts.{Parts}
-use Rattle.client_runner.specs.declared.solo.logged.LoggedStore.{LoggedStore}
+use Rattle.solo_runner.specs.declared.logged.LoggedStore.{LoggedStore}
 use Rattle.client_runner.specs.declared.status.Status.TheVariants as statuses
 use Rattle.client_runner.specs.declared.status.Stop.TheVariants.{NoMemory}
-use Rattle.client_runner.proofs.KeepingLemmas.{all_synced, opens_kept}
-use Rattle.client_runner.proofs.VersionLemmas.{settled_state}
+use Rattle.solo_runner.proofs.KeepingLemmas.{all_synced, opens_kept}
+use Rattle.solo_runner.proofs.VersionLemmas.{settled_state}
 use Rattle.recovery.proofs.OpeningLemmas.{chosen_isn't_log}
-use Rattle.client_runner.proofs.SoloLemmas.{course_push, height_kept, sound_none}
+use Rattle.solo_runner.proofs.SoloLemmas.{course_push, height_kept, sound_none}
 use Rattle.recovery.proofs.States.{opened_stands}
 
 -- ---- where no line tells a fault, all is synced at the end

@@ -10,9 +10,9 @@ use Rattle.client_lang.specs.Print.{print_header}
 use Rattle.client_runner.specs.declared.output.Ready.{Ready}
 use Rattle.client_runner.specs.Output.{HasRoom}
 use Rattle.client_runner.specs.Ready.{IsTranscribed}
-use Rattle.client_runner.specs.Solo.{HasRun}
-use Rattle.client_runner.specs.Transcripts.{fresh}
-use Rattle.client_runner.proofs.SoloLemmas.{whole_history}
+use Rattle.solo_runner.specs.Solo.{HasRun}
+use Rattle.solo_runner.specs.Transcripts.{fresh}
+use Rattle.solo_runner.proofs.SoloLemmas.{whole_history}
 
 pub transcribed : {E : Type 0} (commands : List Command) (lines : List Line) (header : List ℕ) (store : State) (last : Mark) (r : Result Ready E) → HasRun fresh commands lines store last → All IsSound lines
     → header ≡ print_header 0 (heads_of fresh) → IfOk r (λ ready. ready.buffer.items ≡ header) → IfOk r (λ ready. ready.lines.items ≡ lines) → IfOk r (λ ready. HasRoom ready.buffer lines) → IfOk r (IsTranscribed commands)

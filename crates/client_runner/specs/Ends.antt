@@ -24,11 +24,11 @@ use Rattle.manifest.specs.Folders.Meaning.{no_store, bad_at, store}
 use Rattle.manifest.specs.declared.fold.Folded.{Folded}
 use Rattle.recovery.specs.Fault.{IsBadLog}
 use Rattle.recovery.specs.Stores.{FolderStands}
-use Rattle.client_runner.specs.Expand.{IsRunHistory}
+use Rattle.solo_runner.specs.Expand.{IsRunHistory}
 use Rattle.client_runner.specs.Inits.{IsInitLeft}
 use Rattle.client_runner.specs.Left.{LeavesByName, ContinuesFrom, IsMadeAt, StaysAsItWas, status_of_lines}
 use Rattle.client_runner.specs.Stops.{IsFileStop, IsInitStop, IsOpenStop, message, status_of}
-use Rattle.client_runner.specs.Transcripts.{IsTranscript, IsRunTranscript}
+use Rattle.solo_runner.specs.Transcripts.{IsTranscript, IsRunTranscript}
 use Rattle.client_runner.specs.declared.words.TheConstants.{HELP, VERSION}
 use Rattle.client_runner.specs.declared.status.Status.{Status}
 use Rattle.client_runner.specs.declared.status.Status.TheVariants as statuses

@@ -7,12 +7,12 @@ use Rattle.udt_model.specs.State.{State, heads_of}
 use Rattle.udt_model.specs.Histories.{Point}
 use Rattle.client_lang.specs.declared.command.Command.{Command}
 use Rattle.client_lang.specs.Print.{print_header}
-use Rattle.client_runner.specs.Expand.{IsRunHistory}
+use Rattle.solo_runner.specs.Expand.{IsRunHistory}
 use Rattle.client_runner.specs.Ends.{IsRunLeft, IsRunStop, Spells}
 use Rattle.client_runner.specs.Left.{LeavesByName, ContinuesFrom}
 use Rattle.client_runner.specs.Ready.{IsReadAs}
 use Rattle.client_runner.specs.Runs.{Waits}
-use Rattle.client_runner.specs.Solo.{AreSoundUnless}
+use Rattle.solo_runner.specs.Solo.{AreSoundUnless}
 use Rattle.client_runner.specs.Stops.{IsOpenStop}
 use Rattle.client_runner.specs.declared.output.Ready.{Ready}
 use Rattle.client_runner.specs.declared.status.Stop.{Stop}

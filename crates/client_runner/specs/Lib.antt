@@ -1,17 +1,7 @@
-pub mod Keeping
-pub mod Logging
-pub mod LoggedStores
-pub mod Expand
-pub mod Named
-pub mod Adding
-pub mod VersionLists
-pub mod Transcripts
 pub mod Flows
 pub mod Output
-pub mod Solo
 pub mod Commands
 pub mod Statuses
-pub mod Sessions
 pub mod Left
 pub mod Stops
 pub mod Inits

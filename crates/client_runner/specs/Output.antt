@@ -5,14 +5,11 @@ use Rattle.std.specs.declared.alloc.Global.{Global}
 use Rattle.std.specs.Io.KnownBytes.{Appends}
 use Rattle.udt_model.specs.declared.line.Line.{Line}
 use Rattle.client_lang.specs.Print.{print_line}
-
--- so many bytes are gathered before they are written
-abbrev pub chunk : ℕ
-chunk = 65536
+use Rattle.client_runner.specs.declared.output.TheConstants.{CHUNK}
 
 -- behind less than a chunk of bytes the buffer has room for the line
 abbrev pub HasRoomFor : Vec ℕ Global → Line → Type 0
-HasRoomFor buffer line = chunk + length (print_line line) ≤ vec_capacity buffer
+HasRoomFor buffer line = CHUNK + length (print_line line) ≤ vec_capacity buffer
 
 abbrev pub HasRoom : Vec ℕ Global → List Line → Type 0
 HasRoom buffer lines = All (HasRoomFor buffer) lines
@@ -30,4 +27,4 @@ pub record Flushes (taken_old taken_new : Option (List ℕ)) (old new : Vec ℕ 
   pub taken : Appends taken_old taken_new written
   pub in_order : old.items ≡ written ++ new.items
   pub room : vec_capacity old ≤ vec_capacity new
-  pub short : vec_len new < chunk
+  pub short : vec_len new < CHUNK

@@ -3,16 +3,17 @@ use Rattle.std.specs.Prelude.{◌≡◌, ◌⊎◌, ℕ, ◌≤◌, List, ◌++�
 use Rattle.udt_disk.specs.Opens.{Standing, IsStanding}
 use Rattle.client_lang.specs.declared.command.Command.{Command}
 use Rattle.udt_model.specs.Histories.{IsSound}
-use Rattle.client_runner.specs.Expand.{IsSoloHistory}
+use Rattle.solo_runner.specs.Expand.{IsSoloHistory}
 use Rattle.client_lang.specs.declared.grammar.lines.ReadFault.{ReadFault}
 use Rattle.client_lang.specs.declared.grammar.lines.ReadFault.TheVariants as faults
 use Rattle.client_lang.specs.Faults.{Refuses}
 use Rattle.client_runner.specs.Output.{HasRoom}
-use Rattle.client_lang.specs.Grammar.{IsFile, command_limit}
+use Rattle.client_lang.specs.Grammar.{IsFile}
+use Rattle.client_lang.specs.declared.grammar.lines.TheConstants.{COMMAND_LIMIT}
 use Rattle.client_lang.specs.Print.{IsBuiltCommand, IsBuiltLine, print_header, print_lines}
 use Rattle.client_lang.specs.Stamps.{IsStampedCommand}
 use Rattle.client_runner.specs.Stops.{message, status_of}
-use Rattle.client_runner.specs.Transcripts.{IsTranscript, fresh}
+use Rattle.solo_runner.specs.Transcripts.{IsTranscript, fresh}
 use Rattle.client_runner.specs.declared.output.Ready.{Ready}
 use Rattle.client_runner.specs.declared.status.Status.{Status}
 use Rattle.client_runner.specs.declared.status.Stop.{Stop}
@@ -27,7 +28,7 @@ pub record IsReadAs (standing : Standing) (commands : List Command) : Type 0 whe
   pub only : (other : List Command) → IsFile bytes other → other ≡ commands
   pub built : All IsBuiltCommand commands
   pub stamped : All IsStampedCommand commands
-  pub few : length commands ≤ command_limit
+  pub few : length commands ≤ COMMAND_LIMIT
 
 -- the whole text
 abbrev pub text_of : Ready → List ℕ

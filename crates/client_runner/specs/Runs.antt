@@ -12,7 +12,7 @@ use Rattle.udt_model.specs.State.{State, unflushed, heads_of}
 use Rattle.udt_model.specs.Histories.{Point, Leads, start}
 use Rattle.client_lang.specs.declared.command.Command.{Command}
 use Rattle.client_lang.specs.Print.{IsBuiltCommand, IsBuiltLine, print_header}
-use Rattle.client_runner.specs.Expand.{IsRunHistory}
+use Rattle.solo_runner.specs.Expand.{IsRunHistory}
 use Rattle.client_runner.specs.Left.{IsLeft}
 use Rattle.udt_disk.specs.Moments.{IsClean}
 use Rattle.recovery.specs.Opening.{IsOpened}
@@ -22,9 +22,9 @@ use Rattle.manifest.specs.Manifest.{manifest_file}
 use Rattle.udt_disk.specs.Moments.{OnlyReads, alone, holding}
 use Rattle.wal.specs.Wals.{wal_file}
 use Rattle.recovery.specs.declared.opening.Parts.{Parts}
-use Rattle.client_runner.specs.Sessions.{HasSession}
-use Rattle.client_runner.specs.Solo.{AreSoundUnless}
-use Rattle.client_runner.specs.declared.solo.logged.LoggedStore.{LoggedStore}
+use Rattle.solo_runner.specs.Sessions.{HasSession}
+use Rattle.solo_runner.specs.Solo.{AreSoundUnless}
+use Rattle.solo_runner.specs.declared.logged.LoggedStore.{LoggedStore}
 use Rattle.recovery.specs.Stores.{FolderStands}
 use Rattle.client_runner.specs.declared.output.Ready.{Ready}
 use Rattle.recovery.specs.declared.fault.OpenFault.{OpenFault}

@@ -31,8 +31,8 @@ impl From<AllocError> for FlowFault {
 /// All that a source has left, up to `FILE_LIMIT` bytes. It stops once it has more.
 pub fn read_whole<S: Source>(alloc: Global, source: &mut S) -> Result<Vec<u8>, FlowFault>
     ensures ok { IfOk result (λ bytes. IfSome (S.left source.old) (λ left. left ≡ bytes.items)) }
-    ensures short { IfOk result (λ bytes. length bytes.items ≤ 8388608) }
-    ensures long { result ≡ Err FlowFault.TooLong → IfSome (S.left source.old) (λ left. 8388608 < length left) }
+    ensures short { IfOk result (λ bytes. length bytes.items ≤ FILE_LIMIT) }
+    ensures long { result ≡ Err FlowFault.TooLong → IfSome (S.left source.old) (λ left. FILE_LIMIT < length left) }
     ensures failed { result ≡ Err FlowFault.Failed → Rose (S.faults source.old) (S.faults source.new) }
     ensures later { S.faults source.old ≤ S.faults source.new }
 {

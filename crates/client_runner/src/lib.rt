@@ -9,7 +9,6 @@ mod init;
 mod output;
 mod reading;
 mod run;
-mod solo;
 mod status;
 mod top;
 mod words;

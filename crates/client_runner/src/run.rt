@@ -1,5 +1,6 @@
 //! The command `run`: the commands of a file over the store in a folder.
-ghost use Rattle.std.specs.Prelude.{◌≡◌, ◌≢◌, ◌+◌, ◌-◌, ◌^◌, ◌<◌, ◌≤◌, [], IsTrue, Some, All, length, vec_capacity, IfOk, IfErr};
+ghost use Rattle.std.specs.Prelude.{◌≡◌, ◌≢◌, ◌+◌, ◌-◌, ◌<◌, ◌≤◌, [], IsTrue, Some, All, length, vec_capacity, IfOk, IfErr};
+ghost use Rattle.ts_key.specs.declared.limits.TheConstants.{FAMILY_LIMIT, SEQUENCE_LIMIT};
 ghost use Rattle.std.specs.List.{list_any};
 ghost use Rattle.udt_disk.specs.Causes.{plus_faults};
 ghost use Rattle.udt_disk.specs.Crash.{Image, NoMore};
@@ -12,15 +13,15 @@ ghost use Rattle.client_lang.specs.Stamps.{IsStampedCommand};
 ghost use Rattle.client_runner.specs.Hosts.{UsesFolder, StaysElsewhere, FileStaysOrGoes, LeavesNoMoreElsewhere};
 ghost use Rattle.client_runner.specs.HostRuns.{IsRunAt, IsRunFrom, IsStoppedAt, IsStoppedFrom};
 ghost use Rattle.client_runner.specs.Left.{status_of_lines as status_of_list, tells_fault as reply_tells};
-ghost use Rattle.client_runner.specs.LoggedStores.{IsInStep, state_of, wal_of};
+ghost use Rattle.solo_runner.specs.LoggedStores.{IsInStep, state_of, wal_of};
 ghost use Rattle.client_runner.specs.Runs.{CanRun, HasRunOver, HasRunParts, IsRunReady, IsRunRefused, stop_of_opening};
 
 use crate::output::{Ready, header_of, ready_of};
 use crate::reading::read_commands;
-use crate::solo::{LoggedStore, PlainStore, run_and_sync};
 use crate::status::{Status, Stop};
 use client_lang::Command;
 use recovery::{OpenFault, Parts, open_store};
+use solo_runner::{LoggedStore, PlainStore, run_and_sync};
 use std::alloc::{AllocError, Global};
 use ts_key::NoMemory;
 use udt_disk::{Disk, DiskFile, Host, Text};
@@ -97,10 +98,10 @@ fn run_parts<D: Disk>(
     lines: Vec<Line>,
 ) -> (D, Result<Ready, NoMemory>)
     requires can_run { CanRun commands.items lines }
-    requires heads { length parts.heads.items ≤ 16 }
+    requires heads { length parts.heads.items ≤ FAMILY_LIMIT }
     requires sizes { length (wal_sizes parts.wal) ≡ length parts.heads.items }
     requires pending { wal_pending parts.wal ≡ 0 }
-    requires within { parts.last.0 < 2 ^ 56 }
+    requires within { parts.last.0 < SEQUENCE_LIMIT + 1 }
     requires goes_on { MayGoOn D.File.DiskFile parts.wal (parts.last.0 + 1) }
     requires fresh { D.File.faults (wal_file parts.wal) ≡ 0 }
     ensures run { HasRunParts D.Disk D.File.DiskFile parts result.0 commands.items result.1 }

@@ -28,7 +28,7 @@ use Rattle.udt_model.specs.declared.reply.KeySpan.{KeySpan}
 use Rattle.udt_model.specs.Versions.{is_newer, is_put, up_to}
 use Rattle.udt_model.specs.Orders.{is_below, is_before, is_in_some, with_version, stored}
 use Rattle.collection_laws.specs.Places.{HaveOnePlace, AreApart, AreSortedByPlace, AreStored}
-use Rattle.udt_model.specs.Collecting.{hides, is_hidden, is_seen_at, is_seen, seen_of, is_put_below, is_useless, without_useless, collect}
+use Rattle.udt_model.specs.Collecting.{hides, is_hidden, is_seen_at, is_ever_seen, seen_of, is_put_below, is_useless, without_useless, collect}
 
 -- ---- the order
 
@@ -357,7 +357,7 @@ module _ (floor : Ts) (seqs : List Seq) (deeper : List KeySpan) where
       λ i. (nat_le v.seq.0 s.0 && not (hidden_same (up_to s.0 xs) (up_to s.0 ys) (same_filter (λ u. nat_le u.seq.0 s.0) (λ u. nat_le u.seq.0 s.0) xs ys h (λ u. refl)) v i)) || seen_at_same xs ys h v ss i
 
   pub seen_same : (xs ys : List Version) → HoldSame xs ys → HoldSame (seen_of xs floor seqs) (seen_of ys floor seqs)
-  seen_same xs ys h = same_filter (is_seen xs floor seqs) (is_seen ys floor seqs) xs ys h (λ v i. not (hidden_same xs ys h v i) || seen_at_same xs ys h v seqs i)
+  seen_same xs ys h = same_filter (is_ever_seen xs floor seqs) (is_ever_seen ys floor seqs) xs ys h (λ v i. not (hidden_same xs ys h v i) || seen_at_same xs ys h v seqs i)
 
   pub kept_same : (xs ys : List Version) → HoldSame xs ys → HoldSame (without_useless floor deeper (seen_of xs floor seqs)) (without_useless floor deeper (seen_of ys floor seqs))
   kept_same xs ys h =
@@ -370,8 +370,8 @@ module _ (floor : Ts) (seqs : List Seq) (deeper : List KeySpan) where
   collect_by_order xs ys a s h =
       stored_by_holding (without_useless floor deeper (seen_of xs floor seqs)) (without_useless floor deeper (seen_of ys floor seqs))
       (AllPairs-filter (λ x y. HaveOnePlace x y → ⊥) (λ v. not (is_useless (seen_of xs floor seqs) floor deeper v)) (seen_of xs floor seqs)
-      (AllPairs-filter (λ x y. HaveOnePlace x y → ⊥) (is_seen xs floor seqs) xs a))
-      (stored_filter (λ v. not (is_useless (seen_of ys floor seqs) floor deeper v)) (seen_of ys floor seqs) (stored_filter (is_seen ys floor seqs) ys s))
+      (AllPairs-filter (λ x y. HaveOnePlace x y → ⊥) (is_ever_seen xs floor seqs) xs a))
+      (stored_filter (λ v. not (is_useless (seen_of ys floor seqs) floor deeper v)) (seen_of ys floor seqs) (stored_filter (is_ever_seen ys floor seqs) ys s))
       (kept_same xs ys h)
 
 -- ---- a sorted list

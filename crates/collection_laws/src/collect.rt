@@ -3,7 +3,7 @@ ghost use Rattle.std.specs.Prelude.{◌≡◌, ◌≤◌, ◌&&◌, ◌++◌, �
 ghost use Rattle.std.specs.List.{list_any, position_or_len};
 ghost use Rattle.udt_model.specs.Orders.{is_before, is_in, is_in_some, stored};
 ghost use Rattle.udt_model.specs.Versions.{is_newer, is_of};
-ghost use Rattle.udt_model.specs.Collecting.{collect, hides, is_hidden, is_put_below, is_seen, is_seen_at, is_useless, seen_of, without_useless};
+ghost use Rattle.udt_model.specs.Collecting.{collect, hides, is_hidden, is_put_below, is_ever_seen, is_seen_at, is_useless, seen_of, without_useless};
 
 use std::alloc::Global;
 use ts_key::{NoMemory, Op, Seq, Ts, Version, compare};
@@ -59,7 +59,7 @@ fn is_seen_by_some(versions: &[Version], floor: Ts, v: &Version, seqs: &[Seq]) -
 
 /// Whether a read may see it.
 fn is_seen_at_all(versions: &[Version], floor: Ts, seqs: &[Seq], v: &Version) -> bool
-    ensures { result ≡ is_seen versions.now floor seqs.now v.now }
+    ensures { result ≡ is_ever_seen versions.now floor seqs.now v.now }
 {
     !is_hidden_now(versions, floor, v) || is_seen_by_some(versions, floor, v, seqs)
 }

@@ -8,7 +8,7 @@ use Rattle.data_block.specs.declared.index.Index.{Index}
 use Rattle.data_block.specs.Grammar.{numbers, block, block_entries, block_restarts, AreShort, IsBlock}
 use Rattle.data_block.specs.Index.{IsWithin}
 use Rattle.data_block.specs.Regions.{IsRun, StopsAt, ReadsRegion, items_in}
-use Rattle.data_block.specs.Faults.{EndsAt, IsBlockFault, IsRead}
+use Rattle.data_block.specs.Faults.{EndsAt, IsBlockFault, IsIndexOf}
 use Rattle.data_block.specs.Faults.IsBlockFault.{bad_entry, bad_tail}
 use Rattle.data_block.proofs.Steps.{length-items_at}
 
@@ -23,7 +23,7 @@ empty_there form image region end x ends is h none =
     let r = run_of form image region end x is h in
     let vs = items_in (take end image) x in
     let len = length-items_at x.keys.items (take end image) x.entries.items in
-    bad_tail ends (record { vs = vs; run = r.1; wrong = λ b e. let some = b.some in omega (arith, len) })
+    bad_tail ends (record { vs = vs; run = r.run; wrong = λ b e. let some = b.some in omega (arith, len) })
 
 -- the entries end where the region does
 end_of : (form : Form) (image : List ℕ) (end : ℕ) (vs : List Item) → EndsAt image end → IsRun form (take end image) vs [] → length (block_entries form vs) ≡ end
@@ -35,25 +35,25 @@ tail_there form image region tail end x ends is tail-is h bad =
     let vs = items_in (take end image) x in
     bad_tail ends (record {
       vs = vs;
-      run = r.1;
+      run = r.run;
       wrong = λ b e.
-          (let rest : drop end image ≡ numbers (block_restarts form vs) = ap (drop end) e ∙ drop_at (block_entries form vs) (numbers (block_restarts form vs)) end (end_of form image end vs ends r.1) in
-          bad (subst AreShort (sym r.2) b.offsets, tail-is ∙ rest ∙ ap numbers (sym r.2)));
+          (let rest : drop end image ≡ numbers (block_restarts form vs) = ap (drop end) e ∙ drop_at (block_entries form vs) (numbers (block_restarts form vs)) end (end_of form image end vs ends r.run) in
+          bad (subst AreShort (sym r.restarts) b.offsets, tail-is ∙ rest ∙ ap numbers (sym r.restarts)));
     })
 
-pub all_there : (form : Form) (image region tail : List ℕ) (end : ℕ) (x : Index) → EndsAt image end → region ≡ take end image → tail ≡ drop end image → ReadsRegion form region x None → (length x.entries.items ≡ 0 → ⊥) → AreShort x.restarts.items × (tail ≡ numbers x.restarts.items) → IsRead form image end x
+pub all_there : (form : Form) (image region tail : List ℕ) (end : ℕ) (x : Index) → EndsAt image end → region ≡ take end image → tail ≡ drop end image → ReadsRegion form region x None → (length x.entries.items ≡ 0 → ⊥) → AreShort x.restarts.items × (tail ≡ numbers x.restarts.items) → IsIndexOf form image end x
 all_there form image region tail end x ends is tail-is h some good =
     let r = run_of form image region end x is h in
     let vs = items_in (take end image) x in
     let len = length-items_at x.keys.items (take end image) x.entries.items in
     let w = ends.whole in
-    let front : take end image ≡ block_entries form vs = r.1.parts ∙ append-nil (block_entries form vs) in
-    let behind : drop end image ≡ numbers (block_restarts form vs) = sym tail-is ∙ good.1 ∙ ap numbers r.2 in
+    let front : take end image ≡ block_entries form vs = r.run.parts ∙ append-nil (block_entries form vs) in
+    let behind : drop end image ≡ numbers (block_restarts form vs) = sym tail-is ∙ good.1 ∙ ap numbers r.restarts in
     record {
       fits = omega arith;
-      within = r.0;
-      versions = record { some = omega (arith, len, some); sorted = r.1.sorted; items = r.1.items; offsets = subst AreShort r.2 good.0 };
+      within = r.within;
+      versions = record { some = omega (arith, len, some); sorted = r.run.sorted; items = r.run.items; offsets = subst AreShort r.restarts good.0 };
       spelled = sym (take-append-drop end image) ∙ (λ i. front i ++ behind i);
-      entries = sym (end_of form image end vs ends r.1);
-      begins = r.3;
+      entries = sym (end_of form image end vs ends r.run);
+      begins = r.begins;
     }

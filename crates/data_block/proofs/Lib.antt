@@ -11,4 +11,7 @@ pub mod Faulting
 pub mod Found
 pub mod Loops
 pub mod Images
-pub mod Moved
+pub mod Rebased
+pub mod Joins
+pub mod Gathered
+pub mod Sizes

@@ -10,7 +10,7 @@ use Rattle.data_block.specs.declared.index.Index.{Index}
 use Rattle.data_block.specs.declared.index.Entry.{Entry}
 use Rattle.data_block.specs.Grammar.{entries, restarts, block_entries, block_restarts, last_key}
 use Rattle.data_block.specs.Index.{IsWithin, items_at}
-use Rattle.data_block.specs.Reading.{IsNext, EndsBefore}
+use Rattle.data_block.specs.Reading.{IsNextEntry, EndsBefore}
 use Rattle.data_block.specs.Regions.{IsRun, StopsAt, HasRead, NoneAt, ReadsRegion, items_in}
 use Rattle.data_block.proofs.Steps.{length-items_at}
 
@@ -49,11 +49,11 @@ stopped form region at x last h lt none =
       run = h.run;
       at = placed form region at x last h;
       some = omega (arith, length-drop at region);
-      none = λ v after next sorted. none v after (subst (λ (n : ℕ). IsNext form n last (drop at region) v after) (sym count) (subst (λ (l : List ℕ). IsNext form (length vs) l (drop at region) v after) (sym h.ends) next)) (sorted_ends vs v sorted);
+      none = λ v after next sorted. none v after (subst (λ (n : ℕ). IsNextEntry form n last (drop at region) v after) (sym count) (subst (λ (l : List ℕ). IsNextEntry form (length vs) l (drop at region) v after) (sym h.ends) next)) (sorted_ends vs v sorted);
     }
 
 -- at its end the whole region was read
 pub whole : (form : Form) (region : List ℕ) (at : ℕ) (x : Index) (last : List ℕ) → HasRead form region at x last → length region ≤ at → ReadsRegion form region x None
 whole form region at x last h le =
     let end : drop at region ≡ [] = nil_from_length (drop at region) (omega (arith, length-drop at region)) in
-    (h.within, subst (IsRun form region (items_in region x)) end h.run, h.restarts, h.begins)
+    record { within = h.within; run = subst (IsRun form region (items_in region x)) end h.run; restarts = h.restarts; begins = h.begins }

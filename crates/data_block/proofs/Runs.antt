@@ -14,7 +14,7 @@ use Rattle.data_block.specs.declared.index.Entry.{Entry}
 use Rattle.data_block.specs.Grammar.{key_of, shared, entry_of, entries, last_key}
 use Rattle.data_block.specs.Fields.{fields, Fit}
 use Rattle.data_block.specs.Index.{item_at, items_at, key_at, value_at, IsWithin}
-use Rattle.data_block.specs.Reading.{IsNext, EndsBefore}
+use Rattle.data_block.specs.Reading.{IsNextEntry, EndsBefore}
 use Rattle.data_block.proofs.Lengths.{length-entry}
 use Rattle.data_block.proofs.Fielded.{fields_once}
 use Rattle.data_block.proofs.Nexts.{is_shared, entry_fields, value_short}
@@ -47,7 +47,7 @@ sorted_snoc [] v s e = (tt, tt)
 sorted_snoc (x ∷ vs) v s e = (all_snoc (λ w. sort_cmp x.sort_key w.sort_key ≡ Less) vs v s.0 (first_before x vs v s.0 s.1 e), sorted_snoc vs v s.1 (ends_on x vs v e))
 
 -- ---- one more entry of a region
-pub run_more : (form : Form) (region rest after : List ℕ) (vs : List Item) (v : Item) → region ≡ entries form 0 [] vs ++ rest → IsNext form (length vs) (last_key form [] vs) rest v after → region ≡ entries form 0 [] (vs ++ v ∷ []) ++ after
+pub run_more : (form : Form) (region rest after : List ℕ) (vs : List Item) (v : Item) → region ≡ entries form 0 [] vs ++ rest → IsNextEntry form (length vs) (last_key form [] vs) rest v after → region ≡ entries form 0 [] (vs ++ v ∷ []) ++ after
 run_more form region rest after vs v e h =
     let index : entry_of form (length vs) (last_key form [] vs) v ≡ entry_of form (0 + length vs) (last_key form [] vs) v = ap (λ (m : ℕ). entry_of form m (last_key form [] vs) v) (omega arith) in
     let more : entries form 0 [] vs ++ entry_of form (length vs) (last_key form [] vs) v ≡ entries form 0 [] (vs ++ v ∷ []) = ap (λ (x : List ℕ). entries form 0 [] vs ++ x) index ∙ sym (entries_snoc form 0 [] vs v) in
@@ -64,7 +64,7 @@ own_fit form n last v h =
     let vs = value_short v.kind v.value h.value in
     record { shared = omega arith; key = omega (arith, length-drop s key); value = omega arith }
 
-pub next_once : (form : Form) (n : ℕ) (last bytes : List ℕ) (v w : Item) (r q : List ℕ) → IsNext form n last bytes v r → IsNext form n last bytes w q → (v ≡ w) × (r ≡ q)
+pub next_once : (form : Form) (n : ℕ) (last bytes : List ℕ) (v w : Item) (r q : List ℕ) → IsNextEntry form n last bytes v r → IsNextEntry form n last bytes w q → (v ≡ w) × (r ≡ q)
 next_once form n last bytes v w r q a b =
     let k = key_of form v in
     let l = key_of form w in

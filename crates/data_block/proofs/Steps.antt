@@ -12,7 +12,7 @@ use Rattle.data_block.specs.declared.fields.Fields.{Fields}
 use Rattle.data_block.specs.Grammar.{key_of, shared, block_entries, restart, block_restarts, last_key}
 use Rattle.data_block.specs.Fields.{fields, Fit, bytes_of, IsFit}
 use Rattle.data_block.specs.Index.{IsWithin, items_at}
-use Rattle.data_block.specs.Reading.{IsNext, IsJoined, EndsBefore}
+use Rattle.data_block.specs.Reading.{IsNextEntry, IsJoined, EndsBefore}
 use Rattle.data_block.specs.Regions.{IsRun, HasRead, items_in}
 use Rattle.data_block.proofs.Lengths.{length-fields}
 use Rattle.data_block.proofs.Nexts.{entry_fields, gives}
@@ -20,21 +20,21 @@ use Rattle.data_block.proofs.Written.{all_snoc, last_key_snoc, restarts_snoc}
 use Rattle.data_block.proofs.Runs.{own_fit, next_once, sorted_snoc, run_more}
 
 -- no entry is at the front where no parts are
-pub no_parts : (form : Form) (n : ℕ) (last bytes : List ℕ) → ((s : ℕ) (k v rest : List ℕ) → Fit s k v → bytes ≡ fields s k v ++ rest → ⊥) → (v : Item) (after : List ℕ) → IsNext form n last bytes v after → ⊥
+pub no_parts : (form : Form) (n : ℕ) (last bytes : List ℕ) → ((s : ℕ) (k v rest : List ℕ) → Fit s k v → bytes ≡ fields s k v ++ rest → ⊥) → (v : Item) (after : List ℕ) → IsNextEntry form n last bytes v after → ⊥
 no_parts form n last bytes none v after h =
     let key = key_of form v in
     let s = shared n last key in
     none s (drop s key) v.value after (own_fit form n last v h.item) (h.parts ∙ ap (λ (x : List ℕ). x ++ after) (entry_fields s key v.value))
 
 -- no entry is at the front where its parts share the wrong number of bytes
-pub not_joined : (form : Form) (n : ℕ) (last bytes : List ℕ) (f : Fields) → IsFit f → bytes ≡ bytes_of f → (IsJoined n last f → ⊥) → (v : Item) (after : List ℕ) → IsNext form n last bytes v after → ⊥
+pub not_joined : (form : Form) (n : ℕ) (last bytes : List ℕ) (f : Fields) → IsFit f → bytes ≡ bytes_of f → (IsJoined n last f → ⊥) → (v : Item) (after : List ℕ) → IsNextEntry form n last bytes v after → ⊥
 not_joined form n last bytes f fit e bad v after h =
-    bad (gives form n last f v after fit (subst (λ (x : List ℕ). IsNext form n last x v after) e h)).joined
+    bad (gives form n last f v after fit (subst (λ (x : List ℕ). IsNextEntry form n last x v after) e h)).joined
 
 -- an entry at the front is the one that was read there
-pub the_next : (form : Form) (n : ℕ) (last bytes : List ℕ) (f : Fields) (w : Item) → bytes ≡ bytes_of f → IsNext form n last (bytes_of f) w f.rest.now → (vs : List Item) → (EndsBefore vs w.sort_key → ⊥) → (v : Item) (after : List ℕ) → IsNext form n last bytes v after → EndsBefore vs v.sort_key → ⊥
+pub the_next : (form : Form) (n : ℕ) (last bytes : List ℕ) (f : Fields) (w : Item) → bytes ≡ bytes_of f → IsNextEntry form n last (bytes_of f) w f.rest.now → (vs : List Item) → (EndsBefore vs w.sort_key → ⊥) → (v : Item) (after : List ℕ) → IsNextEntry form n last bytes v after → EndsBefore vs v.sort_key → ⊥
 the_next form n last bytes f w e h vs bad v after g ends =
-    let same = next_once form n last (bytes_of f) w v f.rest.now after h (subst (λ (x : List ℕ). IsNext form n last x v after) e g) in
+    let same = next_once form n last (bytes_of f) w v f.rest.now after h (subst (λ (x : List ℕ). IsNextEntry form n last x v after) e g) in
     bad (subst (λ (x : Item). EndsBefore vs x.sort_key) (sym same.0) ends)
 
 pub length-items_at : (keys image : List ℕ) (es : List Entry) → length (items_at keys image es) ≡ length es
@@ -73,14 +73,14 @@ snoc_front vs ws v w e =
 
 -- one more version was read
 pub read_more : (form : Form) (region : List ℕ) (at end : ℕ) (old new : Index) (last next-last rest : List ℕ) (v : Item)
-    → HasRead form region at old last → IsNext form (length old.entries.items) last (drop at region) v rest → EndsBefore (items_in region old) v.sort_key
+    → HasRead form region at old last → IsNextEntry form (length old.entries.items) last (drop at region) v rest → EndsBefore (items_in region old) v.sort_key
     → end ≤ length region → drop end region ≡ rest
     → All (IsWithin new.keys.items region) new.entries.items → items_in region new ≡ items_in region old ++ v ∷ [] → new.restarts.items ≡ old.restarts.items ++ restart (length old.entries.items) at → next-last ≡ key_of form v → new.last_at ≡ at
     → HasRead form region end new next-last
 read_more form region at end old new last next-last rest v h next ends fits rest-is within items-is restarts-is last-is begins-is =
     let vs = items_in region old in
     let count : length old.entries.items ≡ length vs = sym (length-items_at old.keys.items region old.entries.items) in
-    let next' : IsNext form (length vs) (last_key form [] vs) (drop at region) v rest = subst (λ (n : ℕ). IsNext form n (last_key form [] vs) (drop at region) v rest) count (subst (λ (l : List ℕ). IsNext form (length old.entries.items) l (drop at region) v rest) h.ends next) in
+    let next' : IsNextEntry form (length vs) (last_key form [] vs) (drop at region) v rest = subst (λ (n : ℕ). IsNextEntry form n (last_key form [] vs) (drop at region) v rest) count (subst (λ (l : List ℕ). IsNextEntry form (length old.entries.items) l (drop at region) v rest) h.ends next) in
     let placed : at ≡ 0 + length (block_entries form vs) = (let le = h.fits in omega (arith, ap length h.run.parts, length-append (block_entries form vs) (drop at region), length-drop at region)) in
     let counted : length old.entries.items ≡ 0 + length vs = omega (arith, count) in
     let parts : region ≡ block_entries form (vs ++ v ∷ []) ++ rest = run_more form region (drop at region) rest vs v h.run.parts next' in

@@ -8,7 +8,7 @@ use Rattle.ts_key.specs.StoredKeys.{IsItem}
 use Rattle.ts_key.specs.Lists.{IsSorted}
 use Rattle.ts_key.specs.declared.version.Form.{Form}
 use Rattle.data_block.specs.Grammar.{key_of, shared, entry_of, entries, last_key}
-use Rattle.data_block.specs.Reading.{IsNext}
+use Rattle.data_block.specs.Reading.{IsNextEntry}
 use Rattle.data_block.specs.Regions.{IsRun, StopsAt}
 use Rattle.data_block.proofs.Lengths.{length-entry}
 use Rattle.data_block.proofs.Runs.{next_once}
@@ -19,7 +19,7 @@ pub record GoesOn (form : Form) (n : ℕ) (last : List ℕ) (vs : List Item) (re
   pub more : List Item
   pub after : List ℕ
   pub whole : ws ≡ vs ++ w ∷ more
-  pub next : IsNext form (n + length vs) (last_key form last vs) rest w after
+  pub next : IsNextEntry form (n + length vs) (last_key form last vs) rest w after
 
 pub some_entry : (form : Form) (n : ℕ) (last : List ℕ) (v : Item) (x : List ℕ) → [] ≡ entry_of form n last v ++ x → ⊥
 some_entry form n last v x e = omega (arith, ap length e, length-append (entry_of form n last v) x, length-entry (shared n last (key_of form v)) (key_of form v) v.value)
@@ -31,7 +31,7 @@ goes_on_at form n last rest w ws after item e =
       more = ws;
       after = after;
       whole = refl;
-      next = subst (λ (m : ℕ). IsNext form m last rest w after) (sym (add-zero n)) (record { parts = e; item = item });
+      next = subst (λ (m : ℕ). IsNextEntry form m last rest w after) (sym (add-zero n)) (record { parts = e; item = item });
     }
 
 goes_on_more : (form : Form) (n : ℕ) (last : List ℕ) (v x : Item) (vs ws : List Item) (rest : List ℕ) → v ≡ x → GoesOn form (n + 1) (key_of form v) vs rest ws → GoesOn form n last (v ∷ vs) rest (x ∷ ws)
@@ -42,7 +42,7 @@ goes_on_more form n last v x vs ws rest same g =
       more = g.more;
       after = g.after;
       whole = λ i. sym same i ∷ g.whole i;
-      next = subst (λ (m : ℕ). IsNext form m (last_key form (key_of form v) vs) rest g.w g.after) index g.next;
+      next = subst (λ (m : ℕ). IsNextEntry form m (last_key form (key_of form v) vs) rest g.w g.after) index g.next;
     }
 
 abbrev Compared : Form → ℕ → List ℕ → List Item → List ℕ → List Item → List ℕ → Type 0
@@ -81,7 +81,7 @@ cut_sorted (v ∷ vs) w more h = (cut_all (λ x. sort_cmp v.sort_key x.sort_key 
 -- nothing goes on behind the versions before the place where reading stops
 none_on : (form : Form) (region : List ℕ) (n : ℕ) (s : StopsAt form region n) (ws : List Item) → IsSorted ws → GoesOn form 0 [] s.vs s.rest ws → ⊥
 none_on form region n s ws sorted g =
-    let next : IsNext form (length s.vs) (last_key form [] s.vs) s.rest g.w g.after = subst (λ (m : ℕ). IsNext form m (last_key form [] s.vs) s.rest g.w g.after) (omega arith) g.next in
+    let next : IsNextEntry form (length s.vs) (last_key form [] s.vs) s.rest g.w g.after = subst (λ (m : ℕ). IsNextEntry form m (last_key form [] s.vs) s.rest g.w g.after) (omega arith) g.next in
     s.none g.w g.after next (cut_sorted s.vs g.w g.more (subst IsSorted g.whole sorted))
 
 pub stops_right : (form : Form) (region : List ℕ) (n : ℕ) → StopsAt form region n → (ws : List Item) → IsRun form region ws [] → ⊥

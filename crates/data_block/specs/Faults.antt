@@ -53,7 +53,7 @@ abbrev pub BlocksAreUnique : Type 0
 BlocksAreUnique = (form : Form) (vs ws : List Item) → IsBlock form vs → IsBlock form ws → block form vs ≡ block form ws → vs ≡ ws
 
 -- the index stands for the versions of the image, whose entries end there
-pub record IsRead (form : Form) (image : List ℕ) (end : ℕ) (x : Index) : Type 0 where
+pub record IsIndexOf (form : Form) (image : List ℕ) (end : ℕ) (x : Index) : Type 0 where
   pub fits : end ≤ length image
   pub within : All (IsWithin x.keys.items (take end image)) x.entries.items
   pub versions : IsBlock form (items_in (take end image) x)
@@ -63,6 +63,6 @@ pub record IsRead (form : Form) (image : List ℕ) (end : ℕ) (x : Index) : Typ
 
 -- so it does; or the image leaves the grammar
 abbrev pub ReadsImage : Form → List ℕ → Index → Result ℕ BlockFault → Type 0
-ReadsImage form image x (Ok end) = IsRead form image end x
+ReadsImage form image x (Ok end) = IsIndexOf form image end x
 ReadsImage form image x (Err (Bad at)) = IsBlockFault form image at
 ReadsImage form image x (Err NoMemory) = ⊤

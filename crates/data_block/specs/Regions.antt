@@ -11,7 +11,7 @@ use Rattle.data_block.specs.declared.fields.Fields.{Fields}
 use Rattle.data_block.specs.declared.index.Index.{Index}
 use Rattle.data_block.specs.Grammar.{block_entries, block_restarts, last_key}
 use Rattle.data_block.specs.Index.{IsWithin, items_at}
-use Rattle.data_block.specs.Reading.{IsNext, EndsBefore}
+use Rattle.data_block.specs.Reading.{IsNextEntry, EndsBefore}
 
 -- these versions stand at the front of the region, and the rest behind them
 pub record IsRun (form : Form) (region : List ℕ) (vs : List Item) (rest : List ℕ) : Type 0 where
@@ -26,7 +26,7 @@ pub record StopsAt (form : Form) (region : List ℕ) (offset : ℕ) : Type 0 whe
   pub run : IsRun form region vs rest
   pub at : offset ≡ length (block_entries form vs)
   pub some : 0 < length rest
-  pub none : (v : Item) (after : List ℕ) → IsNext form (length vs) (last_key form [] vs) rest v after → IsSorted (vs ++ v ∷ []) → ⊥
+  pub none : (v : Item) (after : List ℕ) → IsNextEntry form (length vs) (last_key form [] vs) rest v after → IsSorted (vs ++ v ∷ []) → ⊥
 
 abbrev pub items_in : List ℕ → Index → List Item
 items_in region x = items_at x.keys.items region x.entries.items
@@ -50,14 +50,21 @@ pub record HasRead (form : Form) (region : List ℕ) (offset : ℕ) (x : Index) 
 
 -- no entry stands at the offset that goes on
 abbrev pub NoneAt : Form → List ℕ → ℕ → Index → List ℕ → Type 0
-NoneAt form region offset x last = (v : Item) (after : List ℕ) → IsNext form (length x.entries.items) last (drop offset region) v after → EndsBefore (items_in region x) v.sort_key → ⊥
+NoneAt form region offset x last = (v : Item) (after : List ℕ) → IsNextEntry form (length x.entries.items) last (drop offset region) v after → EndsBefore (items_in region x) v.sort_key → ⊥
 
 -- one more entry was read, which ends there; or there is none
 abbrev pub TakesNext : Form → List ℕ → ℕ → Index → List ℕ → Index → List ℕ → Option ℕ → Type 0
 TakesNext form region offset old old_last new new_last (Some end) = (offset < end) × HasRead form region end new new_last
 TakesNext form region offset old old_last new new_last None = NoneAt form region offset old old_last
 
+-- the index stands for the whole region
+pub record HasReadWhole (form : Form) (region : List ℕ) (x : Index) : Type 0 where
+  pub within : All (IsWithin x.keys.items region) x.entries.items
+  pub run : IsRun form region (items_in region x) []
+  pub restarts : x.restarts.items ≡ block_restarts form (items_in region x)
+  pub begins : LastBegins form (items_in region x) x.last_at
+
 -- the whole region was read, or up to the first entry that isn't in the grammar
 abbrev pub ReadsRegion : Form → List ℕ → Index → Option ℕ → Type 0
 ReadsRegion form region x (Some at) = StopsAt form region at
-ReadsRegion form region x None = All (IsWithin x.keys.items region) x.entries.items × IsRun form region (items_in region x) [] × (x.restarts.items ≡ block_restarts form (items_in region x)) × LastBegins form (items_in region x) x.last_at
+ReadsRegion form region x None = HasReadWhole form region x

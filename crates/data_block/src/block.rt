@@ -23,8 +23,8 @@ use ts_key::{Form, Hit, KeyRef, Seq, Ts};
 /// Why a block wasn't read.
 #[derive(Clone, Copy, Debug, PartialEq, Eq)]
 pub enum BlockFault {
-    /// The image is outside the grammar. `at` is its length where the restarts and their count don't fit in it, else the
-    /// offset of the first entry that isn't in the grammar, else the offset where the restarts begin.
+    /// The image is outside the grammar. `at` is its length where the restarts and their count don't fit in it, else
+    /// the offset of the first entry that isn't in the grammar, else the offset where the restarts begin.
     Bad { at: u64 },
     /// Memory ran out.
     NoMemory,
@@ -93,12 +93,14 @@ pub(crate) fn read_index(
 }
 
 impl Block {
-    /// The entries of an image.
-    pub(crate) fn of(entries_image: Bytes, keys: Vec<u8>, entries: Vec<Entry>) -> Block
+    /// The entries of an image. It gives back the memory that their keys and they don't take.
+    pub(crate) fn of(entries_image: Bytes, mut keys: Vec<u8>, mut entries: Vec<Entry>) -> Block
         requires within { All (IsWithin keys.items entries_image) entries.items }
         requires sorted { IsSorted (items_at keys.items entries_image entries.items) }
         ensures { result ≡ items_at keys.items entries_image entries.items }
     {
+        keys.shrink_to_fit();
+        entries.shrink_to_fit();
         Block {
             entries_image,
             keys,
@@ -122,11 +124,7 @@ impl Block {
             restarts: _,
             last_at: _,
         } = index;
-        Ok(Block {
-            entries_image,
-            keys,
-            entries,
-        })
+        Ok(Block::of(entries_image, keys, entries))
     }
 
     /// The newest version of the key with a timestamp up to `t` and a sequence up to `s`.
@@ -143,7 +141,7 @@ impl Block {
         )
     }
 
-    /// A cursor at the first version. It takes no memory yet.
+    /// A cursor at the first version. Making it takes no memory.
     pub fn cursor(&self, _alloc: Global) -> Result<BlockCursor<'_>, NoMemory>
         ensures made { IsOk result }
         ensures versions { IfOk result (λ c. versions_of c ≡ self.now) }

@@ -9,7 +9,8 @@ use crate::block::Block;
 use merge_cursor::{Cursor, Placed};
 use ts_key::{Hit, KeyRef};
 
-/// It stands before the first version of a block, at one of them, or after the last.
+/// It stands before the first version of a block, at one of them, or after the last. A block names no family, so what
+/// it is `over` is its items alone: a cursor that is to stand for a family brings the family along.
 #[derive(Drop)]
 pub struct BlockCursor<'a> {
     block: &'a Block,

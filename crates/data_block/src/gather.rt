@@ -4,7 +4,7 @@ ghost use Rattle.std.specs.Prelude.{◌≡◌, ◌≤◌, ◌+◌, ◌<◌, ◌^
 ghost use Rattle.ts_key.specs.Lists.{IsSorted};
 ghost use Rattle.data_block.specs.Index.{items_at, IsWithin};
 ghost use Rattle.data_block.specs.Regions.{items_in};
-ghost use Rattle.data_block.specs.Gathered.{AddsPiece, Follows};
+ghost use Rattle.data_block.specs.Gathered.{ComesAfter, GathersBlock};
 
 use crate::NoMemory;
 use crate::block::{Block, BlockFault, read_index};
@@ -16,7 +16,7 @@ use ts_key::Form;
 
 /// What a block that was read says of how its versions were cut.
 #[derive(Clone, Copy, Debug, PartialEq, Eq)]
-pub struct Piece {
+pub struct BlockCut {
     /// How many versions it has.
     pub versions: usize,
     /// The bytes of its entries.
@@ -51,7 +51,7 @@ impl Model for Gathering {
 fn follows(image: &[u8], keys: &[u8], entries: &[Entry], region: &[u8], x: &Index) -> bool
     requires before { All (IsWithin keys.now image.now) entries.now }
     requires within { All (IsWithin x.now.keys.items region.now) x.now.entries.items }
-    ensures { IsTrue result ↔ Follows (items_at keys.now image.now entries.now) (items_in region.now x.now) }
+    ensures { IsTrue result ↔ ComesAfter (items_at keys.now image.now entries.now) (items_in region.now x.now) }
 {
     if x.entries.is_empty() {
         return true;
@@ -90,7 +90,7 @@ fn append(
 }
 
 impl Gathering {
-    /// Nothing of an image was read. It takes no memory yet.
+    /// Nothing of an image was read. Making it takes no memory.
     pub fn new(alloc: Global, image: Bytes) -> Gathering
         ensures image { result.image ≡ image }
         ensures items { result.items ≡ [] }
@@ -102,18 +102,22 @@ impl Gathering {
         }
     }
 
-    /// Reads the block between two offsets of the image. After an error the value serves no more.
+    /// Reads the block between two offsets of the image, and puts its versions behind those before. `Bad` comes
+    /// exactly where these bytes are no block: its `at` counts from `from`, and the value stays as it was. After
+    /// `NoMemory` the value serves no more, as a part of the block may be in it. It takes time linear in these bytes
+    /// and in the block's keys, which it joins and then copies behind those before, and one comparison of keys for
+    /// each version.
     pub fn add(
         &mut self,
         alloc: Global,
         form: Form,
         from: usize,
         to: usize,
-    ) -> Result<Piece, BlockFault>
+    ) -> Result<BlockCut, BlockFault>
         requires order { from ≤ to }
         requires within { to ≤ length self.old.image }
         ensures image { self.new.image ≡ self.old.image }
-        ensures added { AddsPiece form (slice_range self.old.image from to) self.old.items self.new.items result }
+        ensures added { GathersBlock form (slice_range self.old.image from to) self.old.items self.new.items result }
     {
         let mut x = Index::new(alloc);
         let image = self.image.as_slice();
@@ -121,7 +125,7 @@ impl Gathering {
         let region = &image[from..from + end];
         let follows = follows(image, &self.keys, &self.entries, region, &x);
         append(image, &mut self.keys, &mut self.entries, region, &x, from)?;
-        Ok(Piece {
+        Ok(BlockCut {
             versions: x.entries.len(),
             entries: end,
             before_last: x.last_at,

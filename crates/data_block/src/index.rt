@@ -1,4 +1,5 @@
-//! An index of the entries of a block, made once when it is read. Beside the joined keys it has 40 bytes for each entry.
+//! An index of the entries of a block, made once when it is read. Beside the joined keys it has 40 bytes for each
+//! entry.
 
 ghost use Rattle.std.specs.Prelude.{◌≡◌, ◌≤◌, ◌<◌, ◌+◌, ◌^◌, [], ◌∷◌, ◌++◌, All, IsTrue, ◌↔◌, OnOk, length, nat_le, ◌&&◌};
 ghost use Rattle.std.specs.Str.{bytes_eq};

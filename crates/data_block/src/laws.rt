@@ -1,6 +1,7 @@
-//! Laws of the grammar of a block.
+//! Laws of the grammar of a block, and of blocks one after the other.
 
 ghost use Rattle.data_block.specs.Faults.{FaultsAreRight, FaultsAreSingle, BlocksAreUnique};
+ghost use Rattle.data_block.specs.Gathered.{ComingAfterSorts};
 
 /// Bytes that leave the grammar somewhere spell no list of versions.
 pub fn faults_are_right()
@@ -15,4 +16,10 @@ pub fn faults_are_single()
 /// A list of versions is known by the bytes of its block.
 pub fn blocks_are_unique()
     ensures { BlocksAreUnique }
+{}
+
+/// Versions in the stored order that come after others in it go on with them: what `Gathering::finish` asks follows
+/// block by block.
+pub fn coming_after_sorts()
+    ensures { ComingAfterSorts }
 {}

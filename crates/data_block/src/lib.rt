@@ -15,8 +15,8 @@ pub mod writer;
 
 pub use block::{Block, BlockFault};
 pub use cursor::BlockCursor;
-pub use gather::{Gathering, Piece};
-pub use laws::{blocks_are_unique, faults_are_right, faults_are_single};
+pub use gather::{BlockCut, Gathering};
+pub use laws::{blocks_are_unique, coming_after_sorts, faults_are_right, faults_are_single};
 pub use writer::{BLOCK_TARGET, BlockWriter, RESTART_INTERVAL};
 
 /// Memory ran out.

@@ -6,8 +6,8 @@
 //!    value    := `length` bytes; none for a delete
 //!    restart  := offset:u32                       of an entry whose index from 0 is a multiple of 16
 //!
-//! Numbers are little-endian. An entry at a restart shares nothing; each other one shares exactly the common prefix of its
-//! stored key with the one before it. The versions stand in the stored order, no two at one place.
+//! Numbers are little-endian. An entry at a restart shares nothing; each other one shares exactly the common prefix of
+//! its stored key with the one before it. The versions stand in the stored order, no two at one place.
 
 ghost use Rattle.std.specs.Prelude.{◌≡◌, ◌<◌, ◌≤◌, ◌+◌, ◌^◌, List, [], ◌∷◌, ◌++◌, length, IsTrue, ◌↔◌, IsOk, IfOk, OnOk, OnErr};
 ghost use Rattle.ts_key.specs.Numbers.{number_bytes};
@@ -123,7 +123,7 @@ pub(crate) fn put_numbers(out: &mut Vec<u8>, ns: &[u32]) -> Result<(), NoMemory>
 }
 
 impl BlockWriter {
-    /// A writer that has written nothing. It takes no memory yet.
+    /// A writer that has written nothing. Making it takes no memory.
     pub fn new(alloc: Global, form: Form) -> Result<BlockWriter, NoMemory>
         ensures made { IsOk result }
         ensures form { IfOk result (λ w. w.form ≡ form) }
@@ -139,8 +139,9 @@ impl BlockWriter {
         })
     }
 
-    /// Adds a version, which the writer's form can spell, to a block that isn't full. Versions come in the stored order,
-    /// each after the last one: only then is what `finish` gives read again. After `NoMemory` the writer is as before.
+    /// Adds a version, which the writer's form can spell, to a block that isn't full. Versions come in the stored
+    /// order, each after the last one: only then `Block::read` reads back what `finish` gives. After `NoMemory` the
+    /// writer is as before. It copies the version's key twice and its value once.
     pub fn push(&mut self, v: &Version) -> Result<(), NoMemory>
         requires room { length self.old.entries < block_target }
         requires stamp { IsStamp self.old.form v.now.ts.0 }
@@ -171,7 +172,16 @@ impl BlockWriter {
         self.out.len() >= BLOCK_TARGET
     }
 
-    /// The block of the versions that were pushed. It is read again where they came in the stored order and there is one.
+    /// How many bytes the block would have if it ended here.
+    pub fn size(&self) -> usize
+        ensures value { (vs : List Item) → HasWritten self.now vs → result ≡ length (block self.now.form vs) }
+        ensures bound { result < 2 ^ 20 }
+    {
+        self.out.len() + 4 * self.restarts.len() + 4
+    }
+
+    /// The block of the versions that were pushed. `Block::read` reads it back where they came in the stored order and
+    /// there is one.
     pub fn finish(self) -> Result<Vec<u8>, NoMemory>
         ensures written { (vs : List Item) → HasWritten self vs
             → IfOk result (λ image. image.items ≡ block self.form vs) }

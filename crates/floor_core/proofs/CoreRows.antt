@@ -1,12 +1,9 @@
 -- Rows of the core: what it answers to short lists of events.
-use Rattle.std.proofs.Common.{◌≡◌, ℕ, List, [], ◌∷◌, codes, Option, Some, None, refl}
-use Rattle.ts_key.specs.declared.version.Op.{Op}
+use Rattle.std.proofs.Common.{◌≡◌, ℕ, List, [], ◌∷◌, codes, Some, None, refl}
 use Rattle.ts_key.specs.declared.version.Op.TheVariants as ops
-use Rattle.ts_key.specs.declared.version.Form.{Form}
 use Rattle.ts_key.specs.declared.version.Form.TheVariants.{Persist, Strip}
 use Rattle.ts_key.specs.declared.batch.WriteOp.{WriteOp}
 use Rattle.ts_key.specs.declared.numbers.Family.{Family}
-use Rattle.udt_model.specs.declared.reply.Piece.{Piece}
 use Rattle.udt_model.specs.declared.reply.Stamp.TheVariants as stamps
 use Rattle.udt_model.specs.declared.read.Answer.TheVariants as answers
 use Rattle.udt_model.specs.declared.read.ModelRead.TheVariants as reads
@@ -117,3 +114,32 @@ busy_jobs = refl
 pub halted_stores : replies_to persist (put (codes "a") 5 (codes "u") ∷ FlushStart d ∷ Halt ∷ put (codes "a") 6 (codes "v") ∷ Raise d (ts 3) ∷ FlushEnd 1 ∷ FlushDrop ∷ FlushStart d ∷ Snap ∷ Pin ∷ get (codes "a") 6 ∷ [])
     ≡ written 1 ∷ Done ∷ Done ∷ Refused ∷ Refused ∷ Refused ∷ Done ∷ Refused ∷ Done ∷ Done ∷ found_at (codes "u") 5 ∷ []
 halted_stores = refl
+
+-- a compaction takes ascending numbers of live tables, with all that lie between, to a level from 1 on
+pub inputs_are_closed : replies_to persist
+    (put (codes "a") 5 (codes "u") ∷ FlushStart d ∷ FlushEnd 1 ∷ put (codes "a") 6 (codes "v") ∷ FlushStart d ∷ FlushEnd 2 ∷ CompactStart d (1 ∷ []) 6 ∷ CompactStart d (2 ∷ 1 ∷ []) 6 ∷ CompactStart d (1 ∷ 2 ∷ []) 0 ∷ CompactStart d (1 ∷ 2 ∷ []) 7 ∷ CompactStart d (1 ∷ 2 ∷ []) 6 ∷ [])
+    ≡ written 1 ∷ Done ∷ Done ∷ written 2 ∷ Done ∷ Done ∷ Refused ∷ Refused ∷ Refused ∷ Refused ∷ Done ∷ []
+inputs_are_closed = refl
+
+-- its pieces cut no key, have some versions each, have numbers of their own, and hold all that is kept
+pub pieces_part : replies_to persist
+    (put (codes "a") 5 (codes "u") ∷ put (codes "a") 6 (codes "v") ∷ put (codes "b") 5 (codes "w") ∷ FlushStart d ∷ FlushEnd 1 ∷ CompactStart d (1 ∷ []) 6 ∷ CompactEnd (piece 2 1 ∷ piece 3 2 ∷ []) ∷ CompactEnd (piece 2 0 ∷ piece 3 3 ∷ []) ∷ CompactEnd (piece 2 2 ∷ piece 2 1 ∷ []) ∷ CompactEnd (piece 2 2 ∷ []) ∷ CompactEnd (piece 2 2 ∷ piece 3 1 ∷ []) ∷ [])
+    ≡ written 1 ∷ written 2 ∷ written 3 ∷ Done ∷ Done ∷ Done ∷ Refused ∷ Refused ∷ Refused ∷ Refused ∷ Done ∷ []
+pieces_part = refl
+
+pub halted_compactions : replies_to persist
+    (put (codes "a") 5 (codes "u") ∷ FlushStart d ∷ FlushEnd 1 ∷ CompactStart d (1 ∷ []) 6 ∷ Halt ∷ CompactEnd (piece 2 1 ∷ []) ∷ CompactDrop ∷ CompactStart d (1 ∷ []) 6 ∷ [])
+    ≡ written 1 ∷ Done ∷ Done ∷ Done ∷ Done ∷ Refused ∷ Done ∷ Refused ∷ []
+halted_compactions = refl
+
+-- a snapshot that isn't registered any more is refused in a view too
+pub snapshots_in_views : replies_to persist
+    (put (codes "a") 5 (codes "u") ∷ Snap ∷ put (codes "a") 6 (codes "v") ∷ Pin ∷ PinnedGet 4 d (codes "a") (ts 9) (Some 1) ∷ PinnedGet 4 d (codes "a") (ts 9) (Some 2) ∷ Release 2 ∷ PinnedGet 4 d (codes "a") (ts 9) (Some 2) ∷ in_view 4 (codes "a") 9 ∷ [])
+    ≡ written 1 ∷ Done ∷ written 2 ∷ Done ∷ Refused ∷ found_at (codes "u") 5 ∷ Done ∷ Refused ∷ found_at (codes "v") 6 ∷ []
+snapshots_in_views = refl
+
+-- a view keeps what a later collection takes out
+pub views_keep_their_lists : replies_to persist
+    (put (codes "a") 5 (codes "u") ∷ put (codes "a") 6 (codes "v") ∷ FlushStart d ∷ FlushEnd 1 ∷ Pin ∷ Raise d (ts 9) ∷ CompactStart d (1 ∷ []) 6 ∷ CompactEnd (piece 2 1 ∷ []) ∷ in_view 5 (codes "a") 5 ∷ get (codes "a") 5 ∷ [])
+    ≡ written 1 ∷ written 2 ∷ Done ∷ Done ∷ Done ∷ Done ∷ Done ∷ Done ∷ found_at (codes "u") 5 ∷ collapsed 9 ∷ []
+views_keep_their_lists = refl

@@ -1,5 +1,5 @@
 -- Each event that isn't refused is a legal step of the model.
-use Rattle.std.proofs.Common.{◌≡◌, ◌⊎◌, ℕ, ◌+◌, Bool, true, false, not, ◌&&◌, List, [], ◌∷◌, length, Option, Some, None, refl, sym, ap, subst, ◌∙◌, inl, inr, arith}
+use Rattle.std.proofs.Common.{◌≡◌, ℕ, ◌+◌, Bool, true, false, not, ◌&&◌, List, [], ◌∷◌, length, Option, Some, None, refl, sym, ap, subst, ◌∙◌, inl, inr, arith}
 use Rattle.std.specs.Prelude.{is_none, is_some, ◌==◌, if◌then◌else◌, IsTrue, option_map, unwrap_or}
 use Rattle.std.proofs.lemmas.Bool.{cases_Bool, and_parts}
 use Rattle.std.proofs.lemmas.Bool.Decides.{nat_tests}
@@ -7,11 +7,10 @@ use Rattle.ts_key.specs.declared.batch.WriteOp.{WriteOp}
 use Rattle.ts_key.specs.declared.numbers.Family.{Family}
 use Rattle.ts_key.specs.declared.numbers.Ts.{Ts}
 use Rattle.udt_model.specs.declared.reply.Piece.{Piece}
-use Rattle.udt_model.specs.declared.reply.Reply.{Reply}
 use Rattle.udt_model.specs.declared.reply.Reply.TheVariants.{Done, OkAt, Nothing, Table, Inputs, Kept, DroppedMemory, Halted}
-use Rattle.udt_model.specs.State.{State, FamilyState, Flush, Compaction, family_at, sight}
+use Rattle.udt_model.specs.State.{State, Flush, Compaction, tables_of}
 use Rattle.udt_model.specs.Acts.Act.{write, raise, make_snapshot, release, flush_start, flush_end, compact_start, compact_end}
-use Rattle.udt_model.specs.Refusals.{halt, refusal, ◌otherwise◌}
+use Rattle.udt_model.specs.Refusals.{refusal, ◌otherwise◌}
 use Rattle.udt_model.specs.Jobs.{IsClosed, are_new, compaction_kept, flush_floor, flush_kept, numbers_of_pieces, runs_compaction, runs_flush, unflushed_of}
 use Rattle.udt_model.specs.Steps.{IsCompacted, IsFlushed, IsPicked, after, with_compaction, with_flush}
 use Rattle.floor_laws.specs.Sound.{IsSoundState}
@@ -19,7 +18,7 @@ use Rattle.floor_laws.proofs.Told.{sound_after}
 use Rattle.floor_core.specs.declared.event.CoreEvent.{CoreEvent}
 use Rattle.floor_core.specs.declared.event.CoreEvent.TheVariants.{Write, Get, Raise, Snap, Release, Pin, PinnedGet, FlushStart, FlushEnd, FlushDrop, CompactStart, CompactEnd, CompactDrop, Halt}
 use Rattle.floor_core.specs.Cores.{CoreState, with_live_numbers}
-use Rattle.floor_core.specs.Machine.{flush_ended, is_closed, is_taken, moved, parts_it, store_behind}
+use Rattle.floor_core.specs.Machine.{are_closed, flush_ended, is_accepted, effect, parts_it, store_behind}
 use Rattle.floor_core.proofs.Sound.{sound_live, sound_halted}
 
 none_of : {X : Type 0} (o : Option X) → is_none o ≡ true → o ≡ None
@@ -77,7 +76,7 @@ sound_flush_drop m number (Some job) e s h = sound_after m number (flush_end job
   is = inl tt;
 })
 
-closed_of : (m : State) (i : Family) (inputs : List ℕ) (level : ℕ) → is_closed m i inputs level ≡ true → IsClosed m i inputs level
+closed_of : (m : State) (i : Family) (inputs : List ℕ) (level : ℕ) → are_closed (tables_of m i) inputs level ≡ true → IsClosed m i inputs level
 closed_of m i inputs level e =
     let a = and_parts _ _ e in
     let b = and_parts _ _ a.0 in
@@ -86,9 +85,9 @@ closed_of m i inputs level e =
     let g = and_parts _ _ f.0 in
     record { some = g.0; ascending = g.1; live = f.1; level_is = both_true _ _ d.1 b.1; taken_in = a.1 }
 
-sound_plan : (m : State) (number : ℕ) (i : Family) (inputs : List ℕ) (level : ℕ) → (is_none (refusal m (compact_start i true)) && is_closed m i inputs level) ≡ true → IsSoundState m → IsSoundState (after m number (compact_start i true) (Inputs inputs level))
+sound_plan : (m : State) (number : ℕ) (i : Family) (inputs : List ℕ) (level : ℕ) → (is_none (refusal m (compact_start i true)) && are_closed (tables_of m i) inputs level) ≡ true → IsSoundState m → IsSoundState (after m number (compact_start i true) (Inputs inputs level))
 sound_plan m number i inputs level e h =
-    let parts = and_parts (is_none (refusal m (compact_start i true))) (is_closed m i inputs level) e in
+    let parts = and_parts (is_none (refusal m (compact_start i true))) (are_closed (tables_of m i) inputs level) e in
     sound_after m number (compact_start i true) (Inputs inputs level) h (record {
       running = refl;
       is = inl (subst (λ z. IsPicked m i z (Inputs inputs level)) (sym (none_of (refusal m (compact_start i true)) parts.0)) (closed_of m i inputs level parts.1));
@@ -113,32 +112,32 @@ sound_compaction_drop m number (Some job) e s h = sound_after m number (compact_
 })
 
 -- what an event that isn't refused makes of a sound store is sound
-sound_moved : (c : CoreState) (number : ℕ) (event : CoreEvent) → is_taken c event ≡ true → IsSoundState c.store → IsSoundState (moved c.store number event)
-sound_moved c number (Write batch) e h = sound_write c.store number batch e h
-sound_moved c number (Get i key t snap) e h = h
-sound_moved c number (Raise i floor) e h = sound_raise c.store number i floor e h
-sound_moved c number Snap e h = sound_snap c.store number e h
-sound_moved c number (Release id) e h = sound_after c.store number (release id) Done h (record { running = refl; is = inl refl })
-sound_moved c number Pin e h = h
-sound_moved c number (PinnedGet pin i key t snap) e h = h
-sound_moved c number (FlushStart i) e h = sound_start c.store number i e h
-sound_moved c number (FlushEnd table) e h =
+sound_effect : (c : CoreState) (number : ℕ) (event : CoreEvent) → is_accepted c event ≡ true → IsSoundState c.store → IsSoundState (effect c.store number event)
+sound_effect c number (Write batch) e h = sound_write c.store number batch e h
+sound_effect c number (Get i key t snap) e h = h
+sound_effect c number (Raise i floor) e h = sound_raise c.store number i floor e h
+sound_effect c number Snap e h = sound_snap c.store number e h
+sound_effect c number (Release id) e h = sound_after c.store number (release id) Done h (record { running = refl; is = inl refl })
+sound_effect c number Pin e h = h
+sound_effect c number (PinnedGet pin i key t snap) e h = h
+sound_effect c number (FlushStart i) e h = sound_start c.store number i e h
+sound_effect c number (FlushEnd table) e h =
     let a = and_parts _ _ e in
     let b = and_parts _ _ a.0 in
     sound_flushed c.store number c.store.flush table refl (not_halted c.store.halted b.0) a.1 h
-sound_moved c number FlushDrop e h = sound_flush_drop c.store number c.store.flush refl e h
-sound_moved c number (CompactStart i inputs level) e h = sound_plan c.store number i inputs level e h
-sound_moved c number (CompactEnd pieces) e h =
+sound_effect c number FlushDrop e h = sound_flush_drop c.store number c.store.flush refl e h
+sound_effect c number (CompactStart i inputs level) e h = sound_plan c.store number i inputs level e h
+sound_effect c number (CompactEnd pieces) e h =
     let a = and_parts _ _ e in
     let b = and_parts _ _ a.0 in
     sound_compacted c.store number c.store.compaction pieces refl (not_halted c.store.halted b.0) b.1 a.1 h
-sound_moved c number CompactDrop e h = sound_compaction_drop c.store number c.store.compaction refl e h
-sound_moved c number Halt e h = sound_halted c.store (Some (unwrap_or c.store.halted number)) h
+sound_effect c number CompactDrop e h = sound_compaction_drop c.store number c.store.compaction refl e h
+sound_effect c number Halt e h = sound_halted c.store (Some (unwrap_or c.store.halted number)) h
 
 pub sound_behind : (c : CoreState) (event : CoreEvent) → IsSoundState c.store → IsSoundState (store_behind c event)
 sound_behind c event h =
-    let P : Bool → Type 0 = λ b. IsSoundState (if b then with_live_numbers (moved c.store (c.events + 1) event) else c.store) in
-    elim (cases_Bool (is_taken c event)) [
-      | inl y ↦ subst P (sym y) (sound_live (moved c.store (c.events + 1) event) (sound_moved c (c.events + 1) event y h))
+    let P : Bool → Type 0 = λ b. IsSoundState (if b then with_live_numbers (effect c.store (c.events + 1) event) else c.store) in
+    elim (cases_Bool (is_accepted c event)) [
+      | inl y ↦ subst P (sym y) (sound_live (effect c.store (c.events + 1) event) (sound_effect c (c.events + 1) event y h))
       | inr y ↦ subst P (sym y) h
     ]

@@ -1,10 +1,10 @@
 -- The core stays sound, and a view shows what there was at its pin.
-use Rattle.std.proofs.Common.{◌≡◌, ◌⊎◌, ℕ, zero, suc, ◌+◌, ◌<◌, ◌≤◌, Bool, true, false, ◌&&◌, cond, List, [], ◌∷◌, ◌++◌, length, map, Option, Some, None, refl, sym, ap, subst, ◌∙◌, inl, inr, arith}
-use Rattle.std.specs.Prelude.{All, AllPairs, find, is_some, nat_le, ◌==◌, if◌then◌else◌, option_map, slice_get}
+use Rattle.std.proofs.Common.{◌≡◌, ℕ, zero, suc, ◌+◌, ◌<◌, ◌≤◌, Bool, true, false, ◌&&◌, cond, List, [], ◌∷◌, ◌++◌, length, map, Option, Some, None, refl, sym, ap, subst, ◌∙◌, inl, inr, arith}
+use Rattle.std.specs.Prelude.{All, AllPairs, find, flat_map, is_some, nat_le, ◌==◌, if◌then◌else◌, option_map, slice_get, unwrap_or}
 use Rattle.std.specs.List.{filter}
-use Rattle.std.proofs.lemmas.Bool.{cases_Bool, le-leb, lt-leb}
+use Rattle.std.proofs.lemmas.Bool.{cases_Bool, le-leb, leb-true, lt-leb}
 use Rattle.std.proofs.lemmas.Bool.Decides.{nat_tests}
-use Rattle.std.proofs.lemmas.List.Elements.{filter-append, All-nil}
+use Rattle.std.proofs.lemmas.List.Elements.{filter-append, All-append, All-cons, All-nil}
 use Rattle.std.proofs.lemmas.List.{append-nil}
 use Rattle.ts_key.specs.declared.batch.WriteOp.{WriteOp}
 use Rattle.ts_key.specs.declared.numbers.Family.{Family}
@@ -14,66 +14,24 @@ use Rattle.ts_key.specs.declared.version.Form.{Form}
 use Rattle.ts_key.specs.declared.version.Version.{Version}
 use Rattle.udt_model.specs.declared.reply.Piece.{Piece}
 use Rattle.udt_model.specs.Versions.{AreWritten, made, up_to}
-use Rattle.udt_model.specs.State.{State, FamilyState, Flush, Compaction, family_at, floors_of, sight}
+use Rattle.udt_model.specs.Reads.{read}
+use Rattle.udt_model.specs.Standing.{IsSight, Stands}
+use Rattle.udt_model.specs.Running.{IsSince}
+use Rattle.udt_model.specs.State.{State, FamilyState, Snap, Flush, Compaction, family_at, numbers_of, seqs_of, sight, unflushed_family}
 use Rattle.udt_model.specs.Steps.{with_compaction}
-use Rattle.udt_model.specs.Names.{View, pinned}
 use Rattle.floor_laws.specs.Sound.{IsSoundState, lists_of}
-use Rattle.floor_laws.proofs.Members.{In, In-append, All-In, All-from, filter_none, filter_every}
+use Rattle.floor_laws.proofs.Members.{In, In-contains, In-map, All-In, All-from, filter-In, filter_none, filter_every}
+use Rattle.floor_laws.proofs.ListLaws.{read_same}
 use Rattle.floor_laws.proofs.Taking.{logged_above}
-use Rattle.floor_laws.proofs.Reopening.{sound_fresh, sound_opened, sound_reads}
+use Rattle.floor_laws.proofs.Reopening.{find-In, sound_fresh, sound_opened, sound_reads}
 use Rattle.floor_core.specs.declared.event.CoreEvent.{CoreEvent}
-use Rattle.floor_core.specs.declared.event.CoreEvent.TheVariants.{Write, Get, Raise, Snap, Release, Pin, PinnedGet, FlushStart, FlushEnd, FlushDrop, CompactStart, CompactEnd, CompactDrop, Halt}
-use Rattle.floor_core.specs.declared.event.CoreReply.{CoreReply}
+use Rattle.floor_core.specs.declared.event.CoreEvent.TheVariants.{Write, Get, Pin, PinnedGet, FlushEnd, CompactEnd}
 use Rattle.floor_core.specs.declared.event.CoreReply.TheVariants as replies
-use Rattle.floor_core.specs.Cores.{CoreState, fresh_core, new_head, with_live_numbers}
-use Rattle.floor_core.specs.Machine.{behind_event, flush_ended, has_floor, is_taken, is_there, moved, pin_of, pinned_too, read_at, read_lists, read_pin, store_behind, told, view_now}
-use Rattle.floor_core.specs.Runs.{IsOpenedCore, IsSoundCore, behind_all, got_at_pin, got_from_writes, read_writes, sight_then}
+use Rattle.floor_core.specs.Cores.{CoreState, PinnedFamily, PinnedView, fresh_core, new_head, with_live_numbers}
+use Rattle.floor_core.specs.Machine.{behind_event, effect, flush_ended, has_family, has_snapshot, is_accepted, kept_families, kept_family, pin_of, pinned_too, read_kept, read_lists, read_pin, sight_from, store_behind, told, view_now}
+use Rattle.floor_core.specs.Runs.{AreNumbered, IsOpenedCore, IsSoFar, IsSoundCore, IsSoundView, behind_all, got_at_pin, got_from_writes, read_writes}
 use Rattle.floor_core.proofs.Legal.{sound_behind}
-
--- ---- soundness
-
-numbered : (c : CoreState) (event : CoreEvent) → All (λ (v : View). v.number ≤ c.events) c.pins → All (λ (v : View). v.number ≤ c.events + 1) (pinned_too c event)
-numbered c Pin h = All-from (λ (v : View). v.number ≤ c.events + 1) (c.pins ++ view_now c.store (c.events + 1) ∷ []) (λ v i. elim (In-append v c.pins (view_now c.store (c.events + 1) ∷ []) i) [
-  | inl j ↦ let l = All-In (λ (z : View). z.number ≤ c.events) c.pins v h j in omega (arith, l)
-  | inr j ↦ elim j [ inl q ↦ subst (λ (z : View). z.number ≤ c.events + 1) q (omega arith) | inr b ↦ absurd b ]
-])
-numbered c event h = All-from (λ (v : View). v.number ≤ c.events + 1) c.pins (λ v i. let l = All-In (λ (z : View). z.number ≤ c.events) c.pins v h i in omega (arith, l))
-
-pub sound_all : (c : CoreState) (es : List CoreEvent) → IsSoundCore c → IsSoundCore (behind_all c es)
-sound_all c [] h = h
-sound_all c (e ∷ es) h = sound_all (behind_event c e) es (record { store = sound_behind c e h.store; pins = numbered c e h.pins })
-
-none_written : (count : ℕ) → AreWritten count 0 []
-none_written count = record {
-  ascending = λ i j d l m. absurd (omega (arith, m));
-  positive = All-nil (λ (v : Version). 1 ≤ v.seq.0);
-  bounded = All-nil (λ (v : Version). v.seq.0 ≤ 0);
-  families = All-nil (λ (v : Version). v.family.0 < count);
-  rising = λ a b i. absurd (omega (arith, i.1));
-}
-
-pub fresh_sound : (forms : List Form) → IsSoundCore (fresh_core forms)
-fresh_sound forms = record {
-  store = sound_fresh (map new_head forms) [] (record { 0 = 0 }) None (none_written (length (map new_head forms)));
-  pins = All-nil (λ (v : View). v.number ≤ 0);
-}
-
-pub opened_sound : (c : CoreState) → IsOpenedCore c → IsSoundCore c
-opened_sound c h = record {
-  store = sound_opened c.store h.store;
-  pins = subst (λ z. All (λ (v : View). v.number ≤ c.events) z) (sym h.pins) (All-nil (λ (v : View). v.number ≤ c.events));
-}
-
--- ---- gets
-
-reads_same : (m : State) (i : Family) (o : Option FamilyState) (key : List ℕ) (t : Ts) (snap : Option ℕ) → family_at m i ≡ o → IsSoundState m → read_lists m i o key t (sight m snap) ≡ read_writes m i o key t (sight m snap)
-reads_same m i None key t snap e h = refl
-reads_same m i (Some f) key t snap e h = ap replies.Read (sound_reads m i f key t snap h e)
-
-pub gets_answer : (c : CoreState) (es : List CoreEvent) (i : Family) (key : List ℕ) (t : Ts) (snap : Option ℕ) → IsSoundCore c → told (behind_all c es) (Get i key t snap) ≡ got_from_writes (behind_all c es) i key t snap
-gets_answer c es i key t snap h =
-    let d = behind_all c es in
-    ap (λ z. if is_some (family_at d.store i) && is_there d.store snap then z else replies.Refused) (reads_same d.store i (family_at d.store i) key t snap refl (sound_all c es h).store)
+use Rattle.floor_core.proofs.Numbering.{numbered_behind, snaps_behind, used_behind}
 
 -- ---- what stays of a list
 
@@ -100,18 +58,18 @@ grown_write s m ops le =
     ∙ ap (λ z. filter p m.versions ++ z) (filter_none p (made m.last.0 ops) (λ v j. let l = logged_above (m.last.0 + 1) ops v j in lt-leb v.seq.0 s (omega (arith, l, le))))
     ∙ append-nil (filter p m.versions)
 
-grown_moved : (s : ℕ) (m : State) (number : ℕ) (event : CoreEvent) → s ≤ m.last.0 → Grown s m (moved m number event)
-grown_moved s m number (Write batch) le = record { same = grown_write s m batch le; rises = omega arith }
-grown_moved s m number (FlushEnd table) le = grown_flush s m m.flush table
-grown_moved s m number (CompactEnd pieces) le = grown_compaction s m m.compaction pieces
-grown_moved s m number event le = record { same = refl; rises = omega arith }
+grown_effect : (s : ℕ) (m : State) (number : ℕ) (event : CoreEvent) → s ≤ m.last.0 → Grown s m (effect m number event)
+grown_effect s m number (Write batch) le = record { same = grown_write s m batch le; rises = omega arith }
+grown_effect s m number (FlushEnd table) le = grown_flush s m m.flush table
+grown_effect s m number (CompactEnd pieces) le = grown_compaction s m m.compaction pieces
+grown_effect s m number event le = record { same = refl; rises = omega arith }
 
 grown_behind : (s : ℕ) (c : CoreState) (event : CoreEvent) → s ≤ c.store.last.0 → Grown s c.store (store_behind c event)
 grown_behind s c event le =
-    let next = moved c.store (c.events + 1) event in
-    let g = grown_moved s c.store (c.events + 1) event le in
+    let next = effect c.store (c.events + 1) event in
+    let g = grown_effect s c.store (c.events + 1) event le in
     let P : Bool → Type 0 = λ b. Grown s c.store (if b then with_live_numbers next else c.store) in
-    elim (cases_Bool (is_taken c event)) [
+    elim (cases_Bool (is_accepted c event)) [
       | inl y ↦ subst P (sym y) (record { same = g.same; rises = g.rises })
       | inr y ↦ subst P (sym y) (grown_same s c.store)
     ]
@@ -122,9 +80,120 @@ list_stays s c (e ∷ es) le =
     let g = grown_behind s c e le in
     list_stays s (behind_event c e) es (let l = g.rises in omega (arith, l, le)) ∙ g.same
 
+-- ---- the list up to a pin
+
+first_whole : (m : State) → IsSoundState m → up_to m.last.0 m.versions ≡ m.versions
+first_whole m h = filter_every (λ (v : Version). nat_le v.seq.0 m.last.0) m.versions (λ v i. le-leb v.seq.0 m.last.0 (All-In (λ (z : Version). z.seq.0 ≤ m.last.0) m.versions v h.written.bounded i))
+
+-- ---- what a pin keeps
+
+kept_at : (m : State) (n : ℕ) (fs : List FamilyState) (k : ℕ) → slice_get (kept_families m n fs) k ≡ option_map (kept_family m (record { 0 = n + k })) (slice_get fs k)
+kept_at m n [] k = refl
+kept_at m n (f ∷ fs) zero = let e : n ≡ n + zero = omega arith in ap (λ z. Some (kept_family m (record { 0 = z }) f)) e
+kept_at m n (f ∷ fs) (suc k) = let e : (n + 1) + k ≡ n + suc k = omega arith in kept_at m (n + 1) fs k ∙ ap (λ z. option_map (kept_family m (record { 0 = z })) (slice_get fs k)) e
+
+-- the family that the view keeps is the one of the state
+kept_is : (m : State) (number : ℕ) (i : Family) → slice_get (view_now m number).families i.0 ≡ option_map (kept_family m i) (family_at m i)
+kept_is m number i = let e : 0 + i.0 ≡ i.0 = omega arith in kept_at m 0 m.families i.0 ∙ ap (λ z. option_map (kept_family m (record { 0 = z })) (slice_get m.families i.0)) e
+
+kept_stands : (m : State) (i : Family) (o : Option FamilyState) (g : PinnedFamily) → family_at m i ≡ o → option_map (kept_family m i) o ≡ Some g → IsSoundState m → Stands i g.form g.versions (up_to m.last.0 m.versions) g.floor (seqs_of m)
+kept_stands m i None g at e h = absurd (cc)
+kept_stands m i (Some f) g at e h =
+    let s : Stands i f.head.form (lists_of m i f) (up_to m.last.0 m.versions) f.head.floor (seqs_of m) = subst (λ w. Stands i f.head.form (lists_of m i f) w f.head.floor (seqs_of m)) (sym (first_whole m h)) (h.families i f at).lists in
+    subst (λ (z : PinnedFamily). Stands i z.form z.versions (up_to m.last.0 m.versions) z.floor (seqs_of m)) (some_is (kept_family m i f) g e) s where
+      some_is : (a b : PinnedFamily) → Some a ≡ Some b → a ≡ b
+      some_is a b e = cc
+
+sound_now : (m : State) (number : ℕ) → IsSoundState m → IsSoundView m (view_now m number)
+sound_now m number h = record {
+  families = λ i g at. kept_stands m i (family_at m i) g refl (sym (kept_is m number i) ∙ at) h;
+  last = omega arith;
+  snaps = All-from (IsSince (seqs_of m) m.last) m.snaps (λ s i. inl (In-contains (seqs_of m) s.seq (In-map (λ (z : Snap). z.seq) s m.snaps i)));
+}
+
+-- ---- it stays sound
+
+view_behind : (c : CoreState) (e : CoreEvent) (v : PinnedView) → IsSoundView c.store v → IsSoundView (store_behind c e) v
+view_behind c e v h =
+    let g = grown_behind v.last.0 c e h.last in
+    let le = h.last in
+    let up = g.rises in
+    record {
+      families = λ i f at. subst (λ w. Stands i f.form f.versions w f.floor v.seqs) (sym g.same) (h.families i f at);
+      last = omega (arith, le, up);
+      snaps = snaps_behind (IsSince v.seqs v.last) c e h.snaps (inr le);
+    }
+
+views_behind : (c : CoreState) (e : CoreEvent) → IsSoundState (store_behind c e) → IsSoundState c.store → All (IsSoundView c.store) c.pins → All (IsSoundView (store_behind c e)) (pinned_too c e)
+views_behind c Pin now old h =
+    let P : PinnedView → Type 0 = IsSoundView (store_behind c Pin) in
+    let v : PinnedView = view_now c.store (c.events + 1) in
+    All-append P c.pins (v ∷ []) (All-from P c.pins (λ z i. view_behind c Pin z (All-In (IsSoundView c.store) c.pins z h i))) (All-cons P v [] (view_behind c Pin v (sound_now c.store (c.events + 1) old)) (All-nil P))
+views_behind c e now old h = All-from (IsSoundView (store_behind c e)) c.pins (λ z i. view_behind c e z (All-In (IsSoundView c.store) c.pins z h i))
+
+-- ---- soundness
+
+pub sound_all : (c : CoreState) (es : List CoreEvent) → IsSoundCore c → IsSoundCore (behind_all c es)
+sound_all c [] h = h
+sound_all c (e ∷ es) h =
+    let store = sound_behind c e h.store in
+    sound_all (behind_event c e) es (record { store = store; used = used_behind c e h.used; numbers = numbered_behind c e h.numbers; views = views_behind c e store h.store h.views })
+
+none_written : (count : ℕ) → AreWritten count 0 []
+none_written count = record {
+  ascending = λ i j d l m. absurd (omega (arith, m));
+  positive = All-nil (λ (v : Version). 1 ≤ v.seq.0);
+  bounded = All-nil (λ (v : Version). v.seq.0 ≤ 0);
+  families = All-nil (λ (v : Version). v.family.0 < count);
+  rising = λ a b i. absurd (omega (arith, i.1));
+}
+
+no_live : (forms : List Form) → [] ≡ flat_map (λ (f : FamilyState). numbers_of f.tables) (map unflushed_family (map new_head forms))
+no_live [] = refl
+no_live (form ∷ forms) = no_live forms
+
+-- nothing is numbered that isn't there
+none_numbered : (c : CoreState) → c.store.snaps ≡ [] → c.store.flush ≡ None → c.store.compaction ≡ None → c.store.halted ≡ None → c.pins ≡ [] → AreNumbered c
+none_numbered c snaps flush compaction halted pins = record {
+  snaps = subst (λ z. All (λ (s : Snap). s.event ≤ c.events) z) (sym snaps) (All-nil (λ (s : Snap). s.event ≤ c.events));
+  snaps_ascend = subst (λ z. AllPairs (λ (a b : Snap). a.event < b.event) z) (sym snaps) (λ i j d l m. absurd (omega (arith, m)));
+  views = subst (λ z. All (λ (v : PinnedView). v.number ≤ c.events) z) (sym pins) (All-nil (λ (v : PinnedView). v.number ≤ c.events));
+  views_ascend = subst (λ z. AllPairs (λ (a b : PinnedView). a.number < b.number) z) (sym pins) (λ i j d l m. absurd (omega (arith, m)));
+  flush = subst (λ z. IsSoFar c.events (option_map (λ (job : Flush). job.start) z)) (sym flush) tt;
+  compaction = subst (λ z. IsSoFar c.events (option_map (λ (job : Compaction). job.start) z)) (sym compaction) tt;
+  halted = subst (λ z. IsSoFar c.events z) (sym halted) tt;
+}
+
+pub fresh_sound : (forms : List Form) → IsSoundCore (fresh_core forms)
+fresh_sound forms = record {
+  store = sound_fresh (map new_head forms) [] (record { 0 = 0 }) None (none_written (length (map new_head forms)));
+  used = no_live forms;
+  numbers = none_numbered (fresh_core forms) refl refl refl refl refl;
+  views = All-nil (IsSoundView (fresh_core forms).store);
+}
+
+pub opened_sound : (c : CoreState) → IsOpenedCore c → IsSoundCore c
+opened_sound c h = record {
+  store = sound_opened c.store h.store;
+  used = h.used;
+  numbers = none_numbered c h.store.snaps h.store.flush h.store.compaction h.halted h.pins;
+  views = subst (λ z. All (IsSoundView c.store) z) (sym h.pins) (All-nil (IsSoundView c.store));
+}
+
+-- ---- gets
+
+reads_same : (m : State) (i : Family) (o : Option FamilyState) (key : List ℕ) (t : Ts) (snap : Option ℕ) → family_at m i ≡ o → IsSoundState m → read_lists m i o key t (sight m snap) ≡ read_writes m i o key t (sight m snap)
+reads_same m i None key t snap e h = refl
+reads_same m i (Some f) key t snap e h = ap replies.Read (sound_reads m i f key t snap h e)
+
+pub gets_answer : (c : CoreState) (es : List CoreEvent) (i : Family) (key : List ℕ) (t : Ts) (snap : Option ℕ) → IsSoundCore c → told (behind_all c es) (Get i key t snap) ≡ got_from_writes (behind_all c es) i key t snap
+gets_answer c es i key t snap h =
+    let d = behind_all c es in
+    ap (λ z. if is_some (family_at d.store i) && has_snapshot d.store snap then z else replies.Refused) (reads_same d.store i (family_at d.store i) key t snap refl (sound_all c es h).store)
+
 -- ---- views stay
 
-find_kept : (p : View → Bool) (xs ys : List View) (v : View) → find p xs ≡ Some v → find p (xs ++ ys) ≡ Some v
+find_kept : (p : PinnedView → Bool) (xs ys : List PinnedView) (v : PinnedView) → find p xs ≡ Some v → find p (xs ++ ys) ≡ Some v
 find_kept p [] ys v h = absurd (cc)
 find_kept p (x ∷ xs) ys v h = on (p x) (find_kept p xs ys v) h
   where
@@ -132,15 +201,15 @@ find_kept p (x ∷ xs) ys v h = on (p x) (find_kept p xs ys v) h
     on true rest h = h
     on false rest h = rest h
 
-find_last : (p : View → Bool) (xs : List View) (v : View) → ((x : View) → In x xs → p x ≡ false) → p v ≡ true → find p (xs ++ v ∷ []) ≡ Some v
+find_last : (p : PinnedView → Bool) (xs : List PinnedView) (v : PinnedView) → ((x : PinnedView) → In x xs → p x ≡ false) → p v ≡ true → find p (xs ++ v ∷ []) ≡ Some v
 find_last p [] v none y = ap (λ b. cond b (Some v) None) y
 find_last p (x ∷ xs) v none y = ap (λ b. cond b (Some x) (find p (xs ++ v ∷ []))) (none x (inl refl)) ∙ find_last p xs v (λ z i. none z (inr i)) y
 
-view_kept : (c : CoreState) (event : CoreEvent) (p : View → Bool) (v : View) → find p c.pins ≡ Some v → find p (pinned_too c event) ≡ Some v
+view_kept : (c : CoreState) (event : CoreEvent) (p : PinnedView → Bool) (v : PinnedView) → find p c.pins ≡ Some v → find p (pinned_too c event) ≡ Some v
 view_kept c Pin p v h = find_kept p c.pins (view_now c.store (c.events + 1) ∷ []) v h
 view_kept c event p v h = h
 
-view_stays : (c : CoreState) (es : List CoreEvent) (p : View → Bool) (v : View) → find p c.pins ≡ Some v → find p (behind_all c es).pins ≡ Some v
+view_stays : (c : CoreState) (es : List CoreEvent) (p : PinnedView → Bool) (v : PinnedView) → find p c.pins ≡ Some v → find p (behind_all c es).pins ≡ Some v
 view_stays c [] p v h = h
 view_stays c (e ∷ es) p v h = view_stays (behind_event c e) es p v (view_kept c e p v h)
 
@@ -150,35 +219,56 @@ not_equal a n h = grind (arith, nat_tests)
 equal : (n : ℕ) → (n == n) ≡ true
 equal n = grind (arith, nat_tests)
 
-view_made : (c : CoreState) → IsSoundCore c → find (λ (v : View). v.number == (c.events + 1)) (behind_event c Pin).pins ≡ Some (view_now c.store (c.events + 1))
-view_made c h = find_last (λ (v : View). v.number == (c.events + 1)) c.pins (view_now c.store (c.events + 1)) (λ x i. not_equal x.number c.events (All-In (λ (z : View). z.number ≤ c.events) c.pins x h.pins i)) (equal (c.events + 1))
+view_made : (c : CoreState) → IsSoundCore c → find (λ (v : PinnedView). v.number == (c.events + 1)) (behind_event c Pin).pins ≡ Some (view_now c.store (c.events + 1))
+view_made c h = find_last (λ (v : PinnedView). v.number == (c.events + 1)) c.pins (view_now c.store (c.events + 1)) (λ x i. not_equal x.number c.events (All-In (λ (z : PinnedView). z.number ≤ c.events) c.pins x h.numbers.views i)) (equal (c.events + 1))
+
+find_In : (p : PinnedView → Bool) (xs : List PinnedView) (v : PinnedView) → find p xs ≡ Some v → In v xs
+find_In p [] v h = absurd (cc)
+find_In p (x ∷ xs) v h =
+    elim (cases_Bool (p x)) [
+      | inl e ↦ let h2 : Some x ≡ Some v = rw e at h in inl (cc)
+      | inr e ↦ let h2 : find p xs ≡ Some v = rw e at h in inr (find_In p xs v h2)
+    ]
+
+up_to_all : (w : List Version) (last s : ℕ) → last ≤ s → All (λ (v : Version). v.seq.0 ≤ s) (up_to last w)
+up_to_all w last s le = All-from (λ (v : Version). v.seq.0 ≤ s) (up_to last w) (λ v i. let l = leb-true v.seq.0 last (filter-In (λ (z : Version). nat_le z.seq.0 last) v w i).1 in omega (arith, l, le))
 
 -- ---- pinned gets
 
-get_mapped : {X Y : Type 0} (f : X → Y) (xs : List X) (n : ℕ) → slice_get (map f xs) n ≡ option_map f (slice_get xs n)
-get_mapped f [] n = refl
-get_mapped f (x ∷ xs) zero = refl
-get_mapped f (x ∷ xs) (suc n) = get_mapped f xs n
+sight_found : (w : List Version) (v : PinnedView) (o : Option Snap) → ((s : Snap) → o ≡ Some s → IsSince v.seqs v.last s) → IsSight (up_to v.last.0 w) v.seqs (unwrap_or (option_map (λ (s : Snap). s.seq) o) v.last)
+sight_found w v None h = inr (up_to_all w v.last.0 v.last.0 (omega arith))
+sight_found w v (Some s) h = elim (h s refl) [ inl i ↦ inl i | inr le ↦ inr (up_to_all w v.last.0 s.seq.0 le) ]
 
-pinned_same : (m : State) (i : Family) (o : Option FamilyState) (there : Bool) (key : List ℕ) (t : Ts) (s : Seq)
-    → (if is_some (option_map (λ (f : FamilyState). f.head.floor) o) && there then read_at m.versions i (option_map (λ (f : FamilyState). f.head.floor) o) key t s else replies.Refused)
-    ≡ (if is_some o && there then read_writes m i o key t s else replies.Refused)
-pinned_same m i None there key t s = refl
-pinned_same m i (Some f) there key t s = refl
+sight_in : (m : State) (v : PinnedView) (snap : Option ℕ) → IsSoundView m v → IsSight (up_to v.last.0 m.versions) v.seqs (sight_from m v.last snap)
+sight_in m v None h = inr (up_to_all m.versions v.last.0 v.last.0 (omega arith))
+sight_in m v (Some event) h = sight_found m.versions v (find (λ (s : Snap). s.event == event) m.snaps) (λ s e. All-In (IsSince v.seqs v.last) m.snaps s h.snaps (find-In (λ (z : Snap). z.event == event) m.snaps s e))
 
-first_whole : (m : State) → IsSoundState m → up_to m.last.0 m.versions ≡ m.versions
-first_whole m h = filter_every (λ (v : Version). nat_le v.seq.0 m.last.0) m.versions (λ v i. le-leb v.seq.0 m.last.0 (All-In (λ (z : Version). z.seq.0 ≤ m.last.0) m.versions v h.written.bounded i))
+-- a read of what a view keeps answers as one of the list up to its pin
+kept_reads : (m : State) (v : PinnedView) (i : Family) (g : PinnedFamily) (key : List ℕ) (t : Ts) (snap : Option ℕ) → IsSoundView m v → slice_get v.families i.0 ≡ Some g
+    → read g.versions g.floor i key t (sight_from m v.last snap) ≡ read (up_to v.last.0 m.versions) g.floor i key t (sight_from m v.last snap)
+kept_reads m v i g key t snap h at = read_same i g.form g.versions (up_to v.last.0 m.versions) g.floor v.seqs key t (sight_from m v.last snap) (h.families i g at) (sight_in m v snap h)
+
+pinned_same : (at now : State) (number : ℕ) (i : Family) (o : Option FamilyState) (key : List ℕ) (t : Ts) (snap : Option ℕ)
+    → family_at at i ≡ o → up_to at.last.0 now.versions ≡ at.versions → IsSoundView now (view_now at number)
+    → (if is_some (option_map (kept_family at i) o) && has_snapshot now snap then read_kept i (option_map (kept_family at i) o) key t (sight_from now at.last snap) else replies.Refused)
+    ≡ (if is_some o && has_snapshot now snap then read_writes at i o key t (sight_from now at.last snap) else replies.Refused)
+pinned_same at now number i None key t snap is list h = refl
+pinned_same at now number i (Some f) key t snap is list h =
+    let g : PinnedFamily = kept_family at i f in
+    let s : Seq = sight_from now at.last snap in
+    let there : slice_get (view_now at number).families i.0 ≡ Some g = kept_is at number i ∙ ap (option_map (kept_family at i)) is in
+    let r : read g.versions g.floor i key t s ≡ read at.versions g.floor i key t s = kept_reads now (view_now at number) i g key t snap h there ∙ ap (λ w. read w g.floor i key t s) list in
+    ap (λ z. if has_snapshot now snap then replies.Read z else replies.Refused) r
 
 pub pinned_gets_answer : (c : CoreState) (es : List CoreEvent) (i : Family) (key : List ℕ) (t : Ts) (snap : Option ℕ) → IsSoundCore c
-    → told (behind_all (behind_event c Pin) es) (PinnedGet (c.events + 1) i key t snap) ≡ got_at_pin c.store (behind_all (behind_event c Pin) es).store (c.events + 1) i key t snap
+    → told (behind_all (behind_event c Pin) es) (PinnedGet (c.events + 1) i key t snap) ≡ got_at_pin c.store (behind_all (behind_event c Pin) es).store i key t snap
 pinned_gets_answer c es i key t snap h =
     let d = behind_all (behind_event c Pin) es in
-    let v = view_now c.store (c.events + 1) in
-    let s = sight_then c.store d.store (c.events + 1) snap in
-    let there = is_there d.store snap in
-    let found : pin_of d (c.events + 1) ≡ Some v = view_stays (behind_event c Pin) es (λ (z : View). z.number == (c.events + 1)) v (view_made c h) in
+    let v : PinnedView = view_now c.store (c.events + 1) in
+    let s : Seq = sight_from d.store c.store.last snap in
+    let found : pin_of d (c.events + 1) ≡ Some v = view_stays (behind_event c Pin) es (λ (z : PinnedView). z.number == (c.events + 1)) v (view_made c h) in
     let list : up_to c.store.last.0 d.store.versions ≡ c.store.versions = list_stays c.store.last.0 (behind_event c Pin) es (omega arith) ∙ first_whole c.store h.store in
-    ap (λ o. if has_floor o i && there then read_pin d.store o i key t snap else replies.Refused) found
-    ∙ ap (λ w. if is_some (slice_get v.floors i.0) && there then read_at w i (slice_get v.floors i.0) key t s else replies.Refused) list
-    ∙ ap (λ o. if is_some o && there then read_at c.store.versions i o key t s else replies.Refused) (get_mapped (λ (f : FamilyState). f.head.floor) c.store.families i.0)
-    ∙ pinned_same c.store i (family_at c.store i) there key t s
+    let sound : IsSoundView d.store v = All-In (IsSoundView d.store) d.pins v (sound_all c (Pin ∷ es) h).views (find_In (λ (z : PinnedView). z.number == (c.events + 1)) d.pins v found) in
+    ap (λ o. if has_family o i && has_snapshot d.store snap then read_pin d.store o i key t snap else replies.Refused) found
+    ∙ ap (λ o. if is_some o && has_snapshot d.store snap then read_kept i o key t s else replies.Refused) (kept_is c.store (c.events + 1) i)
+    ∙ pinned_same c.store d.store (c.events + 1) i (family_at c.store i) key t snap refl list sound

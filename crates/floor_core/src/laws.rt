@@ -1,5 +1,5 @@
 //! What the core shows over every list of events. A function states the laws; it does nothing.
-ghost use Rattle.floor_core.specs.Runs.{CountsEvents, FreshIsSound, GetsAnswer, IsSoundBehindAll, OpenedIsSound, PinnedGetsAnswer, RefusedChangesNothing, RefusesExactly};
+ghost use Rattle.floor_core.specs.Runs.{CompactionsEndByTheirStart, CountsEvents, FlushesEndByTheirStart, FreshIsSound, GetsAnswer, IsSoundBehindAll, OpenedIsSound, PinnedGetsAnswer, RefusedChangesNothing, RefusesExactly};
 
 /// A fresh core is sound, and so is one that begins with an opened store. Behind every list of events a sound core is sound:
 /// each family's lists stand for every version that was ever written, at its floor and with the registered snapshots. So each
@@ -18,4 +18,11 @@ pub fn core_refuses_exactly()
     ensures exactly { RefusesExactly }
     ensures kept { RefusedChangesNothing }
     ensures counted { CountsEvents }
+{}
+
+/// A job that runs is the one that its start made, with the last sequence, the floor and the snapshots of its start, and a
+/// compaction with its inputs, its level and the deeper spans: its end makes its tables by them, whatever came between.
+pub fn jobs_end_by_their_start()
+    ensures flush { FlushesEndByTheirStart }
+    ensures compaction { CompactionsEndByTheirStart }
 {}

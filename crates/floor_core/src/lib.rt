@@ -6,5 +6,5 @@ mod event;
 mod laws;
 
 pub use event::{CoreEvent, CoreReply};
-pub use laws::{core_is_safe, core_refuses_exactly};
+pub use laws::{core_is_safe, core_refuses_exactly, jobs_end_by_their_start};
 pub use udt_model::{Piece, Row};

@@ -15,7 +15,7 @@ use Rattle.ts_key.specs.declared.version.Version.{Version}
 use Rattle.udt_model.specs.declared.reply.KeySpan.{KeySpan}
 use Rattle.udt_model.specs.Versions.{is_newer, is_of, is_within, visible, newest_of, is_put, up_to}
 use Rattle.udt_model.specs.Orders.{is_before, is_in_some, stored, with_version}
-use Rattle.udt_model.specs.Collecting.{hides, is_hidden, is_seen, is_seen_at, seen_of, is_put_below, collect, collect_all}
+use Rattle.udt_model.specs.Collecting.{hides, is_hidden, is_ever_seen, is_seen_at, seen_of, is_put_below, collect, collect_all}
 use Rattle.floor_laws.proofs.Members.{In, In-filter, filter-In, filter_every, In-left, In-right, In-append, any-In, In-any, none-any}
 use Rattle.floor_laws.proofs.Best.{Single, IsBest, Best, best_filter}
 
@@ -154,7 +154,7 @@ NewerOutside p r covered = (a b : Version) → In a p → In b r → a.family �
 
 pub collect-In : (p : List Version) (f : Ts) (ss : List Seq) (covered : List ℕ → Bool) (v : Version) → In v (collect_by p f ss covered) → In v p
 collect-In p f ss covered v h =
-    (filter-In (is_seen p f ss) v p (filter-In (λ x. not (is_spent (seen_of p f ss) f covered x)) v (seen_of p f ss) (stored-In v (unspent p f ss covered) h)).0).0
+    (filter-In (is_ever_seen p f ss) v p (filter-In (λ x. not (is_spent (seen_of p f ss) f covered x)) v (seen_of p f ss) (stored-In v (unspent p f ss covered) h)).0).0
 
 pub collect_rest-In : (p r : List Version) (f : Ts) (ss : List Seq) (covered : List ℕ → Bool) (v : Version) → In v (collect_by p f ss covered ++ r) → In v (p ++ r)
 collect_rest-In p r f ss covered v h =
@@ -183,7 +183,7 @@ best_unhidden family key t s p r q f d le best sub =
     false≢true (sym (best.top u (In-left u p r g.0) fu) ∙ b.1))
 
 -- what a read finds is seen
-best_seen : (family : Family) (key : List ℕ) (t : Ts) (s : Seq) (p r : List Version) (f : Ts) (ss : List Seq) (e : Option Seq) (d : Version) → f.0 ≤ t.0 → IsEnd ss e → SeesAlike p s.0 e → IsBest (p ++ r) (fits family key t s) d → In d p → is_seen p f ss d ≡ true
+best_seen : (family : Family) (key : List ℕ) (t : Ts) (s : Seq) (p r : List Version) (f : Ts) (ss : List Seq) (e : Option Seq) (d : Version) → f.0 ≤ t.0 → IsEnd ss e → SeesAlike p s.0 e → IsBest (p ++ r) (fits family key t s) d → In d p → is_ever_seen p f ss d ≡ true
 best_seen family key t s p r f ss None d le ine alike best here =
     or_left (not (is_hidden p f d)) (list_any (is_seen_at p f d) ss)
     (ap not (best_unhidden family key t s p r p f d le best (λ u i. (i, alike.up u i refl))))
@@ -271,7 +271,7 @@ spent_best family key t s p r f ss covered d one outside best here y =
       none = λ u i x. elim (In-append u (collect_by p f ss covered) r i) [
         | inl j ↦
             let q = filter-In (λ v. not (is_spent (seen_of p f ss) f covered v)) u (seen_of p f ss) (stored-In u (unspent p f ss covered) j) in
-            spent_covers p r (seen_of p f ss) f covered family key t s d u one (λ v a. (filter-In (is_seen p f ss) v p a).0) best y q.0 x (not-true (is_spent (seen_of p f ss) f covered u) q.1)
+            spent_covers p r (seen_of p f ss) f covered family key t s d u one (λ v a. (filter-In (is_ever_seen p f ss) v p a).0) best y q.0 x (not-true (is_spent (seen_of p f ss) f covered u) q.1)
         | inr j ↦
             let fu = fits-true family key t s u x in
             let new : is_newer u d ≡ true = outside d u here j (fd.same_family ∙ sym fu.same_family) (fd.same_key ∙ sym fu.same_key) (not-true (covered d.key) h.free) in
@@ -290,7 +290,7 @@ collect_best family key t s p r f ss covered e (Some d) one le ine alike outside
     elim (In-append d p r best.there) [
       | inl i ↦
           let seen = best_seen family key t s p r f ss e d le ine alike best i in
-          let ink : In d (seen_of p f ss) = In-filter (is_seen p f ss) d p i seen in
+          let ink : In d (seen_of p f ss) = In-filter (is_ever_seen p f ss) d p i seen in
           elim (cases_Bool (is_spent (seen_of p f ss) f covered d)) [
             | inl y ↦ inr (spent_best family key t s p r f ss covered d one outside best i y)
             | inr y ↦ inl (record {

@@ -8,7 +8,7 @@ use Rattle.std.proofs.lemmas.Bool.Decides.{nat_tests}
 use Rattle.std.proofs.lemmas.Cmp.{same_from_slice_cmp}
 use Rattle.ts_key.specs.declared.version.Version.{Version}
 use Rattle.udt_model.specs.declared.reply.KeySpan.{KeySpan}
-use Rattle.udt_model.specs.Orders.{is_below, is_at_most, is_in, meets, lower_of, higher_of, joined, span_of_key, span_of}
+use Rattle.udt_model.specs.Orders.{is_below, is_at_most, is_in, meets, lower_of, higher_of, span_of_both, span_of_key, span_of}
 use Rattle.floor_laws.proofs.Members.{In}
 
 -- ---- the bytewise order, by recursion
@@ -154,15 +154,15 @@ is_in_parts a k h = and_parts (is_at_most a.low k) (is_at_most k a.high) h
 pub is_in_from : (a : KeySpan) (k : List ℕ) → is_at_most a.low k ≡ true → is_at_most k a.high ≡ true → is_in a k ≡ true
 is_in_from a k h g = and_from (is_at_most a.low k) (is_at_most k a.high) h g
 
-pub joined_left : (a b : KeySpan) (k : List ℕ) → is_in a k ≡ true → is_in (joined a b) k ≡ true
+pub joined_left : (a b : KeySpan) (k : List ℕ) → is_in a k ≡ true → is_in (span_of_both a b) k ≡ true
 joined_left a b k h =
     let p = is_in_parts a k h in
-    is_in_from (joined a b) k (at_most_trans (lower_of a.low b.low) a.low k (lower_left a.low b.low) p.0) (at_most_trans k a.high (higher_of a.high b.high) p.1 (higher_left a.high b.high))
+    is_in_from (span_of_both a b) k (at_most_trans (lower_of a.low b.low) a.low k (lower_left a.low b.low) p.0) (at_most_trans k a.high (higher_of a.high b.high) p.1 (higher_left a.high b.high))
 
-pub joined_right : (a b : KeySpan) (k : List ℕ) → is_in b k ≡ true → is_in (joined a b) k ≡ true
+pub joined_right : (a b : KeySpan) (k : List ℕ) → is_in b k ≡ true → is_in (span_of_both a b) k ≡ true
 joined_right a b k h =
     let p = is_in_parts b k h in
-    is_in_from (joined a b) k (at_most_trans (lower_of a.low b.low) b.low k (lower_right a.low b.low) p.0) (at_most_trans k b.high (higher_of a.high b.high) p.1 (higher_right a.high b.high))
+    is_in_from (span_of_both a b) k (at_most_trans (lower_of a.low b.low) b.low k (lower_right a.low b.low) p.0) (at_most_trans k b.high (higher_of a.high b.high) p.1 (higher_right a.high b.high))
 
 span_of_one : (k : List ℕ) → is_in (span_of_key k) k ≡ true
 span_of_one k = is_in_from (span_of_key k) k (at_most_itself k) (at_most_itself k)

@@ -12,7 +12,7 @@ use Rattle.udt_model.specs.State.{LiveTable, numbers_of}
 use Rattle.udt_model.specs.Jobs.{is_cut, are_parts, tables_from, numbers_of_pieces, spans_of, hull_of}
 use Rattle.floor_laws.specs.Tables.{contents}
 use Rattle.floor_laws.proofs.Members.{In, Within, In-append, In-right, In-map}
-use Rattle.udt_model.specs.Orders.{joined}
+use Rattle.udt_model.specs.Orders.{span_of_both}
 use Rattle.floor_laws.proofs.Keys.{Ends, ends_of, at_most_itself, at_most_trans, at_most_same, is_in_parts, joined_left, joined_right, span_has}
 use Rattle.floor_laws.proofs.Sorting.{InOrder}
 use Rattle.floor_laws.proofs.Tables.{contents-from, In-contents}
@@ -129,12 +129,12 @@ numbers_are level vs (p ∷ ps) = ap (λ z. p.table ∷ z) (numbers_are level (d
 
 hull_left : (a : KeySpan) (bs : List KeySpan) (k : List ℕ) → is_in a k ≡ true → is_in (hull_with a bs) k ≡ true
 hull_left a [] k h = h
-hull_left a (b ∷ bs) k h = hull_left (joined a b) bs k (joined_left a b k h)
+hull_left a (b ∷ bs) k h = hull_left (span_of_both a b) bs k (joined_left a b k h)
 
 hull_right : (a : KeySpan) (bs : List KeySpan) (b : KeySpan) (k : List ℕ) → In b bs → is_in b k ≡ true → is_in (hull_with a bs) k ≡ true
 hull_right a [] b k i h = absurd i
-hull_right a (c ∷ bs) b k (inl q) h = hull_left (joined a c) bs k (joined_right a c k (subst (λ z. is_in z k ≡ true) (sym q) h))
-hull_right a (c ∷ bs) b k (inr i) h = hull_right (joined a c) bs b k i h
+hull_right a (c ∷ bs) b k (inl q) h = hull_left (span_of_both a c) bs k (joined_right a c k (subst (λ z. is_in z k ≡ true) (sym q) h))
+hull_right a (c ∷ bs) b k (inr i) h = hull_right (span_of_both a c) bs b k i h
 
 -- each key of the tables lies in their hull
 pub hull_has : (ts : List LiveTable) (v : Version) → In v (contents ts) → is_in (hull_of ts) v.key ≡ true

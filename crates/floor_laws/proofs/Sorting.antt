@@ -13,7 +13,7 @@ use Rattle.ts_key.specs.declared.version.Version.{Version}
 use Rattle.udt_model.specs.declared.reply.KeySpan.{KeySpan}
 use Rattle.udt_model.specs.Versions.{is_newer, is_put, up_to}
 use Rattle.udt_model.specs.Orders.{is_below, is_at_most, is_in_some, is_before, with_version, stored}
-use Rattle.udt_model.specs.Collecting.{hides, is_hidden, is_seen, is_seen_at, seen_of, is_put_below, collect, collect_all, cutoff}
+use Rattle.udt_model.specs.Collecting.{hides, is_hidden, is_ever_seen, is_seen_at, seen_of, is_put_below, collect, collect_all, cutoff}
 use Rattle.udt_model.specs.Jobs.{floor_over}
 use Rattle.floor_laws.proofs.Members.{In, Within, filter-In, In-filter, any-In, In-any}
 use Rattle.floor_laws.proofs.Counts.{Distinct, count, count-filter, count-stored, distinct_head, distinct_tail, distinct_single}
@@ -157,16 +157,16 @@ module _ (p q : List Version) (to : Within p q) (from : Within q p) (g : Ts) (ss
   seen_at_same : (v : Version) (s : Seq) → is_seen_at p g v s ≡ is_seen_at q g v s
   seen_at_same v s = ap (λ z. nat_le v.seq.0 s.0 && not z) (any_same (λ o. hides g o v) (λ o. hides g o v) (up_to s.0 p) (up_to s.0 q) (λ x. refl) (up_to_within s.0 p q to) (up_to_within s.0 q p from))
 
-  seen_same : (v : Version) → is_seen p g ss v ≡ is_seen q g ss v
+  seen_same : (v : Version) → is_ever_seen p g ss v ≡ is_ever_seen q g ss v
   seen_same v =
       ap (λ z. not z || list_any (is_seen_at p g v) ss) (hidden_same v)
       ∙ ap (λ z. not (is_hidden q g v) || z) (any_same (is_seen_at p g v) (is_seen_at q g v) ss ss (seen_at_same v) (λ x i. i) (λ x i. i))
 
   kept_to : Within (seen_of p g ss) (seen_of q g ss)
-  kept_to v i = let r = filter-In (is_seen p g ss) v p i in In-filter (is_seen q g ss) v q (to v r.0) (sym (seen_same v) ∙ r.1)
+  kept_to v i = let r = filter-In (is_ever_seen p g ss) v p i in In-filter (is_ever_seen q g ss) v q (to v r.0) (sym (seen_same v) ∙ r.1)
 
   kept_from : Within (seen_of q g ss) (seen_of p g ss)
-  kept_from v i = let r = filter-In (is_seen q g ss) v q i in In-filter (is_seen p g ss) v p (from v r.0) (seen_same v ∙ r.1)
+  kept_from v i = let r = filter-In (is_ever_seen q g ss) v q i in In-filter (is_ever_seen p g ss) v p (from v r.0) (seen_same v ∙ r.1)
 
   spent_same : (v : Version) → is_spent (seen_of p g ss) g covered v ≡ is_spent (seen_of q g ss) g covered v
   spent_same v = ap (λ z. not (is_put v.op) && nat_le v.ts.0 g.0 && not (covered v.key) && not z) (any_same (is_put_below v) (is_put_below v) (seen_of p g ss) (seen_of q g ss) (λ x. refl) kept_to kept_from)
@@ -183,7 +183,7 @@ module _ (p q : List Version) (to : Within p q) (from : Within q p) (g : Ts) (ss
 
 pub count-collect : (n : ℕ) (p : List Version) (g : Ts) (ss : List Seq) (covered : List ℕ → Bool) → count n (collect_by p g ss covered) ≤ count n p
 count-collect n p g ss covered =
-    let a = count-filter n (is_seen p g ss) p in
+    let a = count-filter n (is_ever_seen p g ss) p in
     let b = count-filter n (λ v. not (is_spent (seen_of p g ss) g covered v)) (seen_of p g ss) in
     let c = count-stored n (unspent p g ss covered) in
     omega (arith, a, b, c)

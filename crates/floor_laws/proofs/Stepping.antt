@@ -18,7 +18,7 @@ use Rattle.udt_model.specs.Collecting.{collect, collect_all, seen_of, without_us
 use Rattle.udt_model.specs.State.{State, FamilyState, LiveTable, Snap, Flush, Compaction, changed_at, family_at, floor_at, floor_of, numbers_of, place_of_family, seqs_of, tables_of, tables_of_family, with_family, with_floor, form_at, form_of, through_of, with_table}
 use Rattle.udt_model.specs.Acts.Act.{write}
 use Rattle.udt_model.specs.Refusals.{floor_fell, refusal}
-use Rattle.udt_model.specs.Jobs.{IsClosed, are_new, are_parts, compaction_kept, deeper_of, flush_floor, flush_kept, floor_over, has_number, hull_of, in_form, inputs_hold, is_ascending, is_input, is_wanted, numbers_of_pieces, spans_of, tables_from, taken}
+use Rattle.udt_model.specs.Jobs.{IsClosed, are_new, are_parts, compaction_kept, deeper_of, flush_floor, flush_kept, floor_over, has_number, hull_of, in_form, inputs_hold, is_ascending, is_input, is_wanted, numbers_of_pieces, spans_of, tables_from, flush_taken}
 use Rattle.udt_model.specs.Steps.{flushed, compacted}
 use Rattle.floor_laws.specs.Tables.{contents}
 use Rattle.floor_laws.proofs.Members.{In, In-left, In-right, In-append, In-filter, filter-In, In-map, map-In, all-In}
@@ -370,17 +370,17 @@ module _ (m : State) (job : Flush) (f : FamilyState) (number : ℕ) (floor : Ts)
   abbrev next : State
   next = record (with_family m job.family change) { used = m.used ++ number ∷ []; flush = None }
 
-  taken_is : taken m job ≡ between job.family f.through.0 job.through.0 w
+  taken_is : flush_taken m job ≡ between job.family f.through.0 job.through.0 w
   taken_is = ap (λ (z : Option FamilyState). between job.family (through_of z).0 job.through.0 w) at
 
   form_is : form_at m job.family ≡ f.head.form
   form_is = ap form_of at
 
   kept_is : flush_kept m job ≡ in_form f.head.form (collect_all (between job.family f.through.0 job.through.0 w) job.floor job.seqs)
-  kept_is = ap (λ z. in_form z (collect_all (taken m job) job.floor job.seqs)) form_is ∙ ap (λ z. in_form f.head.form (collect_all z job.floor job.seqs)) taken_is
+  kept_is = ap (λ z. in_form z (collect_all (flush_taken m job) job.floor job.seqs)) form_is ∙ ap (λ z. in_form f.head.form (collect_all z job.floor job.seqs)) taken_is
 
   new_floor : floor ≡ floor_over f.head.form f.head.floor (between job.family f.through.0 job.through.0 w)
-  new_floor = floor_is ∙ ap (λ z. floor_over z (floor_at m job.family) (taken m job)) form_is ∙ ap (λ z. floor_over f.head.form z (taken m job)) (ap floor_of at) ∙ ap (floor_over f.head.form f.head.floor) taken_is
+  new_floor = floor_is ∙ ap (λ z. floor_over z (floor_at m job.family) (flush_taken m job)) form_is ∙ ap (λ z. floor_over f.head.form z (flush_taken m job)) (ap floor_of at) ∙ ap (floor_over f.head.form f.head.floor) taken_is
 
   floor_up : f.head.floor.0 ≤ floor.0
   floor_up = let a = floor_rises f.head.form f.head.floor (between job.family f.through.0 job.through.0 w) in let e : floor.0 ≡ (floor_over f.head.form f.head.floor (between job.family f.through.0 job.through.0 w)).0 = ap (λ (z : Ts). z.0) new_floor in omega (arith, a, e)

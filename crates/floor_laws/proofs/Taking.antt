@@ -17,7 +17,7 @@ use Rattle.udt_model.specs.Versions.{between, logged, made}
 use Rattle.udt_model.specs.State.{State, FamilyState, LiveTable, Flush, Compaction, changed_at, tables_of_family, through_at, through_of, with_floor}
 use Rattle.udt_model.specs.Acts.{Act}
 use Rattle.udt_model.specs.Acts.Act.{write, raise, flush_end, compact_start, compact_end}
-use Rattle.udt_model.specs.Jobs.{compaction_kept, flush_kept, inputs_hold, inputs_of, is_input, tables_from, taken}
+use Rattle.udt_model.specs.Jobs.{compaction_kept, flush_kept, inputs_hold, inputs_of, is_input, tables_from, flush_taken}
 use Rattle.udt_model.specs.Steps.{IsFlushed, IsReplyTo, after, compacted, flushed, with_compaction, with_flush, without_job}
 use Rattle.floor_laws.specs.Sound.{IsSoundState}
 use Rattle.floor_laws.proofs.Members.{In, filter_none}
@@ -50,16 +50,16 @@ through_changed (f ∷ fs) (suc n) change h (suc k) = through_changed fs n chang
 taken_through : (m : State) (job : Flush) (a b : Seq) → a ≡ b → between job.family a.0 job.through.0 m.versions ≡ between job.family b.0 job.through.0 m.versions
 taken_through m job a b e = ap (λ (z : Seq). between job.family z.0 job.through.0 m.versions) e
 
-taken_without : (m : State) (act : Act) (job : Flush) → taken (without_job m act) job ≡ taken m job
+taken_without : (m : State) (act : Act) (job : Flush) → flush_taken (without_job m act) job ≡ flush_taken m job
 taken_without m (flush_end i start) job = refl
 taken_without m (compact_end i start) job = refl
 taken_without m act job = refl
 
-taken_compacted : (m : State) (o : Option Compaction) (pieces : List Piece) (job : Flush) → taken (with_compaction m o pieces) job ≡ taken m job
+taken_compacted : (m : State) (o : Option Compaction) (pieces : List Piece) (job : Flush) → flush_taken (with_compaction m o pieces) job ≡ flush_taken m job
 taken_compacted m None pieces job = refl
 taken_compacted m (Some c) pieces job = taken_through m job (through_at (with_compaction m (Some c) pieces) job.family) (through_at m job.family) (through_changed m.families c.family.0 (compacted c.inputs (tables_from c.level (compaction_kept m c) pieces)) (λ f. refl) job.family.0)
 
-taken_flushed : (m : State) (o : Option Flush) (table : ℕ) (floor : Ts) (job : Flush) → m.flush ≡ o → (with_flush m o table floor).flush ≡ Some job → taken (with_flush m o table floor) job ≡ taken m job
+taken_flushed : (m : State) (o : Option Flush) (table : ℕ) (floor : Ts) (job : Flush) → m.flush ≡ o → (with_flush m o table floor).flush ≡ Some job → flush_taken (with_flush m o table floor) job ≡ flush_taken m job
 taken_flushed m None table floor job e q = refl
 taken_flushed m (Some c) table floor job e q = absurd (cc)
 
@@ -67,7 +67,7 @@ bounded_job : (m : State) (o : Option Flush) (job : Flush) → o ≡ Some job �
 bounded_job m None job e h = absurd (cc)
 bounded_job m (Some c) job e h = subst (λ (z : Flush). z.through.0 ≤ m.last.0) (some_same c job e) h.2.to
 
-pub taken_same : (m : State) (number : ℕ) (act : Act) (reply : Reply) (job : Flush) → Holds m → m.flush ≡ Some job → (after m number act reply).flush ≡ Some job → taken (after m number act reply) job ≡ taken m job
+pub taken_same : (m : State) (number : ℕ) (act : Act) (reply : Reply) (job : Flush) → Holds m → m.flush ≡ Some job → (after m number act reply).flush ≡ Some job → flush_taken (after m number act reply) job ≡ flush_taken m job
 taken_same m number act Fault job h e q = taken_without m act job
 taken_same m number act (Halted since) job h e q = taken_without m act job
 taken_same m number act DroppedFault job h e q = taken_without m act job
@@ -132,7 +132,7 @@ held_same m number (flush_end i start) (Table table kept floor) job h r e q = he
 held_same m number (compact_end i start) (Kept kept pieces) job h r e q = held_compacted m m.compaction pieces job q
 held_same m number act reply job h r e q = refl
 
-pub flush_takes : (m : State) (number : ℕ) (act : Act) (reply : Reply) (job : Flush) → IsSoundState m → m.flush ≡ Some job → (after m number act reply).flush ≡ Some job → taken (after m number act reply) job ≡ taken m job
+pub flush_takes : (m : State) (number : ℕ) (act : Act) (reply : Reply) (job : Flush) → IsSoundState m → m.flush ≡ Some job → (after m number act reply).flush ≡ Some job → flush_taken (after m number act reply) job ≡ flush_taken m job
 flush_takes m number act reply job h e q = taken_same m number act reply job (holds_of m h) e q
 
 pub compaction_takes : (m : State) (number : ℕ) (act : Act) (reply : Reply) (job : Compaction) → IsSoundState m → IsReplyTo m act reply → m.compaction ≡ Some job → (after m number act reply).compaction ≡ Some job → inputs_hold (after m number act reply) job ≡ inputs_hold m job

@@ -1,10 +1,11 @@
 -- What refuses, and what a write that is not refused makes.
 use Rattle.std.proofs.Common.{◌≡◌, ℕ, zero, suc, ◌+◌, ◌<◌, ◌≤◌, ◌&&◌, Bool, true, false, List, [], ◌∷◌, ◌++◌, length, Option, Some, None, refl, sym, ap, ◌∙◌, arith, inl, inr, subst}
-use Rattle.std.specs.Prelude.{◌^◌, ◌-◌, option_map, slice_get, nat_lt, ◌==◌, ⊤, if◌then◌else◌}
+use Rattle.std.specs.Prelude.{option_map, slice_get, nat_lt, ◌==◌, ⊤, if◌then◌else◌}
 use Rattle.std.proofs.lemmas.Bool.{cases_Bool, cases_lt, false≢true, and_parts, or_left, or_cases, ltb-true, lt-ltb, eqb-true}
 use Rattle.std.proofs.lemmas.List.{append-nil, append_assoc}
 use Rattle.std.proofs.lemmas.List.Elements.{All-push, All-get_or, All-weaker}
 use Rattle.std.proofs.lemmas.List.Quantifiers.{all_pairs_push}
+use Rattle.ts_key.specs.declared.limits.TheConstants.{SEQUENCE_LIMIT, SNAPSHOT_LIMIT}
 use Rattle.ts_key.specs.declared.batch.WriteOp.{WriteOp}
 use Rattle.ts_key.specs.declared.numbers.Family.{Family}
 use Rattle.ts_key.specs.declared.numbers.Ts.{Ts}
@@ -74,7 +75,7 @@ refuses_ops m w n k [] = tt
 refuses_ops m w n k (o ∷ os) = refuses_or (op_refusal w k (place_at m o.family) o) (refused m (w ++ version_of o (n + 1) ∷ []) (n + 1) (k + 1) os) (refuses_op w k (place_at m o.family) o) (refuses_ops m (w ++ version_of o (n + 1) ∷ []) (n + 1) (k + 1) os)
 
 refuses_full : (m : State) (os : List WriteOp) → Refuses (full m os)
-refuses_full m os = refuses_if (2 ^ 56 - 1) (m.last.0 + length os) (Full m.last) refl where
+refuses_full m os = refuses_if SEQUENCE_LIMIT (m.last.0 + length os) (Full m.last) refl where
   refuses_if : (a b : ℕ) (r : Reply) → is_refusal r ≡ true → Refuses (if nat_lt a b then Some r else None)
   refuses_if a b r e = elim (cases_Bool (nat_lt a b)) [ inl y ↦ rw y e | inr y ↦ rw y tt ]
 
@@ -83,7 +84,7 @@ refuses_floor asked None = refl
 refuses_floor asked (Some p) = elim (cases_Bool (nat_lt asked.0 p.floor.0)) [ inl y ↦ rw y refl | inr y ↦ rw y tt ]
 
 refuses_snapshots : (m : State) → Refuses (snapshots_full m)
-refuses_snapshots m = elim (cases_Bool (nat_lt (length m.snaps) 1024)) [ inl y ↦ rw y tt | inr y ↦ rw y refl ]
+refuses_snapshots m = elim (cases_Bool (nat_lt (length m.snaps) SNAPSHOT_LIMIT)) [ inl y ↦ rw y tt | inr y ↦ rw y refl ]
 
 -- what is told where nothing refuses
 pub told_other : (r : Option Reply) (told reply : Reply) → Refuses r → is_refusal reply ≡ false → reply ≡ (r otherwise told) → (r ≡ None) × (reply ≡ told)

@@ -18,7 +18,7 @@ use Rattle.udt_model.specs.Standing.{IsSight, Stands}
 use Rattle.udt_model.specs.State.{State, FamilyState, Flush, Compaction, family_at, sight, unflushed}
 use Rattle.udt_model.specs.Acts.{Act}
 use Rattle.udt_model.specs.Refusals.{fell, refused}
-use Rattle.udt_model.specs.Jobs.{floor_over, in_form, inputs_hold, taken}
+use Rattle.udt_model.specs.Jobs.{floor_over, in_form, inputs_hold, flush_taken}
 use Rattle.udt_model.specs.Steps.{IsReplyTo, after}
 use Rattle.udt_model.specs.declared.line.Line.{Line}
 use Rattle.udt_model.specs.Histories.{Leads, Point}
@@ -176,7 +176,7 @@ CourseStaysSound = (m : State) (c : Course) (number : ℕ) (act : Act) (reply : 
 -- a flush that runs on behind a step takes what it took before, and so does a compaction
 abbrev pub FlushTakesTheSame : Type 0
 FlushTakesTheSame = (m : State) (number : ℕ) (act : Act) (reply : Reply) (job : Flush)
-    → IsSoundState m → m.flush ≡ Some job → (after m number act reply).flush ≡ Some job → taken (after m number act reply) job ≡ taken m job
+    → IsSoundState m → m.flush ≡ Some job → (after m number act reply).flush ≡ Some job → flush_taken (after m number act reply) job ≡ flush_taken m job
 
 abbrev pub CompactionTakesTheSame : Type 0
 CompactionTakesTheSame = (m : State) (number : ℕ) (act : Act) (reply : Reply) (job : Compaction)

@@ -1,5 +1,6 @@
 -- The grammar of a log of frames: which bytes are a log of which bodies.
 use Rattle.std.specs.Prelude.{◌≡◌, ◌≢◌, ◌⊎◌, ℕ, ◌≤◌, List, [], ◌∷◌, ◌++◌, length, Some, None}
+use Rattle.gate_log.specs.declared.frame.TheConstants.{FRAME_LIMIT}
 use Rattle.std.specs.Int.{w32, to_le_bytes}
 use Rattle.udt_disk.specs.Bytes.{overwritten}
 use Rattle.udt_disk.specs.Crash.{Image}
@@ -24,7 +25,7 @@ with_frame bytes at body = overwritten bytes at (165 ∷ staged body)
 -- what the body of a frame may be
 pub record IsBody (body : List ℕ) : Type 0 where
   pub some : 1 ≤ length body
-  pub short : length body ≤ 8388608
+  pub short : length body ≤ FRAME_LIMIT
 
 abbrev pub AreBodies : List (List ℕ) → Type 0
 AreBodies [] = Unit {0}

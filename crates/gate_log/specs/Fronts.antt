@@ -15,10 +15,10 @@ pub record IsReadTo (want : ℕ) (bytes all : List ℕ) : Type 0 where
   pub far : (want ≤ length bytes) ⊎ (bytes ≡ all)
 
 -- what stands at this offset of all bytes
-abbrev pub IsNext : Next → ℕ → List ℕ → Type 0
-IsNext Shut at all = (at < length all) × (slice_index all at ≢ 165)
-IsNext (Frame n) at all = (at < length all) × (slice_index all at ≡ 165) × IsWhole n (drop (at + 1) all)
-IsNext Bad at all = (length all ≤ at) ⊎ ((at < length all) × (slice_index all at ≡ 165) × ((n : ℕ) → IsWhole n (drop (at + 1) all) → ⊥))
+abbrev pub TellsNext : Next → ℕ → List ℕ → Type 0
+TellsNext Shut at all = (at < length all) × (slice_index all at ≢ 165)
+TellsNext (Frame n) at all = (at < length all) × (slice_index all at ≡ 165) × IsWhole n (drop (at + 1) all)
+TellsNext Bad at all = (length all ≤ at) ⊎ ((at < length all) × (slice_index all at ≡ 165) × ((n : ℕ) → IsWhole n (drop (at + 1) all) → ⊥))
 
 -- the frame there was read whole
 abbrev pub HasBody : Next → ℕ → List ℕ → Type 0

@@ -1,5 +1,6 @@
 -- What reading a log gives: its frames with their places, or the place where it is no log.
 use Rattle.std.specs.Prelude.{◌≡◌, ℕ, ◌+◌, ◌≤◌, List, [], ◌∷◌, ◌++◌, length, drop, map}
+use Rattle.gate_log.specs.declared.frame.TheConstants.{FRAME_LIMIT}
 use Rattle.std.specs.Int.{w32, to_le_bytes}
 use Rattle.gate_log.specs.Placed.{Placed}
 use Rattle.gate_log.specs.Frames.{framed, AreBodies}
@@ -7,7 +8,7 @@ use Rattle.gate_log.specs.Frames.{framed, AreBodies}
 -- behind an open gate stand the length n and n bytes more, and then at least the next gate
 pub record IsWhole (n : ℕ) (rest : List ℕ) : Type 0 where
   pub some : 1 ≤ n
-  pub short : n ≤ 8388608
+  pub short : n ≤ FRAME_LIMIT
   pub size : rest ≡ to_le_bytes w32 n ++ drop 4 rest
   pub there : n + 5 ≤ length rest
 

@@ -5,7 +5,7 @@ ghost use Rattle.udt_disk.specs.Causes.{IsCause};
 ghost use Rattle.udt_disk.specs.Runs.{IsOnlyRead};
 ghost use Rattle.gate_log.specs.Faults.{is_log_disk_fault, is_frames_disk_fault};
 ghost use Rattle.gate_log.specs.Reads.{IsWhole, IsFront};
-ghost use Rattle.gate_log.specs.Fronts.{IsFrontOf, IsReadTo, IsNext, HasBody};
+ghost use Rattle.gate_log.specs.Fronts.{IsFrontOf, IsReadTo, TellsNext, HasBody};
 ghost use Rattle.gate_log.specs.Outcomes.{IsFrontFault};
 ghost use Rattle.gate_log.specs.declared.image.TheConstants.{PIECE};
 
@@ -129,7 +129,7 @@ fn length_in(rest: &[u8]) -> usize
 fn next_at<F: DiskFile>(file: &mut F, front: &mut Front, at: usize) -> Result<Next, LogFault>
     requires front { IsTrue (F.is_told file.old) → IsFrontOf front.old.bytes.items (F.seen file.old) }
     requires within { at ≤ length front.old.bytes.items }
-    ensures next { IfOk result (λ next. IsTrue (F.is_told file.old) → IsNext next at (F.seen file.old)) }
+    ensures next { IfOk result (λ next. IsTrue (F.is_told file.old) → TellsNext next at (F.seen file.old)) }
     ensures front { IfOk result (λ _. IsTrue (F.is_told file.old) → IsFrontOf front.new.bytes.items (F.seen file.old)) }
     ensures body { IfOk result (λ next. HasBody next at front.new.bytes.items) }
     ensures same { IsOnlyRead F.DiskFile file.old file.new }
@@ -157,7 +157,7 @@ pub(crate) fn read_frames<F: DiskFile>(
     file: &mut F,
 ) -> Result<(Vec<Frame>, usize), FramesFault>
     ensures front { IfOk result (λ r. IsTrue (F.is_told file.old) → IsFront r.0.items r.1 (F.seen file.old)) }
-    ensures shut { IfOk result (λ r. IsTrue (F.is_told file.old) → IsNext Next.Shut r.1 (F.seen file.old)) }
+    ensures shut { IfOk result (λ r. IsTrue (F.is_told file.old) → TellsNext Next.Shut r.1 (F.seen file.old)) }
     ensures refused { IfErr result (λ fault. IsTrue (F.is_told file.old) → IsFrontFault fault (F.seen file.old)) }
     ensures bound { IfOk result (λ r. r.1 < 2 ^ 63) }
     ensures same { IsOnlyRead F.DiskFile file.old file.new }

@@ -16,7 +16,7 @@ use Rattle.ts_key.specs.declared.numbers.Ts.{Ts}
 use Rattle.ts_key.specs.declared.version.Version.{Version}
 use Rattle.udt_model.specs.Versions.{is_newer, is_of, up_to}
 use Rattle.udt_model.specs.Orders.{is_below, is_before}
-use Rattle.udt_model.specs.Collecting.{hides, is_hidden, is_seen_at, is_seen, seen_of}
+use Rattle.udt_model.specs.Collecting.{hides, is_hidden, is_seen_at, is_ever_seen, seen_of}
 use Rattle.history_gc.specs.Pushed.{StandsBefore, MayFollow, AreInOrder}
 use Rattle.history_gc.specs.Streaming.{Last, class_of, is_same, least_of, next_last, is_between, is_kept, kept_from}
 
@@ -275,7 +275,7 @@ seen_at_is f w v least h (s ∷ ss) =
     ap (λ b. nat_le v.seq.0 s.0 && not b) (any_filter (λ o. hides f o v) (λ u. nat_le u.seq.0 s.0) w ∙ h (Some s.0)) ∙ ap (λ b. nat_le v.seq.0 s.0 && b) (not_le least s.0) in
     λ i. one i || seen_at_is f w v least h ss i
 
-seen_on : (f : Ts) (ss : List Seq) (w : List Version) (v : Version) (least : ℕ) (b : Bool) → ((e : Option ℕ) → list_any (masks f v e) w ≡ (b && upto e least)) → is_seen w f ss v ≡ (not b || list_any (is_between v.seq.0 least) ss)
+seen_on : (f : Ts) (ss : List Seq) (w : List Version) (v : Version) (least : ℕ) (b : Bool) → ((e : Option ℕ) → list_any (masks f v e) w ≡ (b && upto e least)) → is_ever_seen w f ss v ≡ (not b || list_any (is_between v.seq.0 least) ss)
 seen_on f ss w v least true h =
     let n : is_hidden w f v ≡ true = h None in
     ap (λ c. not c || list_any (is_seen_at w f v) ss) n ∙ seen_at_is f w v least h ss
@@ -283,7 +283,7 @@ seen_on f ss w v least false h =
     let n : is_hidden w f v ≡ false = h None in
     ap (λ c. not c || list_any (is_seen_at w f v) ss) n
 
-pub seen_is : (f : Ts) (ss : List Seq) (ps vs : List Version) (o : Option Last) (v : Version) → Sums f ps o → MayFollow ps v → AreInOrder (v ∷ vs) → is_seen (ps ++ v ∷ vs) f ss v ≡ is_kept f ss o v
+pub seen_is : (f : Ts) (ss : List Seq) (ps vs : List Version) (o : Option Last) (v : Version) → Sums f ps o → MayFollow ps v → AreInOrder (v ∷ vs) → is_ever_seen (ps ++ v ∷ vs) f ss v ≡ is_kept f ss o v
 seen_is f ss ps vs o v s b so = seen_on f ss (ps ++ v ∷ vs) v (least_of o) (is_same f o v) (λ e. hidden_by f v e ps vs b so ∙ s.any v e b)
 
 abbrev pub AllNext : List Version → List Version → Type 0
@@ -293,11 +293,11 @@ pub next_more : (ps : List Version) (v : Version) (vs : List Version) → AllNex
 next_more ps v [] h l = tt
 next_more ps v (w ∷ ws) h l = (next_both ps v w h.0 l.0, next_more ps v ws h.1 l.1)
 
-kept_is : (f : Ts) (ss : List Seq) (ps : List Version) (o : Option Last) (vs : List Version) → Sums f ps o → AllNext ps vs → AreInOrder vs → kept_from f ss o vs ≡ filter (is_seen (ps ++ vs) f ss) vs
+kept_is : (f : Ts) (ss : List Seq) (ps : List Version) (o : Option Last) (vs : List Version) → Sums f ps o → AllNext ps vs → AreInOrder vs → kept_from f ss o vs ≡ filter (is_ever_seen (ps ++ vs) f ss) vs
 kept_is f ss ps o [] s a so = refl
 kept_is f ss ps o (v ∷ vs) s a so =
-    let r : kept_from f ss (Some (next_last f o v)) vs ≡ filter (is_seen (ps ++ v ∷ vs) f ss) vs =
-    kept_is f ss (ps ++ v ∷ []) (Some (next_last f o v)) vs (sums_more f ps o v s a.0) (next_more ps v vs a.1 so.0) so.1 ∙ ap (λ ws. filter (is_seen ws f ss) vs) (append_assoc ps (v ∷ []) vs) in
+    let r : kept_from f ss (Some (next_last f o v)) vs ≡ filter (is_ever_seen (ps ++ v ∷ vs) f ss) vs =
+    kept_is f ss (ps ++ v ∷ []) (Some (next_last f o v)) vs (sums_more f ps o v s a.0) (next_more ps v vs a.1 so.0) so.1 ∙ ap (λ ws. filter (is_ever_seen ws f ss) vs) (append_assoc ps (v ∷ []) vs) in
     let k = seen_is f ss ps vs o v s a.0 so in
     (λ i. cond (sym k i) (v ∷ r i) (r i))
 

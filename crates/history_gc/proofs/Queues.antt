@@ -16,10 +16,11 @@ use Rattle.ts_key.specs.declared.version.Version.{Version}
 use Rattle.udt_model.specs.declared.reply.KeySpan.{KeySpan}
 use Rattle.udt_model.specs.Orders.{is_before, is_in_some}
 use Rattle.collection_laws.specs.Places.{AreStored}
-use Rattle.udt_model.specs.Collecting.{is_hidden, is_seen, is_seen_at, collect, without_useless, seen_of}
+use Rattle.udt_model.specs.Collecting.{is_hidden, is_ever_seen, is_seen_at, collect, without_useless, seen_of}
 use Rattle.udt_model.specs.Orders.{stored}
-use Rattle.history_gc.specs.Pushed.{StandsBefore, MayFollow, AreInOrder, IsFront, of_last_key, of_other_keys}
-use Rattle.history_gc.specs.Streaming.{AreAscending, Last, is_same, next_last, is_kept, is_between, least_of, is_old_delete, is_low, trim, trim_on, ends_so}
+use Rattle.history_gc.specs.Pushed.{StandsBefore, MayFollow, AreInOrder, BeginsWith, of_last_key, of_other_keys}
+use Rattle.ts_key.specs.Ascending.{AreAscending}
+use Rattle.history_gc.specs.Streaming.{Last, is_same, next_last, is_kept, is_between, least_of, is_old_delete, is_low, trim, trim_on, ends_so}
 use Rattle.history_gc.specs.States.{State, AccountsFor, is_key, AllOf}
 use Rattle.history_gc.specs.Collecting.{CollectsAlike, remembered, last_of_run, state_at, HasCollected, HasFinished, HasGiven, HasGivenSettled, HasGivenAll, collection_floor, collection_snapshots, collection_spans, held_of}
 use Rattle.history_gc.specs.declared.collector.Collector.{Collector}
@@ -421,7 +422,7 @@ filter_same p q (x ∷ xs) h = λ i. cond (h x i) (x ∷ filter_same p q xs h i)
 
 pub snapshots_moved : (ps : List Version) (f : Ts) (ss rr : List Seq) (deeper : List KeySpan) → IsPermutation ss rr → collect ps f ss deeper ≡ collect ps f rr deeper
 snapshots_moved ps f ss rr deeper m =
-    ap (λ ks. stored (without_useless f deeper ks)) (filter_same (is_seen ps f ss) (is_seen ps f rr) ps (λ v. ap (λ b. not (is_hidden ps f v) || b) (list_any-IsPermutation (is_seen_at ps f v) ss rr m)))
+    ap (λ ks. stored (without_useless f deeper ks)) (filter_same (is_ever_seen ps f ss) (is_ever_seen ps f rr) ps (λ v. ap (λ b. not (is_hidden ps f v) || b) (list_any-IsPermutation (is_seen_at ps f v) ss rr m)))
 
 -- ---- from one collector to the next
 

@@ -13,9 +13,9 @@ use Rattle.ts_key.specs.declared.version.Version.{Version}
 use Rattle.udt_model.specs.declared.reply.KeySpan.{KeySpan}
 use Rattle.udt_model.specs.Orders.{is_before}
 use Rattle.collection_laws.specs.Places.{AreStored}
-use Rattle.udt_model.specs.Collecting.{is_seen, is_useless, seen_of, without_useless, collect}
+use Rattle.udt_model.specs.Collecting.{is_ever_seen, is_useless, seen_of, without_useless, collect}
 use Rattle.collection_laws.proofs.Storing.{stored_filter, stored_is}
-use Rattle.history_gc.specs.Pushed.{StandsBefore, MayFollow, AreInOrder, IsFront, last_from, has_key_of, of_last_key, of_other_keys}
+use Rattle.history_gc.specs.Pushed.{StandsBefore, MayFollow, AreInOrder, BeginsWith, last_from, has_key_of, of_last_key, of_other_keys}
 use Rattle.history_gc.specs.Streaming.{Last, next_last, is_low, is_kept, kept_from, kept_of, trim}
 use Rattle.history_gc.specs.States.{State, AccountsFor, is_key, last_of, AllOf, NoneOf}
 use Rattle.history_gc.proofs.Kept.{AllNext, next_more, all_free, kept_is_seen, between_keys}
@@ -43,7 +43,7 @@ in_order_stored (v ∷ vs) h = (ordered_all v vs h.0, in_order_stored vs h.1)
 
 pub collect_is : (f : Ts) (ss : List Seq) (deeper : List KeySpan) (ps : List Version) → AreInOrder ps → collect ps f ss deeper ≡ kept_of f ss deeper ps
 collect_is f ss deeper ps s =
-    stored_is (kept_of f ss deeper ps) (stored_filter (λ v. not (is_useless (seen_of ps f ss) f deeper v)) (seen_of ps f ss) (stored_filter (is_seen ps f ss) ps (in_order_stored ps s)))
+    stored_is (kept_of f ss deeper ps) (stored_filter (λ v. not (is_useless (seen_of ps f ss) f deeper v)) (seen_of ps f ss) (stored_filter (is_ever_seen ps f ss) ps (in_order_stored ps s)))
 
 -- ---- lists with one more
 
@@ -233,7 +233,7 @@ module _ (f : Ts) (ss : List Seq) (deeper : List KeySpan) where
         kept = kept_more ps v h.sorted b ∙ ap (λ c. seen_of ps f ss ++ one_if c v) k ∙ ap (λ xs. seen_of xs f ss ++ v ∷ []) (sym old);
         key = v.key;
         of_run = (refl, tt);
-        of_old = subst (λ xs. NoneOf v.key (seen_of xs f ss)) (sym old) (none_filter v.key (is_seen ps f ss) ps n);
+        of_old = subst (λ xs. NoneOf v.key (seen_of xs f ss)) (sym old) (none_filter v.key (is_ever_seen ps f ss) ps n);
         sorted_run = (tt, tt);
         others = λ w bw x. others_more ps v b st.last w bw x;
         same = λ w bw x. sym (same_bytes v.key w.key x);
@@ -245,7 +245,7 @@ module _ (f : Ts) (ss : List Seq) (deeper : List KeySpan) where
   push_same st ps qs v h b e =
       let old : of_other_keys (ps ++ v ∷ []) ≡ of_other_keys ps = settled_same ps v (sym (key_is f ps v) ∙ ap (λ o. is_key o v) h.last ∙ e) in
       let key : v.key ≡ h.key = h.same v b e in
-      let run_next : MayFollow st.run v = next_tail (seen_of (of_other_keys ps) f ss) st.run v (subst (λ xs. MayFollow xs v) h.kept (next_filter (is_seen ps f ss) v ps b)) in
+      let run_next : MayFollow st.run v = next_tail (seen_of (of_other_keys ps) f ss) st.run v (subst (λ xs. MayFollow xs v) h.kept (next_filter (is_ever_seen ps f ss) v ps b)) in
       record {
         sorted = order_snoc ps v h.sorted b;
         last = last_snoc f None ps v ∙ ap (λ o. Some (next_last f o v)) h.last;
@@ -310,18 +310,18 @@ module _ (f : Ts) (ss : List Seq) (deeper : List KeySpan) where
   stored_settled : (ps : List Version) → AreInOrder ps → collect (of_other_keys ps) f ss deeper ≡ kept_of f ss deeper (of_other_keys ps)
   stored_settled ps s =
       let t = stored_filter (λ u. not (has_key_of (last_from None ps) u)) ps (in_order_stored ps s) in
-      stored_is (kept_of f ss deeper (of_other_keys ps)) (stored_filter (λ v. not (is_useless (seen_of (of_other_keys ps) f ss) f deeper v)) (seen_of (of_other_keys ps) f ss) (stored_filter (is_seen (of_other_keys ps) f ss) (of_other_keys ps) t))
+      stored_is (kept_of f ss deeper (of_other_keys ps)) (stored_filter (λ v. not (is_useless (seen_of (of_other_keys ps) f ss) f deeper v)) (seen_of (of_other_keys ps) f ss) (stored_filter (is_ever_seen (of_other_keys ps) f ss) (of_other_keys ps) t))
 
   -- where none is ready all of the settled keys is given
   pub none_ready : (st : State) (ps qs : List Version) → st.ready ≡ [] → AccountsFor f ss deeper st ps qs → qs ≡ collect (of_other_keys ps) f ss deeper
   none_ready st ps qs e h = sym (append-nil qs) ∙ ap (λ ys. qs ++ ys) (sym e) ∙ h.out ∙ sym (stored_settled ps h.sorted)
 
   -- what was given is a front of what the settled keys give
-  pub settled_front : (st : State) (ps qs : List Version) → AccountsFor f ss deeper st ps qs → IsFront qs (collect (of_other_keys ps) f ss deeper)
+  pub settled_front : (st : State) (ps qs : List Version) → AccountsFor f ss deeper st ps qs → BeginsWith qs (collect (of_other_keys ps) f ss deeper)
   settled_front st ps qs h = (st.ready, h.out ∙ sym (stored_settled ps h.sorted))
 
   -- and of what all give
-  pub given_front : (st : State) (ps qs : List Version) → AccountsFor f ss deeper st ps qs → IsFront qs (collect ps f ss deeper)
+  pub given_front : (st : State) (ps qs : List Version) → AccountsFor f ss deeper st ps qs → BeginsWith qs (collect ps f ss deeper)
   given_front st ps qs h = (st.ready ++ trim (is_low f deeper) st.run, sym (append_assoc qs st.ready (trim (is_low f deeper) st.run)) ∙ whole st ps qs h ∙ sym (collect_is f ss deeper ps h.sorted))
 
   -- all that is given and held, once the end of the run is trimmed

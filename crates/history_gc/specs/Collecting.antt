@@ -6,7 +6,7 @@ use Rattle.ts_key.specs.declared.numbers.Ts.{Ts}
 use Rattle.ts_key.specs.declared.version.Version.{Version}
 use Rattle.udt_model.specs.declared.reply.KeySpan.{KeySpan}
 use Rattle.udt_model.specs.Collecting.{collect}
-use Rattle.history_gc.specs.Pushed.{IsFront, of_last_key, of_other_keys}
+use Rattle.history_gc.specs.Pushed.{BeginsWith, of_last_key, of_other_keys}
 use Rattle.history_gc.specs.Streaming.{Last}
 use Rattle.history_gc.specs.States.{State, AccountsFor}
 use Rattle.history_gc.specs.declared.collector.Collector.{Collector}
@@ -56,7 +56,7 @@ pub record CollectsAlike (c d : Collector) : Type 0 where
 
 -- The versions ps were pushed and qs were given. These are a front of the collection of all that was pushed.
 pub record HasCollected (c : Collector) (ps qs : List Version) : Type 0 where
-  pub front : IsFront qs (collection c ps)
+  pub front : BeginsWith qs (collection c ps)
   pub inside : AccountsFor (collection_floor c) (collection_snapshots c) (collection_spans c) (state c) ps qs
 
 -- After the end everything is decided: what was given and what is held are the collection of all that was pushed.
@@ -72,7 +72,7 @@ pub record HasGivenSettled (c : Collector) (ps qs : List Version) : Type 0 where
 
 -- It gave v as the next: with it what was given is a front of the collection of all keys but the last, too.
 pub record HasGiven (c : Collector) (ps qs : List Version) (v : Version) : Type 0 where
-  pub others : IsFront (qs ++ v ∷ []) (collection c (of_other_keys ps))
+  pub others : BeginsWith (qs ++ v ∷ []) (collection c (of_other_keys ps))
   pub collected : HasCollected c ps (qs ++ v ∷ [])
 
 -- After the end it has nothing to give: what was given is the collection of all that was pushed, and it holds none.

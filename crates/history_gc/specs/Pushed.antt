@@ -36,5 +36,5 @@ abbrev pub of_other_keys : List Version → List Version
 of_other_keys ps = filter (λ u. not (has_key_of (last_from None ps) u)) ps
 
 -- the list begins with these
-abbrev pub IsFront : List Version → List Version → Type 0
-IsFront xs ys = (rest : List Version) × (xs ++ rest ≡ ys)
+abbrev pub BeginsWith : List Version → List Version → Type 0
+BeginsWith xs ys = (rest : List Version) × (xs ++ rest ≡ ys)

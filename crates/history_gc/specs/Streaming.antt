@@ -1,7 +1,6 @@
 -- Which versions a collection keeps, decided one by one in the stored order.
 use Rattle.std.specs.Prelude.{ℕ, Bool, false, not, ◌==◌, nat_lt, nat_le, ◌&&◌, ◌||◌, if◌then◌else◌, List, [], ◌∷◌, Option, Some, None, max, min}
 use Rattle.std.specs.List.{list_any}
-use Rattle.std.specs.List.Sorted.{IsNonDecreasingBy}
 use Rattle.std.specs.Str.{bytes_eq}
 use Rattle.ts_key.specs.declared.numbers.Seq.{Seq}
 use Rattle.ts_key.specs.declared.numbers.Ts.{Ts}
@@ -31,10 +30,6 @@ least_of (Some l) = l.least
 
 abbrev pub next_last : Ts → Option Last → Version → Last
 next_last floor o v = record { key = v.key; class = class_of floor v; least = if is_same floor o v then min (least_of o) v.seq.0 else v.seq.0 }
-
--- each sequence is at most the next
-abbrev pub AreAscending : List Seq → Type 0
-AreAscending seqs = IsNonDecreasingBy (λ s. s.0) seqs
 
 -- a snapshot of this sequence sees the version of sequence seq, and none of those from least on
 abbrev pub is_between : ℕ → ℕ → Seq → Bool

@@ -3,7 +3,8 @@ ghost use Rattle.std.specs.Prelude.{◌≡◌, ◌≤◌, ◌<◌, ◌+◌, ◌+
 ghost use Rattle.std.specs.VecDeque.{deque_capacity};
 ghost use Rattle.std.specs.List.{list_any};
 ghost use Rattle.udt_model.specs.Orders.{is_in, is_in_some};
-ghost use Rattle.history_gc.specs.Streaming.{AreAscending, ends_so, is_between, is_low, is_old_delete, trim};
+ghost use Rattle.ts_key.specs.Ascending.{AreAscending};
+ghost use Rattle.history_gc.specs.Streaming.{ends_so, is_between, is_low, is_old_delete, trim};
 ghost use Rattle.history_gc.specs.States.{AllOf};
 
 use std::alloc::Global;

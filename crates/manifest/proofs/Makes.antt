@@ -1,6 +1,6 @@
 -- Making a store, step by step.
 use Rattle.std.proofs.Common.{◌≡◌, ◌≢◌, ◌⊎◌, inl, inr, ⊎_elim, ℕ, ◌+◌, List, [], ◌∷◌, ◌++◌, length, refl, sym, ap, ◌∙◌, subst, arith}
-use Rattle.std.specs.Prelude.{Some, None}
+use Rattle.std.specs.Prelude.{IsTrue, Some, None}
 use Rattle.udt_disk.specs.Crash.{Image, Only}
 use Rattle.udt_disk.specs.Joint.{Folder, Joint, IsHeld, IsFree, LeavesNow, Ran}
 use Rattle.udt_disk.specs.Joint.Ran.{rests}
@@ -9,9 +9,9 @@ use Rattle.udt_disk.specs.declared.name.FileName.{FileName}
 use Rattle.udt_disk.specs.declared.name.FileName.TheVariants.{Manifest0, Manifest1, Current, Made}
 use Rattle.udt_disk.specs.declared.file.DiskFile as file
 use Rattle.udt_disk.specs.declared.disk.Disk as disk
-use Rattle.udt_disk.specs.Moments.{holding, alone, AsAtBut, OnlyTouches}
+use Rattle.udt_disk.specs.Moments.{holding, alone, AsAtBut, OnlyReads, OnlyTouches}
 use Rattle.udt_disk.proofs.Joints.{ran_on}
-use Rattle.udt_disk.proofs.Moments.{Giving, only_then, reads_more, ran_only, disk_step, return_step}
+use Rattle.udt_disk.proofs.Moments.{Giving, only_then, reads_more, ran_only, stands_all, leaves_all, disk_step, return_step}
 use Rattle.udt_disk.proofs.TouchLemmas.{touches_nothing, touches_more, touches_then}
 use Rattle.udt_model.specs.declared.line.FamilyHead.{FamilyHead}
 use Rattle.std.specs.List.{All}
@@ -34,7 +34,7 @@ made_isn't_first is = cc
 current_isn't_made : Current ≢ Made
 current_isn't_made is = cc
 
-current_isn't_first : Current ≢ Manifest0
+pub current_isn't_first : Current ≢ Manifest0
 current_isn't_first is = cc
 
 first_isn't_made : Manifest0 ≢ Made
@@ -51,6 +51,32 @@ pub none_or_all : (folder : Folder) (families : List FamilyHead) (made : Image) 
 none_or_all folder families None is current first = inl is
 none_or_all folder families (Some bytes) is current first =
     inr ((λ none. some_isn't_none bytes (sym is ∙ none)), subst (λ (n : FileName). HasFold (folder n) (fold_of families)) (sym current) first)
+
+-- ---- there is still no store, and none comes back
+
+-- where files were only looked at
+pub unmade_read : {D F : Type 0} (d : disk.Ghosts D F) (f : file.Ghosts F) (old mid : D) → IsUnmade d old → OnlyReads d f (alone old) (alone mid) → IsUnmade d mid
+unmade_read d f old mid unmade look = record {
+  told = subst IsTrue (sym look.told) unmade.told;
+  made = λ c left. unmade.made c (leaves_all d f old mid look Made c left);
+  current = λ missing c left. unmade.current (sym (stands_all d f old mid look unmade.told Current) ∙ missing) c (leaves_all d f old mid look Current c left);
+}
+
+-- where `CURRENT` alone was touched, and stands
+pub unmade_with_current : {D F : Type 0} (d : disk.Ghosts D F) (old new : D) (bytes : List ℕ) → IsUnmade d old → Touches d (λ n. n ≡ Current) old new → d.stands new Current ≡ Some bytes → IsUnmade d new
+unmade_with_current d old new bytes unmade run stands = record {
+  told = subst IsTrue (sym run.told) unmade.told;
+  made = λ c left. unmade.made c (run.no_more Made c made_isn't_current left);
+  current = λ missing c left. absurd (some_isn't_none bytes (sym stands ∙ missing));
+}
+
+-- where another file alone was touched
+pub unmade_beside : {D F : Type 0} (d : disk.Ghosts D F) (touched : FileName) (old new : D) → Made ≢ touched → Current ≢ touched → IsUnmade d old → Touches d (λ n. n ≡ touched) old new → IsUnmade d new
+unmade_beside d touched old new made current unmade run = record {
+  told = subst IsTrue (sym run.told) unmade.told;
+  made = λ c left. unmade.made c (run.no_more Made c made left);
+  current = λ missing c left. unmade.current (sym (run.same Current current) ∙ missing) c (run.no_more Current c current left);
+}
 
 module _ {D F : Type 0} (d : disk.Ghosts D F) (f : file.Ghosts F) (disk_now : (x : D) (n : FileName) (c : Image) → d.left_since x (d.moment x) n c → d.may_leave x n c) (file_now : (x : F) (c : Image) → f.left_since x (f.moment x) c → f.may_leave x c)
     (families : List FamilyHead) (old : D) (unmade : IsUnmade d old) where

@@ -1,5 +1,6 @@
 -- What the frames of a manifest mean.
-use Rattle.std.specs.Prelude.{◌≡◌, ◌⊎◌, ℕ, ◌^◌, ◌<◌, ◌≤◌, List, [], ◌∷◌, ◌++◌, length, map}
+use Rattle.std.specs.Prelude.{◌≡◌, ◌⊎◌, ℕ, ◌+◌, ◌<◌, ◌≤◌, List, [], ◌∷◌, ◌++◌, length, map}
+use Rattle.ts_key.specs.declared.limits.TheConstants.{FAMILY_LIMIT, SEQUENCE_LIMIT}
 use Rattle.gate_log.specs.Placed.{Placed}
 use Rattle.gate_log.specs.Reads.{body_of}
 use Rattle.udt_model.specs.declared.line.FamilyHead.{FamilyHead}
@@ -21,13 +22,13 @@ IsManifest [] fold = ⊥
 IsManifest (body ∷ []) fold = (families : List FamilyHead) × IsHead body families × (fold ≡ fold_of families)
 IsManifest (body ∷ next ∷ bodies) fold = ⊥
 
--- A store can be opened of this fold: it has one live log, of this number, 1 to 16 families, and a last sequence that a version
+-- A store can be opened of this fold: it has one live log, of this number, 1 to FAMILY_LIMIT families, and a last sequence that a version
 -- may have.
 pub record IsUsable (fold : Folded) (number : ℕ) : Type 0 where
   pub live : fold.logs ≡ number ∷ []
   pub some : 1 ≤ length fold.families
-  pub few : length fold.families ≤ 16
-  pub last : fold.last.0 < 2 ^ 56
+  pub few : length fold.families ≤ FAMILY_LIMIT
+  pub last : fold.last.0 < SEQUENCE_LIMIT + 1
 
 -- no frame, or frames that mean something
 abbrev pub AreSoundFrames : List (List ℕ) → Type 0

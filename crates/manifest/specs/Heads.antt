@@ -1,5 +1,6 @@
 -- Which bytes are the head of a manifest, and of which families.
 use Rattle.std.specs.Prelude.{◌≡◌, ℕ, ◌≤◌, Bool, true, not, ◌&&◌, List, [], ◌∷◌, ◌++◌, length, IsTrue}
+use Rattle.ts_key.specs.declared.limits.TheConstants.{FAMILY_LIMIT}
 use Rattle.std.specs.List.{flat_map, list_any, All}
 use Rattle.std.specs.Str.{bytes_eq}
 use Rattle.byteorder.specs.Endian.{little_bytes}
@@ -34,10 +35,10 @@ abbrev pub differ : List FamilyHead → Bool
 differ [] = true
 differ (f ∷ families) = not (list_any (λ g. bytes_eq g.name f.name) families) && differ families
 
--- what families a head may have: 1 to 16 with different names
+-- what families a head may have: 1 to FAMILY_LIMIT with different names
 pub record AreNew (families : List FamilyHead) : Type 0 where
   pub some : 1 ≤ length families
-  pub few : length families ≤ 16
+  pub few : length families ≤ FAMILY_LIMIT
   pub each : All IsNewFamily families
   pub apart : IsTrue (differ families)
 

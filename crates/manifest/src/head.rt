@@ -81,7 +81,7 @@ fn has_name(families: &[FamilyHead], name: &[u8]) -> bool
 
 /// The body of the head of these families.
 pub(crate) fn write_head(alloc: Global, families: &[FamilyHead]) -> Result<Vec<u8>, NoMemory>
-    requires { length families.now ≤ 16 }
+    requires { length families.now ≤ FAMILY_LIMIT }
     ensures text { IfOk result (λ body. body.items ≡ head_text families.now) }
     ensures named { OnOk result (All IsNamed families.now) }
 {

@@ -18,7 +18,7 @@ ghost use Rattle.manifest.specs.Answers.{IsRefusal, IsFoldFault, is_manifest_dis
 ghost use Rattle.manifest.specs.Files.{HasFold};
 ghost use Rattle.manifest.specs.Folders.{chosen_by};
 ghost use Rattle.manifest.specs.Folds.{IsManifest, IsUsable};
-ghost use Rattle.manifest.specs.Making.{emptied};
+ghost use Rattle.manifest.specs.Making.{emptied, IsUnmade};
 
 use crate::fold::fold_frames;
 use crate::folder::{chosen, is_there, make_empty};
@@ -62,6 +62,7 @@ impl<F: DiskFile> Manifest<F> {
         ensures stopped { OnErr result (IsTrue (D.is_told disk.old) → D.stands disk.old Made ≡ None
             → Means (D.stands disk.new) no_store ⊎ Means (D.stands disk.new) (store (fold_of head.now.families))) }
         ensures no_memory { IsErrOf result LogFault.NoMemory → Touches D.Disk IsEarlyName disk.old disk.new }
+        ensures unmade { IsErrOf result LogFault.NoMemory → IsUnmade D.Disk disk.old → IsUnmade D.Disk disk.new }
         ensures touches { Touches D.Disk IsStoreName disk.old disk.new }
         ensures kept { OnOk result (D.faults disk.new ≡ D.faults disk.old) }
         ensures cause { IfErr result (λ fault. IsCause (is_log_disk_fault fault) (D.faults disk.old) (D.faults disk.new)) }
@@ -142,6 +143,7 @@ fn empty_current<D: Disk>(disk: &mut D) -> Result<(), Failed>
     ensures chooses { OnOk result (IsTrue (D.is_told disk.old) → chosen_by (D.stands disk.new Current) ≡ Manifest0) }
     ensures durable { OnOk result (IsTrue (D.is_told disk.old) → (D.stands disk.old Current ≡ None → (c : Image) → D.may_leave disk.old Current c → c ≡ None)
         → (c : Image) → D.may_leave disk.new Current c → chosen_by c ≡ Manifest0) }
+    ensures unmade { OnOk result (IsUnmade D.Disk disk.old → IsUnmade D.Disk disk.new) }
     ensures touches { Touches D.Disk (λ (n : NameOf). n ≡ Current) disk.old disk.new }
     ensures cause { HasCause (D.faults disk.old) (D.faults disk.new) result }
 {

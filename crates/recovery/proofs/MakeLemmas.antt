@@ -106,19 +106,23 @@ module _ {D F : Type 0} (d : disk.Ghosts D F) (f : file.Ghosts F) where
   pub still_none : (old mid : D) → IsTrue (d.is_told old) → Means (d.stands old) no_store → OnlyReads d f (alone old) (alone mid) → Means (d.stands mid) no_store
   still_none old mid told none look = stands_all d f old mid look told Made ∙ none
 
-  module _ (old mid : D) (told : IsTrue (d.is_told old)) (clean : IsClean d old) (none : Means (d.stands old) no_store) (look : OnlyReads d f (alone old) (alone mid)) where
+  -- nor does one come back in a folder that was just opened
+  pub unmade_opened : (disk : D) → IsTrue (d.is_told disk) → IsClean d disk → Means (d.stands disk) no_store → IsUnmade d disk
+  unmade_opened disk told clean none = record { told = told; made = λ c left. clean Made c left ∙ none; current = λ missing c left. clean Current c left ∙ missing }
+
+  module _ (old mid : D) (unmade : IsUnmade d old) (look : OnlyReads d f (alone old) (alone mid)) where
     pub unmade_behind : IsUnmade d mid
     unmade_behind = record {
-      told = subst IsTrue (sym look.told) told;
-      made = λ c left. clean Made c (leaves_all d f old mid look Made c left) ∙ none;
-      current = λ missing c left. clean Current c (leaves_all d f old mid look Current c left) ∙ sym (stands_all d f old mid look told Current) ∙ missing;
+      told = subst IsTrue (sym look.told) unmade.told;
+      made = λ c left. unmade.made c (leaves_all d f old mid look Made c left);
+      current = λ missing c left. unmade.current (sym (stands_all d f old mid look unmade.told Current) ∙ missing) c (leaves_all d f old mid look Current c left);
     }
 
     pub still_none_left : (folder : Folder) → MayLeaveFolder d mid folder → Means folder no_store
-    still_none_left folder left = clean Made (folder Made) (leaves_all d f old mid look Made (folder Made) (left Made)) ∙ none
+    still_none_left folder left = unmade.made (folder Made) (leaves_all d f old mid look Made (folder Made) (left Made))
 
     pub behind_look : (families : List FamilyHead) → Ran d f (IsNoneOrNew families) (alone old) (alone mid)
-    behind_look families = ran_only d f (λ n. ⊥) (IsNoneOrNew families) (alone old) (alone mid) (λ folder each. inl (clean Made (folder Made) ((each Made (λ no. no)).free (λ x held. absurd held)) ∙ none)) look
+    behind_look families = ran_only d f (λ n. ⊥) (IsNoneOrNew families) (alone old) (alone mid) (λ folder each. inl (unmade.made (folder Made) ((each Made (λ no. no)).free (λ x held. absurd held)))) look
 
     pub files_step : (families : List FamilyHead) (new : D) → (IsUnmade d mid → Ran d f (IsNoneOrNew families) (alone mid) (alone new)) → Ran d f (IsNoneOrNew families) (alone old) (alone new)
     files_step families new run = ran_on d f (IsNoneOrNew families) (alone old) (alone mid) (alone new) (behind_look families) (run unmade_behind)

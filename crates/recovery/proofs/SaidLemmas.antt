@@ -5,7 +5,7 @@ use Rattle.ts_key.specs.declared.batch.WriteOp.{WriteOp}
 use Rattle.ts_key.specs.declared.version.Version.{Version}
 use Rattle.udt_model.specs.declared.line.FamilyHead.{FamilyHead}
 use Rattle.wal.specs.declared.numbered.Numbered.{Numbered}
-use Rattle.wal.specs.Sequences.{next_sequence, sequence_after, IsNext}
+use Rattle.wal.specs.Sequences.{next_sequence, sequence_after, IsNextSequence}
 use Rattle.manifest.specs.declared.fold.FamilyFold.{FamilyFold}
 use Rattle.udt_model.specs.Versions.{logged}
 use Rattle.recovery.specs.Stores.{versions_of, last_of, head_of}
@@ -51,5 +51,5 @@ last_below_next last (b ∷ []) n is = let same : sequence_after b ≡ n = cc in
 last_below_next last (b ∷ c ∷ batches) n is = last_below_next (b.first.0 + length b.batch - 1) (c ∷ batches) n is
 
 -- and what comes next may follow
-pub is_next : (batches : List Numbered) (n first : ℕ) → next_sequence batches ≡ Some n → first ≡ n → IsNext (next_sequence batches) first
-is_next batches n first is same = subst (λ (next : Option ℕ). IsNext next first) (sym is) same
+pub is_next : (batches : List Numbered) (n first : ℕ) → next_sequence batches ≡ Some n → first ≡ n → IsNextSequence (next_sequence batches) first
+is_next batches n first is same = subst (λ (next : Option ℕ). IsNextSequence next first) (sym is) same

@@ -1,5 +1,6 @@
 -- What opening a folder as a store finds, and what it leaves.
-use Rattle.std.specs.Prelude.{◌≡◌, ◌≢◌, ℕ, ◌+◌, ◌^◌, ◌<◌, ◌≤◌, List, [], ◌∷◌, ◌++◌, length, map, Some, IsTrue, ⊤, Result, Ok, Err}
+use Rattle.std.specs.Prelude.{◌≡◌, ◌≢◌, ℕ, ◌+◌, ◌<◌, ◌≤◌, List, [], ◌∷◌, ◌++◌, length, map, Some, IsTrue, ⊤, Result, Ok, Err}
+use Rattle.ts_key.specs.declared.limits.TheConstants.{SEQUENCE_LIMIT}
 use Rattle.udt_disk.specs.Crash.{Image, Only}
 use Rattle.udt_disk.specs.Joint.{Folder}
 use Rattle.udt_disk.specs.Moments.{IsClean}
@@ -10,7 +11,7 @@ use Rattle.udt_disk.specs.declared.disk.Disk as disk
 use Rattle.wal.specs.declared.numbered.Numbered.{Numbered}
 use Rattle.wal.specs.declared.wal.Wal.{Wal}
 use Rattle.wal.specs.Replays.{ReadsAs, LogHolds}
-use Rattle.wal.specs.Sequences.{next_sequence, IsNext}
+use Rattle.wal.specs.Sequences.{next_sequence, IsNextSequence}
 use Rattle.wal.specs.Wals.{wal_file, wal_sizes, IsWalOf, Holds}
 use Rattle.manifest.specs.declared.fold.Folded.{Folded}
 use Rattle.manifest.specs.Folders.{Means, chosen}
@@ -28,8 +29,8 @@ pub record IsSaid (fold : Folded) (batches : List Numbered) (said : Said) : Type
   pub heads : said.heads.items ≡ map head_of fold.families
   pub versions : said.versions.items ≡ versions_of batches
   pub last : said.last.0 ≡ last_of fold.last.0 batches
-  pub within : said.last.0 < 2 ^ 56
-  pub next : IsNext (next_sequence batches) (said.last.0 + 1)
+  pub within : said.last.0 < SEQUENCE_LIMIT + 1
+  pub next : IsNextSequence (next_sequence batches) (said.last.0 + 1)
 
 -- why a log in a file isn't replayed
 abbrev pub RefusesFile : List ℕ → ℕ → List ℕ → OpenFault → Type 0

@@ -4,7 +4,7 @@ ghost use Rattle.std.specs.Prelude.{◌≡◌, ◌⊎◌, ◌∷◌, [], ℕ, �
 ghost use Rattle.udt_disk.specs.Causes.{IsCause};
 ghost use Rattle.udt_disk.specs.Crash.{NoMore, Only};
 ghost use Rattle.udt_disk.specs.Joint.{Folder, LeavesNow, Ran};
-ghost use Rattle.udt_disk.specs.Moments.{IsClean, MayLeaveFolder, OnlyReads, alone};
+ghost use Rattle.udt_disk.specs.Moments.{MayLeaveFolder, OnlyReads, alone};
 ghost use Rattle.udt_disk.specs.Touches.{Touches};
 ghost use Rattle.udt_disk.specs.declared.name.FileName.{FileName as NameOf};
 ghost use Rattle.udt_disk.specs.declared.name.FileName.TheVariants.{Log, Made};
@@ -39,16 +39,17 @@ pub fn make_store<D: Disk>(alloc: Global, disk: &mut D, head: &Head) -> Result<(
     // Files that belong to no new store are left alone.
     ensures others { IsTrue (D.is_told disk.old) → KeepsOthers D.Disk disk.old disk.new }
 
-    // In a folder that was just opened a crash at any moment leaves no store or all of it, after `Ok` all of it, and
-    // where memory ran out no store.
-    ensures moments { IsTrue (D.is_told disk.old) → IsClean D.Disk disk.old → Means (D.stands disk.old) no_store
-        → Ran D.Disk D.File.DiskFile (IsNoneOrNew head.now.families) (alone disk.old) (alone disk.new) }
-    ensures stopped_crash { IsTrue (D.is_told disk.old) → IsClean D.Disk disk.old → Means (D.stands disk.old) no_store
+    // Where there is no store, and none comes back, a crash at any moment leaves no store or all of it, after `Ok` all of
+    // it, and where memory ran out no store; then none comes back still, and it may be called again. A folder that was
+    // just opened and has no store is such a one.
+    ensures moments { IsUnmade D.Disk disk.old → Ran D.Disk D.File.DiskFile (IsNoneOrNew head.now.families) (alone disk.old) (alone disk.new) }
+    ensures stopped_crash { IsUnmade D.Disk disk.old
         → (folder : Folder) → MayLeaveFolder D.Disk disk.new folder → IsNoneOrNew head.now.families folder }
-    ensures durable { OnOk result (IsTrue (D.is_told disk.old) → IsClean D.Disk disk.old
+    ensures durable { OnOk result (IsUnmade D.Disk disk.old
         → (folder : Folder) → MayLeaveFolder D.Disk disk.new folder → FolderStands folder (new_state head.now.families)) }
-    ensures no_memory_crash { IsErrOf result InitFault.NoMemory → IsTrue (D.is_told disk.old) → IsClean D.Disk disk.old → Means (D.stands disk.old) no_store
+    ensures no_memory_crash { IsErrOf result InitFault.NoMemory → IsUnmade D.Disk disk.old
         → (folder : Folder) → MayLeaveFolder D.Disk disk.new folder → Means folder no_store }
+    ensures unmade { IsErrOf result InitFault.NoMemory → IsUnmade D.Disk disk.old → IsUnmade D.Disk disk.new }
 
     // Where there is a store, or a bad manifest, the folder was only looked at.
     ensures refused { IfErr result (λ e. IsTrue (D.is_told disk.old) → RefusesMaking (D.stands disk.old) e) }
@@ -98,6 +99,7 @@ fn make_files<D: Disk>(alloc: Global, disk: &mut D, head: &Head) -> Result<(), L
     ensures touches { IsTrue (D.is_told disk.old) → Touches D.Disk IsMakingName disk.old disk.new }
     ensures no_memory { IsErrOf result LogFault.NoMemory → D.stands disk.new Made ≡ D.stands disk.old Made }
     ensures no_memory_crash { IsErrOf result LogFault.NoMemory → NoMore (D.may_leave disk.old Made) (D.may_leave disk.new Made) }
+    ensures unmade { IsErrOf result LogFault.NoMemory → IsUnmade D.Disk disk.old → IsUnmade D.Disk disk.new }
     ensures moments { IsUnmade D.Disk disk.old → Ran D.Disk D.File.DiskFile (IsNoneOrNew head.now.families) (alone disk.old) (alone disk.new) }
     ensures durable { IsUnmade D.Disk disk.old → OnOk result (LeavesNow D.Disk D.File.DiskFile (λ (folder : Folder). FolderStands folder (new_state head.now.families)) (alone disk.new)) }
     ensures told { D.is_told disk.new ≡ D.is_told disk.old }
@@ -115,7 +117,7 @@ fn make_files<D: Disk>(alloc: Global, disk: &mut D, head: &Head) -> Result<(), L
 /// The sizes of the timestamps of so many families.
 fn stamp_sizes(alloc: Global, count: usize) -> Result<Sizes, AllocError>
     requires some { 1 ≤ count }
-    requires few { count ≤ 16 }
+    requires few { count ≤ FAMILY_LIMIT }
 {
     let sizes = [STAMP_SIZE; FAMILY_LIMIT];
     Sizes::of(alloc, &sizes[..count])
@@ -141,6 +143,7 @@ fn make_manifest<D: Disk>(alloc: Global, disk: &mut D, head: &Head) -> Result<()
     ensures stopped { OnErr result (IsTrue (D.is_told disk.old) → Means (D.stands disk.old) no_store
         → Means (D.stands disk.new) no_store ⊎ Means (D.stands disk.new) (store (fold_of head.now.families))) }
     ensures no_memory { IsErrOf result LogFault.NoMemory → Touches D.Disk IsEarlyName disk.old disk.new }
+    ensures unmade { IsErrOf result LogFault.NoMemory → IsUnmade D.Disk disk.old → IsUnmade D.Disk disk.new }
     ensures moments { IsUnmade D.Disk disk.old → Ran D.Disk D.File.DiskFile (IsNoneOrAll D.Disk disk.old head.now.families) (alone disk.old) (alone disk.new) }
     ensures durable { IsUnmade D.Disk disk.old → OnOk result (LeavesNow D.Disk D.File.DiskFile (λ (folder : Folder). Means folder (store (fold_of head.now.families))) (alone disk.new)) }
     ensures touches { IsTrue (D.is_told disk.old) → Touches D.Disk IsStoreName disk.old disk.new }

@@ -1,5 +1,6 @@
 //! Opening a folder as a store: its manifest is read, and its live log replayed. It writes nothing.
-ghost use Rattle.std.specs.Prelude.{◌≡◌, ◌⊎◌, ℕ, List, ◌+◌, ◌^◌, ◌<◌, ◌≤◌, [], ◌∷◌, ◌++◌, length, map, IfOk, IfErr, IfSome, OnOk, IsTrue};
+ghost use Rattle.std.specs.Prelude.{◌≡◌, ◌⊎◌, ℕ, List, ◌+◌, ◌<◌, ◌≤◌, [], ◌∷◌, ◌++◌, length, map, IfOk, IfErr, IfSome, OnOk, IsTrue};
+ghost use Rattle.ts_key.specs.declared.limits.TheConstants.{FAMILY_LIMIT, SEQUENCE_LIMIT};
 ghost use Rattle.udt_disk.specs.Causes.{IsCause};
 ghost use Rattle.udt_disk.specs.Joint.{Folder, IsFree};
 ghost use Rattle.udt_disk.specs.Moments.{OnlyReads, alone, holding};
@@ -45,7 +46,7 @@ fn live_log(fold: &Folded) -> u64
 /// The size of the timestamps of each family.
 fn family_sizes(alloc: Global, families: &[FamilyFold]) -> Result<Sizes, NoMemory>
     requires some { 1 ≤ length families.now }
-    requires few { length families.now ≤ 16 }
+    requires few { length families.now ≤ FAMILY_LIMIT }
     ensures { IfOk result (λ sizes. sizes ≡ map (λ f. 8) families.now) }
 {
     let sizes: Vec<u8> = families.iter().map(|_| STAMP_SIZE).collect(alloc)?;
@@ -88,7 +89,7 @@ fn replay_log<F: DiskFile>(
     ensures sizes { IfOk result (λ r. wal_sizes r.0 ≡ sizes_of fold.now) }
     ensures pending { IfOk result (λ r. wal_pending r.0 ≡ 0) }
     ensures heads { IfOk result (λ r. length r.1.heads.items ≡ length fold.now.families) }
-    ensures within { IfOk result (λ r. r.1.last.0 < 2 ^ 56) }
+    ensures within { IfOk result (λ r. r.1.last.0 < SEQUENCE_LIMIT + 1) }
     ensures goes_on { IfOk result (λ r. MayGoOn F.DiskFile r.0 (r.1.last.0 + 1)) }
     ensures same { IsOnlyRead F.DiskFile file (file_after (λ r. wal_file r.0) result) }
     ensures kept { IfOk result (λ r. F.faults (wal_file r.0) ≡ F.faults file) }
@@ -117,11 +118,11 @@ fn open_log<D: Disk>(
 ) -> Result<(Wal<D::File>, Said), OpenFault>
     requires { IsUsable fold.now number }
     ensures taken { IfOk result (λ r. IsTrue (D.is_told disk.old) → IsTaken D.Disk D.File.DiskFile disk.old fold.now number r.0 r.1) }
-    ensures few { IfOk result (λ r. length r.1.heads.items ≤ 16) }
+    ensures few { IfOk result (λ r. length r.1.heads.items ≤ FAMILY_LIMIT) }
     ensures sizes { IfOk result (λ r. wal_sizes r.0 ≡ sizes_of fold.now) }
     ensures heads { IfOk result (λ r. length r.1.heads.items ≡ length fold.now.families) }
     ensures pending { IfOk result (λ r. wal_pending r.0 ≡ 0) }
-    ensures within { IfOk result (λ r. r.1.last.0 < 2 ^ 56) }
+    ensures within { IfOk result (λ r. r.1.last.0 < SEQUENCE_LIMIT + 1) }
     ensures goes_on { IfOk result (λ r. MayGoOn D.File.DiskFile r.0 (r.1.last.0 + 1)) }
     ensures fresh { IfOk result (λ r. D.File.faults (wal_file r.0) ≡ 0) }
     ensures file_told { IfOk result (λ r. D.File.is_told (wal_file r.0) ≡ D.is_told disk.old) }
@@ -157,10 +158,10 @@ pub fn open_store<D: Disk>(alloc: Global, mut disk: D) -> Result<Parts<D>, (D, O
     ensures refused { IfErr result (λ e. IsTrue (D.is_told disk) → RefusesOpening (D.stands disk) e.1) }
 
     // What a caller needs of the parts.
-    ensures few { IfOk result (λ p. length p.heads.items ≤ 16) }
+    ensures few { IfOk result (λ p. length p.heads.items ≤ FAMILY_LIMIT) }
     ensures sizes { IfOk result (λ p. length (wal_sizes p.wal) ≡ length p.heads.items) }
     ensures pending { IfOk result (λ p. wal_pending p.wal ≡ 0) }
-    ensures within { IfOk result (λ p. p.last.0 < 2 ^ 56) }
+    ensures within { IfOk result (λ p. p.last.0 < SEQUENCE_LIMIT + 1) }
     ensures goes_on { IfOk result (λ p. MayGoOn D.File.DiskFile p.wal (p.last.0 + 1)) }
 
     // It only reads.

@@ -1,6 +1,7 @@
 //! What a manifest and its live log say of a store.
-ghost use Rattle.std.specs.Prelude.{◌≡◌, ◌+◌, ◌^◌, ◌<◌, [], ◌∷◌, ◌++◌, map, All, IfOk, OnOk};
-ghost use Rattle.wal.specs.Sequences.{next_sequence, IsNext, IsNumberedWithin};
+ghost use Rattle.std.specs.Prelude.{◌≡◌, ◌+◌, ◌<◌, [], ◌∷◌, ◌++◌, map, All, IfOk, OnOk};
+ghost use Rattle.ts_key.specs.declared.limits.TheConstants.{SEQUENCE_LIMIT};
+ghost use Rattle.wal.specs.Sequences.{next_sequence, IsNextSequence, IsNumberedWithin};
 ghost use Rattle.udt_model.specs.Versions.{logged};
 ghost use Rattle.recovery.specs.Stores.{versions_of as versions_in, last_of, head_of as head_in};
 ghost use Rattle.recovery.specs.Opening.{IsSaid};
@@ -80,11 +81,11 @@ fn versions_of(alloc: Global, batches: &[Numbered]) -> Result<Vec<Version>, NoMe
 
 /// The last sequence of batches, or this one where there is none.
 fn last_sequence(last: Seq, batches: &[Numbered]) -> Seq
-    requires last { last.0 < 2 ^ 56 }
+    requires last { last.0 < SEQUENCE_LIMIT + 1 }
     requires batches { All IsNumberedWithin batches.now }
     ensures last { result.0 ≡ last_of last.0 batches.now }
-    ensures within { result.0 < 2 ^ 56 }
-    ensures next { IsNext (next_sequence batches.now) (result.0 + 1) }
+    ensures within { result.0 < SEQUENCE_LIMIT + 1 }
+    ensures next { IsNextSequence (next_sequence batches.now) (result.0 + 1) }
 {
     match batches.last() {
         Some(numbered) => Seq(numbered.first.0 + numbered.batch.ops().len() as u64 - 1),
@@ -94,7 +95,7 @@ fn last_sequence(last: Seq, batches: &[Numbered]) -> Seq
 
 /// What a fold and the batches of its live log say.
 pub(crate) fn said_of(alloc: Global, fold: &Folded, batches: &[Numbered]) -> Result<Said, NoMemory>
-    requires last { fold.now.last.0 < 2 ^ 56 }
+    requires last { fold.now.last.0 < SEQUENCE_LIMIT + 1 }
     requires batches { All IsNumberedWithin batches.now }
     ensures { IfOk result (IsSaid fold.now batches.now) }
 {

@@ -7,7 +7,8 @@ use Rattle.std.proofs.lemmas.Bool.{cases_Bool}
 use Rattle.std.proofs.lemmas.Bool.Decides.{nat_tests}
 use Rattle.std.proofs.lemmas.List.Edits.{length-remove, get_or-remove_below, get_or-remove_above}
 use Rattle.ts_key.specs.declared.numbers.Seq.{Seq}
-use Rattle.snapshot_list.specs.Registered.{Registered, has_id, with_snapshot, without_id, seqs_of, AreAscending, paired, AreDistinct}
+use Rattle.ts_key.specs.Ascending.{AreAscending}
+use Rattle.snapshot_list.specs.Registered.{Registered, has_id, with_snapshot, without_id, seqs_of, paired, AreDistinct}
 
 pub length_paired : (ids : List ℕ) (seqs : List Seq) → length ids ≡ length seqs → length (paired ids seqs) ≡ length seqs
 length_paired [] [] e = refl

@@ -1,7 +1,8 @@
 -- Registered snapshots, in the order of their sequences.
 use Rattle.std.specs.Prelude.{◌≡◌, ℕ, ◌≤◌, Bool, false, not, ◌==◌, nat_le, if◌then◌else◌, List, [], ◌∷◌, length, map, filter}
+use Rattle.ts_key.specs.declared.limits.TheConstants.{SNAPSHOT_LIMIT}
 use Rattle.std.specs.List.{list_any}
-use Rattle.std.specs.List.Sorted.{IsNonDecreasingBy}
+use Rattle.ts_key.specs.Ascending.{AreAscending}
 use Rattle.ts_key.specs.declared.numbers.Seq.{Seq}
 
 -- a registered snapshot: its number, and the sequence up to which it sees
@@ -26,10 +27,6 @@ without_id rs id = filter (λ r. not (r.id == id)) rs
 abbrev pub seqs_of : List Registered → List Seq
 seqs_of rs = map (λ r. r.seq) rs
 
--- each sequence is at most the next
-abbrev pub AreAscending : List Seq → Type 0
-AreAscending seqs = IsNonDecreasingBy (λ s. s.0) seqs
-
 -- ---- the two lists that hold them
 
 -- numbers and sequences, place by place
@@ -46,6 +43,6 @@ AreDistinct (id ∷ ids) = (list_any (λ i. i == id) ids ≡ false) × AreDistin
 -- each snapshot has its number and its sequence, ascending, and there is room for all that may be registered
 pub record IsList (ids : List ℕ) (seqs : List Seq) : Type 0 where
   pub paired : length ids ≡ length seqs
-  pub within : length seqs ≤ 1024
+  pub within : length seqs ≤ SNAPSHOT_LIMIT
   pub ascending : AreAscending seqs
   pub distinct : AreDistinct ids

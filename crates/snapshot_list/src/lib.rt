@@ -2,14 +2,13 @@
 #![tactic(auto)]
 
 ghost use Rattle.std.specs.Prelude.{◌≡◌, ◌<◌, ◌≤◌, true, false, [], length, IfOk, MatchResult, position, ◌==◌};
-ghost use Rattle.snapshot_list.specs.Registered.{AreAscending, has_id, seqs_of, with_snapshot, without_id};
+ghost use Rattle.ts_key.specs.Ascending.{AreAscending};
+ghost use Rattle.snapshot_list.specs.Registered.{has_id, seqs_of, with_snapshot, without_id};
 
 use std::alloc::Global;
 use std::marker::Model;
+pub use ts_key::SNAPSHOT_LIMIT;
 use ts_key::{NoMemory, Seq};
-
-/// The most snapshots that are registered at once.
-pub const SNAPSHOT_LIMIT: usize = 1024;
 
 /// As many snapshots are registered as may be: `count`, which is `SNAPSHOT_LIMIT`.
 #[derive(Clone, Copy, Debug, PartialEq, Eq)]
@@ -27,13 +26,14 @@ pub struct Snaps {
 
 impl Model for Snaps {
     ghost use Rattle.std.specs.Prelude.{List, ◌≤◌, vec_capacity};
+    ghost use Rattle.ts_key.specs.declared.limits.TheConstants.{SNAPSHOT_LIMIT};
     ghost use Rattle.snapshot_list.specs.Registered.{IsList, Registered, paired};
 
     ghost Value = { List Registered };
 
     ghost view = { λ s. paired s.ids.items s.seqs.items };
 
-    ghost invariant = { λ s. IsList s.ids.items s.seqs.items × (1024 ≤ vec_capacity s.ids) × (1024 ≤ vec_capacity s.seqs) };
+    ghost invariant = { λ s. IsList s.ids.items s.seqs.items × (SNAPSHOT_LIMIT ≤ vec_capacity s.ids) × (SNAPSHOT_LIMIT ≤ vec_capacity s.seqs) };
 }
 
 /// The place of the first number that is this one.
@@ -60,7 +60,7 @@ impl Snaps {
     pub fn add(&mut self, id: u64, seq: Seq) -> Result<(), SnapsFull>
         ensures added { length self.old < SNAPSHOT_LIMIT → has_id self.old id ≡ false → (result ≡ Ok tt) × (self.new ≡ with_snapshot (record { id = id; seq = seq }) self.old) }
         ensures known { length self.old < SNAPSHOT_LIMIT → has_id self.old id ≡ true → (result ≡ Ok tt) × (self.new ≡ self.old) }
-        ensures full { length self.old ≡ SNAPSHOT_LIMIT → (result ≡ Err (record { count = 1024 })) × (self.new ≡ self.old) }
+        ensures full { length self.old ≡ SNAPSHOT_LIMIT → (result ≡ Err (record { count = SNAPSHOT_LIMIT })) × (self.new ≡ self.old) }
     {
         if self.seqs.len() == SNAPSHOT_LIMIT {
             return Err(SnapsFull {

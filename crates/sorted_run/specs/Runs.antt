@@ -33,7 +33,7 @@ latest_of [] = 0
 latest_of (v ∷ vs) = max v.ts.0 (latest_of vs)
 
 -- the versions of a run are in the stored order; beside them stand their timestamps and the greatest one
-pub record IsRun (vs : List Version) (ts : List ℕ) (top : ℕ) : Type 0 where
+pub record IsSortedRun (vs : List Version) (ts : List ℕ) (top : ℕ) : Type 0 where
   pub order : IsOrdered (items_of vs)
   pub stamps : ts ≡ stamps_of vs
   pub latest : top ≡ latest_of vs

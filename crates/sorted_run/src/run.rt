@@ -31,11 +31,11 @@ impl Model for Run {
 
     ghost Value = { List Version };
 
-    ghost use Rattle.sorted_run.specs.Runs.{IsRun};
+    ghost use Rattle.sorted_run.specs.Runs.{IsSortedRun};
 
     ghost view = { λ r. r.versions.items };
 
-    ghost invariant = { λ r. IsRun r.versions.items r.stamps.items r.latest };
+    ghost invariant = { λ r. IsSortedRun r.versions.items r.stamps.items r.latest };
 }
 
 impl Run {

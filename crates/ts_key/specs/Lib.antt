@@ -7,6 +7,7 @@ pub mod Writing
 pub mod Order
 pub mod Items
 pub mod StoredKeys
+pub mod Ascending
 pub mod Lists
 pub mod Visible
 pub mod Laws

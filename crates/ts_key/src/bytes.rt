@@ -36,12 +36,13 @@ pub struct Key {
 impl Model for Key {
     ghost use Rattle.std.specs.Prelude.{List, ℕ, ◌≤◌, length};
     ghost use Rattle.std.specs.Arc.{arc_slice_items};
+    ghost use Rattle.ts_key.specs.declared.limits.TheConstants.{KEY_LIMIT};
 
     ghost Value = { List ℕ };
 
     ghost view = { λ k. arc_slice_items k.bytes };
 
-    ghost invariant = { λ k. length (arc_slice_items k.bytes) ≤ 1024 };
+    ghost invariant = { λ k. length (arc_slice_items k.bytes) ≤ KEY_LIMIT };
 }
 
 impl Key {
@@ -90,12 +91,13 @@ pub struct Value {
 impl Model for Value {
     ghost use Rattle.std.specs.Prelude.{List, ℕ, ◌≤◌, length};
     ghost use Rattle.std.specs.Arc.{arc_slice_items};
+    ghost use Rattle.ts_key.specs.declared.limits.TheConstants.{VALUE_LIMIT};
 
     ghost Value = { List ℕ };
 
     ghost view = { λ v. arc_slice_items v.bytes };
 
-    ghost invariant = { λ v. length (arc_slice_items v.bytes) ≤ 65536 };
+    ghost invariant = { λ v. length (arc_slice_items v.bytes) ≤ VALUE_LIMIT };
 }
 
 impl Value {

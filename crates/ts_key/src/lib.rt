@@ -21,8 +21,8 @@ pub use bytes::{BytesFault, Key, Value};
 pub use laws::one_spelling;
 pub use lent::{Hit, KeyRef};
 pub use limits::{
-    BATCH_LIMIT, FAMILY_LIMIT, FIRST_LOG, KEY_LIMIT, NAME_LIMIT, SEQUENCE_LIMIT, STAMP_LIMIT,
-    STAMP_SIZE, VALUE_LIMIT,
+    BATCH_LIMIT, FAMILY_LIMIT, FIRST_LOG, KEY_LIMIT, NAME_LIMIT, SEQUENCE_LIMIT, SNAPSHOT_LIMIT,
+    STAMP_LIMIT, STAMP_SIZE, VALUE_LIMIT,
 };
 pub use name::{Name, NameFault, is_name};
 pub use numbers::{Family, Seq, Ts};

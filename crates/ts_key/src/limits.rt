@@ -21,6 +21,9 @@ pub const STAMP_LIMIT: u64 = u64::MAX - 1;
 /// The greatest sequence of a version; the least is 1.
 pub const SEQUENCE_LIMIT: u64 = (1 << 56) - 1;
 
+/// The most snapshots that are registered at once.
+pub const SNAPSHOT_LIMIT: usize = 1024;
+
 /// The number of the log of a new store.
 pub const FIRST_LOG: u64 = 1;
 

@@ -7,10 +7,10 @@ use Rattle.std.proofs.lemmas.List.{length-replicate, append-nil}
 use Rattle.udt_disk.specs.Bytes.{Torn}
 use Rattle.udt_disk.specs.Crash.{Image}
 use Rattle.udt_disk.specs.History.{undone, is_synced, First, CallsLeave}
-use Rattle.udt_disk.specs.Outcomes.{settled, spoiled, spoiled_at}
+use Rattle.udt_disk.specs.Outcomes.{synced_bytes, spoiled, spoiled_at}
 use Rattle.udt_disk.specs.Tree.{entry_of, place_of}
 use Rattle.udt_disk.specs.Files.{FileLeaves, PlaceLeaves, file_stays}
-use Rattle.udt_disk.specs.Crashed.{lost_birth, file_crash, place_crash, settled_before, entry_crash}
+use Rattle.udt_disk.specs.Crashed.{lost_birth, file_crash, place_crash, synced_before, entry_crash}
 use Rattle.udt_disk.specs.Directory.{NameLeaves}
 use Rattle.udt_disk.specs.AfterCrash.{crash_image}
 use Rattle.udt_disk.specs.declared.name.FileName.{FileName}
@@ -30,12 +30,12 @@ use Rattle.udt_disk.proofs.Births.{may_miss_still}
 torn_nothing : (at n : ℕ) (bytes : List ℕ) → Torn at n bytes bytes
 torn_nothing at n bytes = record { before = refl; after = refl; no_shorter = omega arith; no_longer = omega arith }
 
-settled_left : (miss differ : Bool) (now : List ℕ) (calls : List FileCall) → CallsLeave miss differ now calls (Some (settled now calls))
-settled_left miss differ now [] = inl refl
-settled_left miss differ now (Wrote at count over ∷ earlier) =
+synced_left : (miss differ : Bool) (now : List ℕ) (calls : List FileCall) → CallsLeave miss differ now calls (Some (synced_bytes now calls))
+synced_left miss differ now [] = inl refl
+synced_left miss differ now (Wrote at count over ∷ earlier) =
     let before = undone now at count over.items in
-    inr (Some (settled before earlier), settled_left miss differ before earlier, torn_nothing at count (settled before earlier))
-settled_left miss differ now (Synced ∷ earlier) = refl
+    inr (Some (synced_bytes before earlier), synced_left miss differ before earlier, torn_nothing at count (synced_bytes before earlier))
+synced_left miss differ now (Synced ∷ earlier) = refl
 
 differing_left : (miss differ : Bool) (now any : List ℕ) (calls : List FileCall) → is_synced calls ≡ false → IsTrue differ → CallsLeave miss differ now calls (Some any)
 differing_left miss differ now any [] h d = inr d
@@ -72,21 +72,21 @@ spoiled_left miss differ emptied now (Wrote at count over ∷ earlier) =
 spoiled_left miss differ emptied now (Synced ∷ earlier) = refl
 
 module _ (f : FileData) where
-  unsynced_left : (before : Image) → is_synced (reverse f.calls.items) ≡ false → (miss differ : Bool) → f.may_miss ≡ miss → f.may_differ ≡ differ → FileLeaves f (lost_birth miss differ before (settled f.bytes.items (reverse f.calls.items)))
+  unsynced_left : (before : Image) → is_synced (reverse f.calls.items) ≡ false → (miss differ : Bool) → f.may_miss ≡ miss → f.may_differ ≡ differ → FileLeaves f (lost_birth miss differ before (synced_bytes f.bytes.items (reverse f.calls.items)))
   unsynced_left (Some bytes) h miss true m d = differing_left f.may_miss f.may_differ f.bytes.items bytes (reverse f.calls.items) h d
   unsynced_left (Some bytes) h true false m d = may_miss_still f.may_miss f.may_differ f.bytes.items (reverse f.calls.items) h m
-  unsynced_left (Some bytes) h false false m d = settled_left f.may_miss f.may_differ f.bytes.items (reverse f.calls.items)
+  unsynced_left (Some bytes) h false false m d = synced_left f.may_miss f.may_differ f.bytes.items (reverse f.calls.items)
   unsynced_left None h true differ m d = may_miss_still f.may_miss f.may_differ f.bytes.items (reverse f.calls.items) h m
-  unsynced_left None h false differ m d = settled_left f.may_miss f.may_differ f.bytes.items (reverse f.calls.items)
+  unsynced_left None h false differ m d = synced_left f.may_miss f.may_differ f.bytes.items (reverse f.calls.items)
 
-  lost_left : (before : Image) (settled_now : Bool) → f.is_settled ≡ settled_now → FileLeaves f (cond settled_now (Some (settled f.bytes.items (reverse f.calls.items))) (lost_birth f.may_miss f.may_differ before (settled f.bytes.items (reverse f.calls.items))))
-  lost_left before true e = settled_left f.may_miss f.may_differ f.bytes.items (reverse f.calls.items)
-  lost_left before false e = unsynced_left before (sym f.settled ∙ e) f.may_miss f.may_differ refl refl
+  lost_left : (before : Image) (synced_now : Bool) → f.was_synced ≡ synced_now → FileLeaves f (cond synced_now (Some (synced_bytes f.bytes.items (reverse f.calls.items))) (lost_birth f.may_miss f.may_differ before (synced_bytes f.bytes.items (reverse f.calls.items))))
+  lost_left before true e = synced_left f.may_miss f.may_differ f.bytes.items (reverse f.calls.items)
+  lost_left before false e = unsynced_left before (sym f.synced ∙ e) f.may_miss f.may_differ refl refl
 
   file_left : (outcome : Outcome) (before : Image) → FileLeaves f (file_crash outcome f before)
   file_left Kept before = file_stays f
   file_left Hostile before = spoiled_left f.may_miss f.may_differ f.emptied f.bytes.items (reverse f.calls.items)
-  file_left Lost before = lost_left before f.is_settled refl
+  file_left Lost before = lost_left before f.was_synced refl
 
 place_left : (outcome : Outcome) (place : Place) (before : Image) → PlaceLeaves (Some place) (place_crash outcome place before)
 place_left outcome (Home f) before = file_left f outcome before
@@ -98,7 +98,7 @@ place_left outcome Missing before = refl
 
 entry_left : (outcome : Outcome) (entry : Option Entry) → PlaceLeaves (place_of entry) (entry_crash outcome entry)
 entry_left outcome None = refl
-entry_left outcome (Some e) = place_left outcome e.place (settled_before e.before)
+entry_left outcome (Some e) = place_left outcome e.place (synced_before e.before)
 
 -- each outcome is one of the images that a crash may leave
 pub name_left : (outcome : Outcome) (dir : Directory) (n : FileName) → NameLeaves dir n (crash_image outcome dir n)

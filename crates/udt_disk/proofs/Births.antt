@@ -29,6 +29,6 @@ birth_at_gone place f is = subst (λ (p : Place). LeavesBirth true true (PlaceLe
   differing = λ _. (f.bytes.items, inr (file_stays f));
 })
 
-pub unsettled : (b : Bool) → not b ≡ true → b ≡ false
-unsettled true h = absurd (false≢true h)
-unsettled false h = refl
+pub unsynced : (b : Bool) → not b ≡ true → b ≡ false
+unsynced true h = absurd (false≢true h)
+unsynced false h = refl

@@ -3,7 +3,7 @@ use Rattle.std.proofs.Common.{◌≡◌, ◌≢◌, ◌⊎◌, ⊎_elim, inl, in
 use Rattle.std.specs.Prelude.{IfSome, IfNone}
 use Rattle.udt_disk.specs.Crash.{Image}
 use Rattle.udt_disk.specs.Tree.{entry_of, place_of, early, Changed}
-use Rattle.udt_disk.specs.Crashed.{image_before, settled_before}
+use Rattle.udt_disk.specs.Crashed.{image_before, synced_before}
 use Rattle.udt_disk.specs.Files.{place_stands, PlaceLeaves, without_home, removed, file_at}
 use Rattle.udt_disk.specs.Late.{late_since}
 use Rattle.udt_disk.specs.Directory.{Put, Moved, Removed, Same, long, since, place_at}
@@ -110,7 +110,7 @@ module _ (name : FileName) (old new : Directory) (returns : new.returns ≡ old.
 pub back_same : (name : FileName) (old new : Tree) (e e' : Entry) → Changed name (Some e') old new → entry_of old name ≡ Some e → e'.before ≡ e.before → (n : FileName) → image_before (entry_of new n) ≡ image_before (entry_of old n)
 back_same name old new e e' changed was same n =
     ⊎_elim
-    (λ is. ap (λ (m : FileName). image_before (entry_of new m)) is ∙ ap image_before changed.there ∙ ap settled_before same ∙ sym (ap image_before was) ∙ ap (λ (m : FileName). image_before (entry_of old m)) (sym is))
+    (λ is. ap (λ (m : FileName). image_before (entry_of new m)) is ∙ ap image_before changed.there ∙ ap synced_before same ∙ sym (ap image_before was) ∙ ap (λ (m : FileName). image_before (entry_of old m)) (sym is))
     (λ other. ap image_before (changed.others n other))
     (same_or_other name n)
 

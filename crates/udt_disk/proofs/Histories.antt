@@ -5,7 +5,7 @@ use Rattle.std.specs.declared.alloc.Global.{Global}
 use Rattle.std.proofs.lemmas.List.{take_at, drop_at, length-take, length-drop, reverse-append, take-append-drop, drop-drop}
 use Rattle.std.proofs.lemmas.Grind.{common_steps}
 use Rattle.udt_disk.specs.Bytes.{overwritten, Torn}
-use Rattle.udt_disk.specs.Crash.{Image, Tears, Follows, NoMore, Elapses}
+use Rattle.udt_disk.specs.Crash.{Image, Tears, ComeBy, NoMore, Elapses}
 use Rattle.udt_disk.specs.History.{undone, CallsLeave, LeftSince, stays_now}
 use Rattle.udt_disk.specs.declared.history.FileCall.{FileCall}
 use Rattle.udt_disk.specs.declared.history.FileCall.TheVariants.{Wrote, Synced}
@@ -66,7 +66,7 @@ module _ (miss differ : Bool) (now : List ℕ) (calls : List FileCall) where
     write_cases c (inr torn) = (torn.0, subst (λ (bytes : List ℕ). CallsLeave miss differ bytes (reverse calls) torn.0) undone_is torn.1, torn.2)
 
     -- a write may leave what it wrote, or may be torn
-    pub write_follows : Follows (Tears at (length piece)) (CallsLeave miss differ now (reverse calls)) (CallsLeave miss differ new (reverse calls'))
+    pub write_follows : ComeBy (Tears at (length piece)) (CallsLeave miss differ now (reverse calls)) (CallsLeave miss differ new (reverse calls'))
     write_follows c left = write_cases c (subst (λ (cs : List FileCall). CallsLeave miss differ new cs c) calls_are left)
 
     since_cases : (t : ℕ) (c : Image) → LeftSince miss differ new (Wrote at (length piece) over ∷ reverse calls) t c → LeftSince miss differ now (reverse calls) t c ⊎ CallsLeave miss differ new (reverse calls') c

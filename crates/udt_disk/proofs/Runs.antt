@@ -1,6 +1,6 @@
 -- Runs of calls on a file: how they begin, go on, and follow one another.
 use Rattle.std.proofs.Common.{◌≡◌, inl, inr, ⊎_elim, ℕ, refl, ◌∙◌, arith}
-use Rattle.udt_disk.specs.Crash.{Image, Tears, Follows, NoMore, Elapses}
+use Rattle.udt_disk.specs.Crash.{Image, Tears, ComeBy, NoMore, Elapses}
 use Rattle.udt_disk.specs.Runs.{Leaves, MayTear, IsOnlyRead}
 use Rattle.udt_disk.specs.declared.file.DiskFile.{Ghosts}
 
@@ -75,7 +75,7 @@ module _ {F : Type 0} (g : Ghosts F) where
   -- ---- writes
 
   -- a write, and a sync after it
-  pub write_and_sync : (at n : ℕ) (old mid new : F) → ((c : Image) → g.left_since old (g.moment old) c → g.may_leave old c) → Follows (Tears at n) (g.may_leave old) (g.may_leave mid) → Elapses (g.moment old) (g.moment mid) (g.left_since old) (g.left_since mid) (g.may_leave mid)
+  pub write_and_sync : (at n : ℕ) (old mid new : F) → ((c : Image) → g.left_since old (g.moment old) c → g.may_leave old c) → ComeBy (Tears at n) (g.may_leave old) (g.may_leave mid) → Elapses (g.moment old) (g.moment mid) (g.left_since old) (g.left_since mid) (g.may_leave mid)
       → NoMore (g.may_leave mid) (g.may_leave new) → Elapses (g.moment mid) (g.moment new) (g.left_since mid) (g.left_since new) (g.may_leave new) → Leaves g old new (MayTear at n (g.may_leave old))
   write_and_sync at n old mid new only_now follows time no_more time_after =
       let P = MayTear at n (g.may_leave old) in

@@ -1,7 +1,7 @@
 -- What a call of a file in memory may leave, whether it was done or failed.
 use Rattle.std.proofs.Common.{ℕ, ◌≤◌, List, length, refl, ◌∙◌, ap, subst, arith, inl, Some, None, Result, Ok, Err}
 use Rattle.std.specs.Prelude.{reverse, OnOk, OnErr}
-use Rattle.udt_disk.specs.Crash.{Image, Tears, Follows, NoMore, Only, Elapses}
+use Rattle.udt_disk.specs.Crash.{Image, Tears, ComeBy, NoMore, Only, Elapses}
 use Rattle.udt_disk.specs.History.{CallsLeave, LeftSince}
 use Rattle.udt_disk.specs.Files.{FileLeaves}
 use Rattle.udt_disk.specs.Tried.{SameFile, IsWritten, IsSynced}
@@ -17,7 +17,7 @@ module _ (old new : FileData) where
   untorn at n (Some bytes) = record { before = refl; after = refl; no_shorter = omega arith; no_longer = omega arith }
 
   module _ {T E : Type 0} (at : ℕ) (bytes : List ℕ) (within : at ≤ length old.bytes.items) where
-    pub written_follows : (r : Result T E) → OnErr r (SameFile old new) → OnOk r (IsWritten at bytes old new) → Follows (Tears at (length bytes)) (FileLeaves old) (FileLeaves new)
+    pub written_follows : (r : Result T E) → OnErr r (SameFile old new) → OnOk r (IsWritten at bytes old new) → ComeBy (Tears at (length bytes)) (FileLeaves old) (FileLeaves new)
     written_follows (Ok v) failed done =
         let step = write_follows old.may_miss old.may_differ old.bytes.items old.calls.items at bytes new.bytes.items done.noted.0 new.calls.items within done.noted.1 done.written done.noted.2 in
         λ c left. step c (rw (done.miss, done.differ) at left)

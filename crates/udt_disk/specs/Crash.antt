@@ -21,8 +21,8 @@ Created old (Some []) = ⊤
 Created old (Some (byte ∷ bytes)) = (before : List ℕ) × old (Some before)
 
 -- each new image is an old image after a step
-abbrev pub Follows : (Image → Image → Type 0) → (Image → Type 0) → (Image → Type 0) → Type 0
-Follows step old new = (c : Image) → new c → (d : Image) × old d × step d c
+abbrev pub ComeBy : (Image → Image → Type 0) → (Image → Type 0) → (Image → Type 0) → Type 0
+ComeBy step old new = (c : Image) → new c → (d : Image) × old d × step d c
 
 -- no image is new
 abbrev pub NoMore : (Image → Type 0) → (Image → Type 0) → Type 0

@@ -65,7 +65,7 @@ pub record IsFresh (asked : FileName) (f : FileData) (may_miss may_differ : Bool
   pub was_emptied : f.emptied ≡ emptied
   pub calls : f.calls.items ≡ []
   pub empty : f.bytes.items ≡ []
-  pub unsettled : f.is_settled ≡ false
+  pub unsynced : f.was_synced ≡ false
   pub unused : f.uses ≡ 0
   pub no_trouble : f.troubled ≡ 0
   pub no_want : f.starved ≡ 0
@@ -78,7 +78,7 @@ pub record IsGiven (asked : FileName) (was f : FileData) : Type 0 where
   pub miss : f.may_miss ≡ was.may_miss
   pub differ : f.may_differ ≡ was.may_differ
   pub emptied : f.emptied ≡ was.emptied
-  pub is_settled : f.is_settled ≡ was.is_settled
+  pub was_synced : f.was_synced ≡ was.was_synced
   pub unused : f.uses ≡ 0
   pub no_trouble : f.troubled ≡ 0
   pub no_want : f.starved ≡ 0

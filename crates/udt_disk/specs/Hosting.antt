@@ -5,7 +5,7 @@ use Rattle.udt_disk.specs.Causes.{plus_faults}
 use Rattle.udt_disk.specs.Opens.{Standing}
 use Rattle.udt_disk.specs.OpensFolder.{Holding, MayStay}
 use Rattle.udt_disk.specs.Files.{place_stands}
-use Rattle.udt_disk.specs.Directory.{NameLeaves, name_stays, place_at}
+use Rattle.udt_disk.specs.Directory.{NameLeaves, comes_back, name_stays, place_at}
 use Rattle.udt_disk.specs.Memory.{Reading}
 use Rattle.udt_disk.specs.Places.{has_path, stands_in, source_of, folder_of}
 use Rattle.udt_disk.specs.declared.name.FileName.{FileName}
@@ -20,10 +20,11 @@ contents_of disk name = place_stands (place_at disk.directory name)
 abbrev pub faults_of : MemDisk → ℕ
 faults_of disk = plus_faults (plus_faults disk.troubled disk.starved) disk.given_back
 
--- a folder that was opened is clean, and has what stood there, with its count
+-- a folder that was opened is clean, and has what stood there, with its count; nothing comes back in it
 pub record IsOpening (opened stood : MemDisk) : Type 0 where
   pub stands : (n : FileName) → contents_of opened n ≡ contents_of stood n
   pub clean : (n : FileName) (c : Image) → NameLeaves opened.directory n c → c ≡ contents_of opened n
+  pub back : (n : FileName) → comes_back opened.directory n ≡ None
   pub faults : faults_of opened ≡ faults_of stood
   pub troubles : opened.troubles.items ≡ stood.troubles.items
 
@@ -31,6 +32,7 @@ pub record IsOpening (opened stood : MemDisk) : Type 0 where
 pub record IsNewFolder (disk : MemDisk) : Type 0 where
   pub stands : (n : FileName) → contents_of disk n ≡ None
   pub clean : (n : FileName) (c : Image) → NameLeaves disk.directory n c → c ≡ contents_of disk n
+  pub back : (n : FileName) → comes_back disk.directory n ≡ None
   pub faults : faults_of disk ≡ 0
   pub troubles : disk.troubles.items ≡ []
 

@@ -5,10 +5,10 @@ use Rattle.udt_disk.specs.declared.history.FileCall.{FileCall}
 use Rattle.udt_disk.specs.declared.history.FileCall.TheVariants.{Wrote, Synced}
 
 -- what a read gave at the last sync, or before the first call
-abbrev pub settled : List ℕ → List FileCall → List ℕ
-settled now [] = now
-settled now (Wrote at count over ∷ earlier) = settled (undone now at count over.items) earlier
-settled now (Synced ∷ earlier) = now
+abbrev pub synced_bytes : List ℕ → List FileCall → List ℕ
+synced_bytes now [] = now
+synced_bytes now (Wrote at count over ∷ earlier) = synced_bytes (undone now at count over.items) earlier
+synced_bytes now (Synced ∷ earlier) = now
 
 -- 0xA5 in each of so many bytes from an offset on, which is within them or at their end
 abbrev pub spoiled_at : List ℕ → ℕ → ℕ → List ℕ

@@ -23,7 +23,7 @@ pub record SameFile (old new : FileData) : Type 0 where
   pub miss : new.may_miss ≡ old.may_miss
   pub differ : new.may_differ ≡ old.may_differ
   pub emptied : new.emptied ≡ old.emptied
-  pub is_settled : new.is_settled ≡ old.is_settled
+  pub was_synced : new.was_synced ≡ old.was_synced
 
 -- a call of a file
 pub record FileTried {T E : Type 0} (old new : FileData) (result : Result T E) : Type 0 where
@@ -39,7 +39,7 @@ pub record IsWritten (at : ℕ) (bytes : List ℕ) (old new : FileData) : Type 0
   pub miss : new.may_miss ≡ old.may_miss
   pub differ : new.may_differ ≡ old.may_differ
   pub emptied : new.emptied ≡ old.emptied
-  pub is_settled : new.is_settled ≡ old.is_settled
+  pub was_synced : new.was_synced ≡ old.was_synced
 
 -- a sync was noted
 pub record IsSynced (old new : FileData) : Type 0 where
@@ -48,7 +48,7 @@ pub record IsSynced (old new : FileData) : Type 0 where
   pub miss : new.may_miss ≡ old.may_miss
   pub differ : new.may_differ ≡ old.may_differ
   pub emptied : new.emptied ≡ old.emptied
-  pub is_settled : new.is_settled ≡ true
+  pub was_synced : new.was_synced ≡ true
 
 -- a call of a folder on a name
 pub record FolderTried {T E : Type 0} (name : FileName) (old new : MemDisk) (result : Result T E) : Type 0 where

@@ -130,7 +130,7 @@ impl Directory {
     /// Puts a file back under a name, in the room that is given.
     pub(crate) fn put_back(&mut self, name: FileName, file: FileData, room: Room)
         ensures put { Put name (Home file) self.old self.new }
-        ensures back { comes_back self.new name ≡ (if file.is_settled then None else comes_back self.old name) }
+        ensures back { comes_back self.new name ≡ (if file.was_synced then None else comes_back self.old name) }
         ensures back_others { (n : NameOf) → n ≢ name → comes_back self.new n ≡ comes_back self.old n }
     {
         let Room { fork, late } = room;

@@ -4,7 +4,7 @@ ghost use Rattle.std.specs.Prelude.{◌≡◌, ◌+◌, ◌-◌, ◌^◌, ◌≤
 ghost use Rattle.udt_disk.specs.declared.name.FileName.{FileName as NameOf};
 ghost use Rattle.udt_disk.specs.Causes.{HasCause};
 ghost use Rattle.udt_disk.specs.Bytes.{overwritten, Torn};
-ghost use Rattle.udt_disk.specs.Crash.{Image, Tears, Follows, NoMore, Only, Elapses};
+ghost use Rattle.udt_disk.specs.Crash.{Image, Tears, ComeBy, NoMore, Only, Elapses};
 
 use crate::Failed;
 
@@ -69,7 +69,7 @@ pub trait DiskFile: Send {
         ensures fits { OnOk result (at + length bytes.now ≤ 2 ^ 64 - 1) }
         ensures written { OnOk result (IsTrue (is_told self.old) → seen self.new ≡ overwritten (seen self.old) at bytes.now) }
         ensures torn { OnErr result (IsTrue (is_told self.old) → Torn at (length bytes.now) (seen self.old) (seen self.new)) }
-        ensures crash { Follows (Tears at (length bytes.now)) (may_leave self.old) (may_leave self.new) }
+        ensures crash { ComeBy (Tears at (length bytes.now)) (may_leave self.old) (may_leave self.new) }
         ensures time { Elapses (moment self.old) (moment self.new) (left_since self.old) (left_since self.new) (may_leave self.new) }
         ensures cause { HasCause (faults self.old) (faults self.new) result }
         ensures name { name self.new ≡ name self.old }

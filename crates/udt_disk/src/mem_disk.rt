@@ -170,6 +170,7 @@ impl MemDisk {
         ensures image { IfOk result (λ d. (n : NameOf) → ⟦<MemDisk as Disk>⟧.may_leave self n (⟦<MemDisk as Disk>⟧.stands d n)) }
         ensures outcome { IfOk result (λ d. (n : NameOf) → ⟦<MemDisk as Disk>⟧.stands d n ≡ left_by outcome self n) }
         ensures clean { IfOk result (λ d. (n : NameOf) (c : Image) → ⟦<MemDisk as Disk>⟧.may_leave d n c → c ≡ ⟦<MemDisk as Disk>⟧.stands d n) }
+        ensures back { IfOk result (λ d. (n : NameOf) → comes_back d.directory n ≡ None) }
         ensures faults { IfOk result (λ d. ⟦<MemDisk as Disk>⟧.faults d ≡ 0) }
         ensures troubles { IfOk result (λ d. d.troubles.items ≡ []) }
     {
@@ -256,7 +257,7 @@ impl MemDisk {
     pub fn retire(&mut self, file: MemFile)
         ensures put { Put file.data.name (Home file.data) self.old.directory self.new.directory }
         // What stood there before the file was made comes back where it is lost, until it is synced.
-        ensures back { comes_back self.new.directory file.data.name ≡ (if file.data.is_settled then None else comes_back self.old.directory file.data.name) }
+        ensures back { comes_back self.new.directory file.data.name ≡ (if file.data.was_synced then None else comes_back self.old.directory file.data.name) }
         ensures back_others { (n : NameOf) → n ≢ file.data.name → comes_back self.new.directory n ≡ comes_back self.old.directory n }
         ensures given_back { self.new.given_back ≡ plus_faults self.old.given_back (plus_faults file.data.troubled file.data.starved) }
         ensures troubled { self.new.troubled ≡ self.old.troubled }
@@ -282,6 +283,7 @@ impl MemDisk {
     pub(crate) fn clean(&mut self)
         ensures stands { (n : NameOf) → ⟦<MemDisk as Disk>⟧.stands self.new n ≡ ⟦<MemDisk as Disk>⟧.stands self.old n }
         ensures only { (n : NameOf) (c : Image) → ⟦<MemDisk as Disk>⟧.may_leave self.new n c → c ≡ ⟦<MemDisk as Disk>⟧.stands self.new n }
+        ensures back { (n : NameOf) → comes_back self.new.directory n ≡ None }
         ensures faults { ⟦<MemDisk as Disk>⟧.faults self.new ≡ ⟦<MemDisk as Disk>⟧.faults self.old }
         ensures troubles { self.new.troubles.items ≡ self.old.troubles.items }
     {
@@ -324,7 +326,7 @@ fn new_file(
         may_miss: birth.may_miss,
         may_differ: birth.may_differ,
         emptied: birth.emptied,
-        is_settled: false,
+        was_synced: false,
         troubles: Vec::from_slice(alloc, troubles)?,
         uses: 0,
         troubled: 0,

@@ -30,13 +30,13 @@ pub(crate) struct FileData {
     /// How many bytes stood there when it was emptied.
     pub(crate) emptied: u64,
     /// It was synced since then.
-    pub(crate) is_settled: bool,
+    pub(crate) was_synced: bool,
     /// What is to go wrong, and how many calls it took since it was given out.
     pub(crate) troubles: Vec<Trouble>,
     pub(crate) uses: u64,
     pub(crate) troubled: u64,
     pub(crate) starved: u64,
-    pub(crate) ghost settled: { is_settled ≡ is_synced (reverse calls.items) },
+    pub(crate) ghost synced: { was_synced ≡ is_synced (reverse calls.items) },
 }
 
 impl FileData {
@@ -51,7 +51,7 @@ impl FileData {
         self.may_miss = false;
         self.may_differ = false;
         self.emptied = 0;
-        self.is_settled = false;
+        self.was_synced = false;
     }
 
     /// How many bytes the file has after a crash whose outcome is `Hostile`.
@@ -59,7 +59,7 @@ impl FileData {
         ensures { result ≡ spoilt_len self.now }
     {
         let len = self.bytes.len() as u64;
-        if self.is_settled || !self.may_differ {
+        if self.was_synced || !self.may_differ {
             return len;
         }
         len.max(self.emptied)
@@ -213,7 +213,7 @@ impl FileData {
         }
         match note_sync(&mut self.calls) {
             Ok(()) => {
-                self.is_settled = true;
+                self.was_synced = true;
                 Ok(())
             }
             Err(_) => {

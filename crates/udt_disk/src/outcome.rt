@@ -2,8 +2,8 @@
 
 ghost use Rattle.std.specs.Prelude.{◌≡◌, ◌+◌, ℕ, length, reverse, replicate, Option, Some, IfOk, option_map, None};
 ghost use Rattle.udt_disk.specs.History.{undone};
-ghost use Rattle.udt_disk.specs.Outcomes.{settled, spoiled, spoiled_at};
-ghost use Rattle.udt_disk.specs.Crashed.{settled_before, file_crash, place_crash, IsCleanPlace, IsCrashed};
+ghost use Rattle.udt_disk.specs.Outcomes.{synced_bytes, spoiled, spoiled_at};
+ghost use Rattle.udt_disk.specs.Crashed.{synced_before, file_crash, place_crash, IsCleanPlace, IsCrashed};
 ghost use Rattle.udt_disk.specs.Tree.{entry_from};
 ghost use Rattle.udt_disk.specs.declared.name.FileName.{FileName as NameOf};
 
@@ -39,14 +39,14 @@ fn undo(alloc: Global, now: &[u8], at: u64, count: u64, over: &[u8]) -> Result<V
 }
 
 /// What a read gave at the last sync, or before the first call.
-fn settle(alloc: Global, now: &[u8], calls: &[FileCall]) -> Result<Vec<u8>, NoMemory>
-    ensures { IfOk result (λ bytes. bytes.items ≡ settled now.now (reverse calls.now)) }
+fn undo_unsynced(alloc: Global, now: &[u8], calls: &[FileCall]) -> Result<Vec<u8>, NoMemory>
+    ensures { IfOk result (λ bytes. bytes.items ≡ synced_bytes now.now (reverse calls.now)) }
 {
     match calls.split_last() {
         None | Some((FileCall::Synced, _)) => Vec::from_slice(alloc, now),
         Some((FileCall::Wrote(at, count, over), earlier)) => {
             let before = undo(alloc, now, *at, *count, over)?;
-            settle(alloc, &before, earlier)
+            undo_unsynced(alloc, &before, earlier)
         }
     }
 }
@@ -94,10 +94,10 @@ fn spoil(alloc: Global, now: &[u8], calls: &[FileCall], emptied: u64) -> Result<
 
 impl FileData {
     /// What a read gave at the last sync, or before the first call.
-    fn settled(&self, alloc: Global) -> Result<Vec<u8>, NoMemory>
-        ensures { IfOk result (λ bytes. Some bytes.items ≡ settled_before (Some self.now)) }
+    fn at_last_sync(&self, alloc: Global) -> Result<Vec<u8>, NoMemory>
+        ensures { IfOk result (λ bytes. Some bytes.items ≡ synced_before (Some self.now)) }
     {
-        settle(alloc, &self.bytes, &self.calls)
+        undo_unsynced(alloc, &self.bytes, &self.calls)
     }
 
     /// What the outcome leaves of the file, where `before` stands under its name if it is lost.
@@ -116,14 +116,14 @@ impl FileData {
                 Ok(Some(spoil(alloc, &self.bytes, &self.calls, emptied)?))
             }
             Outcome::Lost => {
-                let settled = self.settled(alloc)?;
-                if self.is_settled {
-                    return Ok(Some(settled));
+                let bytes = self.at_last_sync(alloc)?;
+                if self.was_synced {
+                    return Ok(Some(bytes));
                 }
                 match before {
                     Some(bytes) if self.may_differ => Ok(Some(bytes)),
                     _ if self.may_miss => Ok(None),
-                    _ => Ok(Some(settled)),
+                    _ => Ok(Some(bytes)),
                 }
             }
         }
@@ -165,7 +165,7 @@ fn clean_place(alloc: Global, bytes: Option<Vec<u8>>) -> Place
             may_miss: false,
             may_differ: false,
             emptied: 0,
-            is_settled: false,
+            was_synced: false,
             troubles: Vec::new(alloc),
             uses: 0,
             troubled: 0,
@@ -181,7 +181,7 @@ impl Entry {
         ensures crashed { IfOk result (λ entry. IsCrashed outcome (Some self.now) (Some entry)) }
     {
         let before = match &self.before {
-            Some(file) => Some(file.settled(alloc)?),
+            Some(file) => Some(file.at_last_sync(alloc)?),
             None => None,
         };
         Ok(Entry {

@@ -4,7 +4,7 @@ ghost use Rattle.std.specs.Prelude.{◌≡◌, ◌≢◌, ℕ, if◌then◌else�
 ghost use Rattle.udt_disk.specs.declared.name.FileName.{FileName as NameOf};
 ghost use Rattle.udt_disk.specs.Tree.{entry_from, entry_of, early, lent, Changed};
 ghost use Rattle.udt_disk.specs.Files.{PlaceLeaves, LeavesBirth, place_stands, without_home, removed, file_at};
-ghost use Rattle.udt_disk.specs.Crashed.{IsCleanPlace, IsCleaned, emptied_by, image_before, settled_before, file_crash, place_crash, entry_crash};
+ghost use Rattle.udt_disk.specs.Crashed.{IsCleanPlace, IsCleaned, emptied_by, image_before, synced_before, file_crash, place_crash, entry_crash};
 ghost use Rattle.udt_disk.specs.declared.tree.Place.TheVariants.{Home, Out, Missing};
 ghost use Rattle.udt_disk.specs.declared.outcome.Outcome.TheVariants.{Lost};
 
@@ -99,7 +99,7 @@ impl Place {
                 emptied: 0,
             },
             Place::Home(file) => Birth {
-                may_miss: file.may_miss && !file.is_settled,
+                may_miss: file.may_miss && !file.was_synced,
                 may_differ: true,
                 emptied: file.spoilt_len(),
             },
@@ -120,9 +120,9 @@ impl Place {
 impl FileData {
     /// The file that stands under a name where all that wasn't synced is lost, of this one and what stood there before.
     fn or_before(self, before: Option<FileData>) -> Option<FileData>
-        ensures { settled_before result ≡ file_crash Lost self (settled_before before) }
+        ensures { synced_before result ≡ file_crash Lost self (synced_before before) }
     {
-        if self.is_settled {
+        if self.was_synced {
             return Some(self);
         }
         match before {
@@ -160,7 +160,7 @@ impl Place {
 
     /// What stands here where all that wasn't synced is lost, of this place and what stood there before.
     fn or_before(self, before: Option<FileData>) -> Option<FileData>
-        ensures { settled_before result ≡ place_crash Lost self (settled_before before) }
+        ensures { synced_before result ≡ place_crash Lost self (synced_before before) }
     {
         match self {
             Place::Home(file) | Place::Gone(file) => file.or_before(before),
@@ -218,13 +218,13 @@ impl Entry {
         ensures name { result.name ≡ self.name }
         ensures place { result.place ≡ Home file }
         ensures since { result.since ≡ since }
-        ensures back { image_before (Some result) ≡ (if file.is_settled then None else image_before (Some self)) }
+        ensures back { image_before (Some result) ≡ (if file.was_synced then None else image_before (Some self)) }
     {
-        let is_settled = file.is_settled;
+        let was_synced = file.was_synced;
         Entry {
             name: self.name,
             place: Place::Home(file),
-            before: self.before.filter(|_| !is_settled),
+            before: self.before.filter(|_| !was_synced),
             since,
         }
     }

@@ -8,7 +8,7 @@ use Rattle.ts_key.specs.declared.numbers.Ts.{Ts}
 use Rattle.ts_key.specs.declared.numbers.Seq.{Seq}
 use Rattle.ts_key.specs.declared.version.Version.{Version}
 use Rattle.udt_model.specs.Versions.{is_newer, newer, newest_of, is_of, is_within, visible}
-use Rattle.udt_model.specs.Greatest.{is_visible, IsGreatest, SeesTheGreatest, HasOneGreatest}
+use Rattle.udt_model.specs.Greatest.{is_seen, IsGreatest, SeesTheGreatest, HasOneGreatest}
 use Rattle.udt_model.proofs.Sorted.{filter_twice}
 
 -- ---- what is in a list
@@ -95,17 +95,17 @@ best_filter p (x ∷ xs) =
 
 -- ---- what a read sees
 
-best_visible : (w : List Version) (family : Family) (key : List ℕ) (t : Ts) (s : Seq) → Best w (is_visible family key t s) (visible w family key t s)
+best_visible : (w : List Version) (family : Family) (key : List ℕ) (t : Ts) (s : Seq) → Best w (is_seen family key t s) (visible w family key t s)
 best_visible w family key t s =
-    subst (Best w (is_visible family key t s)) (sym (ap newest_of (filter_twice (is_within t s) (is_of family key) w))) (best_filter (is_visible family key t s) w)
+    subst (Best w (is_seen family key t s)) (sym (ap newest_of (filter_twice (is_within t s) (is_of family key) w))) (best_filter (is_seen family key t s) w)
 
 not_passed : (b : Bool) → (b ≡ true → ⊥) → b ≡ false
 not_passed true h = absurd (h refl)
 not_passed false h = refl
 
-told : (w : List Version) (family : Family) (key : List ℕ) (t : Ts) (s : Seq) (o : Option Version) → Best w (is_visible family key t s) o
-    → MatchOption o ((u : Version) → Contains w u → is_visible family key t s u ≡ false) (IsGreatest w family key t s)
-told w family key t s None b = λ u c. not_passed (is_visible family key t s u) (b u (contains_In w u c))
+told : (w : List Version) (family : Family) (key : List ℕ) (t : Ts) (s : Seq) (o : Option Version) → Best w (is_seen family key t s) o
+    → MatchOption o ((u : Version) → Contains w u → is_seen family key t s u ≡ false) (IsGreatest w family key t s)
+told w family key t s None b = λ u c. not_passed (is_seen family key t s u) (b u (contains_In w u c))
 told w family key t s (Some v) b = record {
   listed = In-contains w v b.there;
   seen = b.fit;
@@ -137,7 +137,7 @@ one_each w apart a b x y e =
     ]
 
 best_is : (w : List Version) (family : Family) (key : List ℕ) (t : Ts) (s : Seq) (v : Version) (o : Option Version) → AllPairs (λ (a b : Version). a.seq.0 ≢ b.seq.0) w
-    → IsGreatest w family key t s v → Best w (is_visible family key t s) o → o ≡ Some v
+    → IsGreatest w family key t s v → Best w (is_seen family key t s) o → o ≡ Some v
 best_is w family key t s v None apart g b = absurd (b v (contains_In w v g.listed) g.seen)
 best_is w family key t s v (Some u) apart g b =
     let same = same_place u v (g.newest u (In-contains w u b.there) b.fit) (b.top v (contains_In w v g.listed) g.seen) in

@@ -23,6 +23,7 @@ use Rattle.ts_key.specs.Lists as lists
 use Rattle.ts_key.specs.Visible as seen
 use Rattle.ts_key.specs.Firsts.{later_not_newer}
 use Rattle.udt_model.specs.Versions.{is_newer, newer, newest_of, is_of, is_within}
+use Rattle.udt_model.specs.Greatest.{is_seen}
 use Rattle.udt_model.specs.Orders.{is_before, with_version, stored}
 use Rattle.udt_model.specs.SortedLaws.{OrdersAgree, SortingAgrees, VisibleAgrees, FirstIsVisible, FirstIsNewest}
 
@@ -72,9 +73,6 @@ pub filter_twice : (p q : Version → Bool) (vs : List Version) → filter p (fi
 filter_twice p q [] = refl
 filter_twice p q (v ∷ vs) = twice_on (q v) (p v) p v (filter q vs) refl ∙ ap (λ (xs : List Version). cond (q v && p v) (v ∷ xs) xs) (filter_twice p q vs)
 
-abbrev sees : Family → List ℕ → Ts → Seq → Version → Bool
-sees family key t s v = is_of family key v && is_within t s v
-
 -- ---- the newest of those that pass a test
 
 newest_on : (b : Bool) (v w : Version) → is_newer w v ≡ b → option_map item_of (newer (Some v) (Some w)) ≡ seen.newer (Some (item_of v)) (Some (item_of w))
@@ -98,16 +96,16 @@ pass_on false false v vs xs e h = h
 own_family : (a b : ℕ) (x y : Bool) → a ≡ b → ((a == b && x) && y) ≡ (x && y)
 own_family a b x y e = let z : (a == b) ≡ true = grind (arith, nat_tests) in rw z refl
 
-pass_agrees : (family : Family) (key : List ℕ) (t : Ts) (s : Seq) (vs : List Version) → AllByRecursion (λ v. v.family.0 ≡ family.0) vs → items_of (filter (sees family key t s) vs) ≡ filter (seen.is_seen key t.0 s.0) (items_of vs)
+pass_agrees : (family : Family) (key : List ℕ) (t : Ts) (s : Seq) (vs : List Version) → AllByRecursion (λ v. v.family.0 ≡ family.0) vs → items_of (filter (is_seen family key t s) vs) ≡ filter (seen.is_seen key t.0 s.0) (items_of vs)
 pass_agrees family key t s [] h = refl
 pass_agrees family key t s (v ∷ vs) h =
-    pass_on (sees family key t s v) (seen.is_seen key t.0 s.0 (item_of v)) v (filter (sees family key t s) vs) (filter (seen.is_seen key t.0 s.0) (items_of vs))
+    pass_on (is_seen family key t s v) (seen.is_seen key t.0 s.0 (item_of v)) v (filter (is_seen family key t s) vs) (filter (seen.is_seen key t.0 s.0) (items_of vs))
     (own_family v.family.0 family.0 (bytes_eq v.key key) (is_within t s v) h.0) (pass_agrees family key t s vs h.1)
 
 pub visible_agrees : VisibleAgrees
 visible_agrees w family key t s h =
     ap (λ (xs : List Version). option_map item_of (newest_of xs)) (filter_twice (is_within t s) (is_of family key) w)
-    ∙ newest_agrees (filter (sees family key t s) w) ∙ ap seen.newest_of (pass_agrees family key t s w h)
+    ∙ newest_agrees (filter (is_seen family key t s) w) ∙ ap seen.newest_of (pass_agrees family key t s w h)
 
 -- ---- the first is the newest
 
@@ -160,7 +158,7 @@ own_key family key v h = (bytes_eq-Decides v.key key).0 (back_true (v.family.0 =
 pub first_is_visible : FirstIsVisible
 first_is_visible w family key t s h =
     ap newest_of (filter_twice (is_within t s) (is_of family key) w)
-    ∙ newest_first key (sees family key t s) (λ v e. own_key family key v (front_true (is_of family key v) (is_within t s v) e)) w h
+    ∙ newest_first key (is_seen family key t s) (λ v e. own_key family key v (front_true (is_of family key v) (is_within t s v) e)) w h
 
 pub first_is_newest : FirstIsNewest
 first_is_newest w family key h = newest_first key (is_of family key) (own_key family key) w h

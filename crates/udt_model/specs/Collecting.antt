@@ -21,11 +21,11 @@ abbrev pub is_seen_at : List Version → Ts → Version → Seq → Bool
 is_seen_at vs floor v s = nat_le v.seq.0 s.0 && not (is_hidden (up_to s.0 vs) floor v)
 
 -- a read at or above the floor may see it: now, or with one of the snapshots
-abbrev pub is_seen : List Version → Ts → List Seq → Version → Bool
-is_seen vs floor seqs v = not (is_hidden vs floor v) || list_any (is_seen_at vs floor v) seqs
+abbrev pub is_ever_seen : List Version → Ts → List Seq → Version → Bool
+is_ever_seen vs floor seqs v = not (is_hidden vs floor v) || list_any (is_seen_at vs floor v) seqs
 
 abbrev pub seen_of : List Version → Ts → List Seq → List Version
-seen_of vs floor seqs = filter (is_seen vs floor seqs) vs
+seen_of vs floor seqs = filter (is_ever_seen vs floor seqs) vs
 
 -- p is a put of v's key that is older than v
 abbrev pub is_put_below : Version → Version → Bool

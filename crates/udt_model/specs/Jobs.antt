@@ -30,8 +30,8 @@ abbrev pub unflushed_of : State → Family → List Version
 unflushed_of m family = between family (through_at m family).0 m.last.0 m.versions
 
 -- the versions that a flush takes
-abbrev pub taken : State → Flush → List Version
-taken m job = between job.family (through_at m job.family).0 job.through.0 m.versions
+abbrev pub flush_taken : State → Flush → List Version
+flush_taken m job = between job.family (through_at m job.family).0 job.through.0 m.versions
 
 -- versions as a table of the form keeps them
 abbrev pub in_form : Form → List Version → List Version
@@ -40,7 +40,7 @@ in_form Strip vs = stripped vs
 
 -- the versions of the table that a flush makes
 abbrev pub flush_kept : State → Flush → List Version
-flush_kept m job = in_form (form_at m job.family) (collect_all (taken m job) job.floor job.seqs)
+flush_kept m job = in_form (form_at m job.family) (collect_all (flush_taken m job) job.floor job.seqs)
 
 -- a family that strips its timestamps can't be read below them any more
 abbrev pub floor_over : Form → Ts → List Version → Ts
@@ -49,7 +49,7 @@ floor_over Strip floor vs = record { 0 = max floor.0 (cutoff vs) }
 
 -- the floor that a flush leaves
 abbrev pub flush_floor : State → Flush → Ts
-flush_floor m job = floor_over (form_at m job.family) (floor_at m job.family) (taken m job)
+flush_floor m job = floor_over (form_at m job.family) (floor_at m job.family) (flush_taken m job)
 
 -- ---- plans of compactions
 
@@ -72,7 +72,7 @@ is_ascending (n ∷ o ∷ ns) = nat_lt n o && is_ascending (o ∷ ns)
 abbrev pub is_amid : ℕ → ℕ → ℕ → Bool
 is_amid a b c = (nat_lt a b && nat_lt b c) || (nat_lt c b && nat_lt b a)
 
--- a table has to be taken in with an input where it stands on the output level or on one between, or where both stand on level 0
+-- a table has to be flush_taken in with an input where it stands on the output level or on one between, or where both stand on level 0
 abbrev pub goes_with : ℕ → LiveTable → LiveTable → Bool
 goes_with level input t = t.level == level || is_amid input.level t.level level || (input.level == 0 && t.level == 0)
 
@@ -81,7 +81,7 @@ abbrev pub hull_of : List LiveTable → KeySpan
 hull_of [] = span_of []
 hull_of (t ∷ ts) = hull_with (span_of t.versions) (spans_of ts)
 
--- the table meets the hull of the inputs and has to be taken in with one of them
+-- the table meets the hull of the inputs and has to be flush_taken in with one of them
 abbrev pub is_wanted : ℕ → List LiveTable → LiveTable → Bool
 is_wanted level inputs t = meets (span_of t.versions) (hull_of inputs) && list_any (λ input. goes_with level input t) inputs
 
@@ -90,7 +90,7 @@ abbrev pub inputs_of : State → Family → List ℕ → List LiveTable
 inputs_of m family inputs = filter (is_input inputs) (tables_of m family)
 
 -- The inputs are ascending numbers of live tables of the family, at least one, the output level is 1 to 6, and each table that has to
--- be taken in is an input.
+-- be flush_taken in is an input.
 pub record IsClosed (m : State) (family : Family) (inputs : List ℕ) (level : ℕ) : Type 0 where
   pub some : IsTrue (nat_lt 0 (length inputs))
   pub ascending : IsTrue (is_ascending inputs)

@@ -49,13 +49,13 @@ abbrev pub higher_of : List ℕ → List ℕ → List ℕ
 higher_of a b = if is_below a b then b else a
 
 -- the span from the lowest to the highest of both
-abbrev pub joined : KeySpan → KeySpan → KeySpan
-joined a b = record { low = lower_of a.low b.low; high = higher_of a.high b.high }
+abbrev pub span_of_both : KeySpan → KeySpan → KeySpan
+span_of_both a b = record { low = lower_of a.low b.low; high = higher_of a.high b.high }
 
 -- the hull of a span and others
 abbrev pub hull_with : KeySpan → List KeySpan → KeySpan
 hull_with a [] = a
-hull_with a (b ∷ bs) = hull_with (joined a b) bs
+hull_with a (b ∷ bs) = hull_with (span_of_both a b) bs
 
 -- the span of one key
 abbrev pub span_of_key : List ℕ → KeySpan
@@ -65,4 +65,4 @@ span_of_key key = record { low = key; high = key }
 abbrev pub span_of : List Version → KeySpan
 span_of [] = span_of_key []
 span_of (v ∷ []) = span_of_key v.key
-span_of (v ∷ w ∷ vs) = joined (span_of_key v.key) (span_of (w ∷ vs))
+span_of (v ∷ w ∷ vs) = span_of_both (span_of_key v.key) (span_of (w ∷ vs))

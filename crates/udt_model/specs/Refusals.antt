@@ -1,5 +1,6 @@
 -- Why the store refuses what it is asked, in the order in which the refusals are tested.
-use Rattle.std.specs.Prelude.{ℕ, ◌+◌, ◌-◌, ◌^◌, nat_lt, if◌then◌else◌, List, [], ◌∷◌, ◌++◌, length, Option, Some, None, option_map}
+use Rattle.std.specs.Prelude.{ℕ, ◌+◌, nat_lt, if◌then◌else◌, List, [], ◌∷◌, ◌++◌, length, Option, Some, None, option_map}
+use Rattle.ts_key.specs.declared.limits.TheConstants.{SEQUENCE_LIMIT, SNAPSHOT_LIMIT}
 use Rattle.ts_key.specs.declared.batch.WriteOp.{WriteOp}
 use Rattle.ts_key.specs.declared.numbers.Family.{Family}
 use Rattle.ts_key.specs.declared.numbers.Ts.{Ts}
@@ -61,7 +62,7 @@ refused m w n k (o ∷ os) = op_refusal w k (place_at m o.family) o or_else refu
 
 -- there are no sequences left for so many operations
 abbrev pub full : State → List WriteOp → Option Reply
-full m os = if nat_lt (2 ^ 56 - 1) (m.last.0 + length os) then Some (Full m.last) else None
+full m os = if nat_lt SEQUENCE_LIMIT (m.last.0 + length os) then Some (Full m.last) else None
 
 -- ---- the others
 
@@ -70,12 +71,9 @@ abbrev pub floor_fell : Ts → Option Place → Option Reply
 floor_fell asked None = Some Unknown
 floor_fell asked (Some p) = if nat_lt asked.0 p.floor.0 then Some (Floor p.floor) else None
 
--- the most snapshots that are registered
-abbrev pub snapshot_limit : ℕ
-snapshot_limit = 1024
-
+-- as many snapshots are registered as may be
 abbrev pub snapshots_full : State → Option Reply
-snapshots_full m = if nat_lt (length m.snaps) snapshot_limit then None else Some (Snapshots snapshot_limit)
+snapshots_full m = if nat_lt (length m.snaps) SNAPSHOT_LIMIT then None else Some (Snapshots SNAPSHOT_LIMIT)
 
 -- such a job runs: this is the number of its start
 abbrev pub busy : Option ℕ → Option Reply

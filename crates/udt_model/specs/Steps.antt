@@ -64,8 +64,8 @@ abbrev pub snapped : State → Reply
 snapped m = refusal m make_snapshot otherwise OkAt m.last.0
 
 -- the reply to a sync
-abbrev pub synced : State → Reply
-synced m = refusal m sync_all otherwise Done
+abbrev pub reply_of_sync : State → Reply
+reply_of_sync m = refusal m sync_all otherwise Done
 
 -- the reply to the start of a flush: the sequence up to which it takes the versions, unless there is none
 abbrev pub flush_started : State → Family → Reply
@@ -115,7 +115,7 @@ IsTold m make_snapshot reply = reply ≡ snapped m
 IsTold m (release event) reply = reply ≡ Done
 IsTold m pin reply = reply ≡ Done
 IsTold m unpin reply = reply ≡ Done
-IsTold m sync_all reply = reply ≡ synced m
+IsTold m sync_all reply = reply ≡ reply_of_sync m
 IsTold m (flush_start family) reply = reply ≡ flush_started m family
 IsTold m (flush_end family start) reply = IsEnd m (flush_end family start) reply
 IsTold m (compact_start family false) reply = reply ≡ compaction_started m family

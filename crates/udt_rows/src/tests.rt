@@ -4,6 +4,7 @@ mod bad_folders;
 mod commits;
 mod every_call;
 mod inits;
+mod many;
 mod real;
 mod sessions;
 mod stage;

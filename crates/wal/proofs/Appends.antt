@@ -16,7 +16,7 @@ use Rattle.wal.specs.Records.{op_bytes, value_bytes, batch_bytes, families_bytes
 use Rattle.wal.specs.Heads.{op_head_bytes, batch_head_bytes}
 use Rattle.ts_key.specs.Writing.{Extends}
 use Rattle.wal.specs.Writing.{IsShortOp}
-use Rattle.wal.specs.Sequences.{next_sequence, sequence_after, IsNext, IsInSequence}
+use Rattle.wal.specs.Sequences.{next_sequence, sequence_after, IsNextSequence, IsInSequence}
 use Rattle.wal.specs.Bodies.{front_bytes, IsBodyOf, is_first_behind, HoldsBatches}
 use Rattle.wal.specs.Replays.{ReadsAs, IsBeforeOrAfter}
 use Rattle.wal.specs.Wals.{waiting_bytes}
@@ -70,7 +70,7 @@ logged_batch families first ops batch short named one last = record {
 }
 
 -- it goes on where the others end
-pub sequence_more : (bs ws : List Numbered) (n : Numbered) → IsInSequence (bs ++ ws) → IsNext (next_sequence (bs ++ ws)) n.first.0 → IsInSequence (bs ++ (ws ++ n ∷ []))
+pub sequence_more : (bs ws : List Numbered) (n : Numbered) → IsInSequence (bs ++ ws) → IsNextSequence (next_sequence (bs ++ ws)) n.first.0 → IsInSequence (bs ++ (ws ++ n ∷ []))
 sequence_more bs ws n so_far next =
     subst IsInSequence (append_assoc bs ws (n ∷ [])) (in_sequence_join [] (bs ++ ws) (n ∷ []) so_far (next, tt))
 

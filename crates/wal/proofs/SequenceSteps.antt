@@ -1,7 +1,7 @@
 -- Tests of sequences, batch by batch.
 use Rattle.std.proofs.Common.{◌≡◌, ℕ, zero, suc, ◌+◌, ◌-◌, ◌<◌, List, [], ◌∷◌, length, drop, get_or, Option, Some, sym, ap, ◌∙◌, arith, subst, drop-cons}
 use Rattle.std.specs.Prelude.{slice_get}
-use Rattle.wal.specs.Sequences.{sequence_after, next_sequence, IsNext, GoesOn}
+use Rattle.wal.specs.Sequences.{sequence_after, next_sequence, IsNextSequence, GoesOn}
 use Rattle.wal.specs.declared.numbered.Numbered.{Numbered}
 
 -- whether the batches go on is decided by those that are left
@@ -14,7 +14,7 @@ left_at all i b within item =
     let next : suc i ≡ i + 1 = omega arith in
     drop-cons all i b within ∙ ap (λ (x : Numbered). x ∷ drop (suc i) all) (sym item) ∙ ap (λ (n : ℕ). b ∷ drop n all) next
 
-pub as_for_more : (next wanted : Option ℕ) (all : List Numbered) (i : ℕ) (b : Numbered) (n : ℕ) → i < length all → b ≡ get_or all i b → IsNext wanted b.first.0 → n ≡ sequence_after b → IsAsFor next wanted all (drop i all) → IsAsFor next (Some n) all (drop (i + 1) all)
+pub as_for_more : (next wanted : Option ℕ) (all : List Numbered) (i : ℕ) (b : Numbered) (n : ℕ) → i < length all → b ≡ get_or all i b → IsNextSequence wanted b.first.0 → n ≡ sequence_after b → IsAsFor next wanted all (drop i all) → IsAsFor next (Some n) all (drop (i + 1) all)
 as_for_more next wanted all i b n within item here behind so_far =
     let left = left_at all i b within item in
     record {
@@ -22,7 +22,7 @@ as_for_more next wanted all i b n within item here behind so_far =
       to_left = λ goes. subst (λ (m : ℕ). GoesOn (Some m) (drop (i + 1) all)) (sym behind) (subst (GoesOn wanted) left (so_far.to_left goes)).1;
     }
 
-pub as_for_stop : (next wanted : Option ℕ) (all : List Numbered) (i : ℕ) (b : Numbered) → i < length all → b ≡ get_or all i b → (IsNext wanted b.first.0 → ⊥) → IsAsFor next wanted all (drop i all) → GoesOn next all → ⊥
+pub as_for_stop : (next wanted : Option ℕ) (all : List Numbered) (i : ℕ) (b : Numbered) → i < length all → b ≡ get_or all i b → (IsNextSequence wanted b.first.0 → ⊥) → IsAsFor next wanted all (drop i all) → GoesOn next all → ⊥
 as_for_stop next wanted all i b within item other so_far goes = other (subst (GoesOn wanted) (left_at all i b within item) (so_far.to_left goes)).0
 
 pub next_at_last : (batches : List Numbered) (n : ℕ) (b : Numbered) → suc n ≡ length batches → slice_get batches n ≡ Some b → next_sequence batches ≡ Some (sequence_after b)

@@ -13,7 +13,7 @@ use Rattle.gate_log.specs.declared.log.GateLog.{GateLog}
 use Rattle.std.proofs.Math.Bridge.{le_prop}
 use Rattle.gate_log.proofs.Reading.{only_log}
 use Rattle.wal.specs.Records.{batch_bytes, IsLoggedBatch}
-use Rattle.wal.specs.Sequences.{sequence_after, next_sequence, IsNext, IsInSequence}
+use Rattle.wal.specs.Sequences.{sequence_after, next_sequence, IsNextSequence, IsInSequence}
 use Rattle.wal.specs.Bodies.{front_bytes, HoldsBatches}
 use Rattle.wal.specs.Reserving.{IsReserved}
 use Rattle.wal.specs.Replays.{ReadsAs, IsBeforeOrAfter}
@@ -43,7 +43,7 @@ module _ {F : Type 0} (g : Ghosts F) where
   appended old new n listed same_sizes reserved sizes fresh few more allowed next bs ws shown =
       let goes = next shown.logged.told in
       let same = wal_same old goes.0 goes.1 bs ws few goes.2 shown in
-      let first : IsNext (next_sequence (bs ++ ws)) n.first.0 = subst (λ (xs : List Numbered). IsNext (next_sequence (xs ++ ws)) n.first.0) same.0 (subst (λ (xs : List Numbered). IsNext (next_sequence (goes.0 ++ xs)) n.first.0) same.1 goes.3) in
+      let first : IsNextSequence (next_sequence (bs ++ ws)) n.first.0 = subst (λ (xs : List Numbered). IsNextSequence (next_sequence (xs ++ ws)) n.first.0) same.0 (subst (λ (xs : List Numbered). IsNextSequence (next_sequence (goes.0 ++ xs)) n.first.0) same.1 goes.3) in
       record {
         bodies = shown.bodies;
         logged = reserved.logged shown.bodies shown.logged;
@@ -143,7 +143,7 @@ module _ {F : Type 0} (g : Ghosts F) where
       let goes = next told_old in
       let shown = appended old new n listed same_sizes reserved sizes fresh few more allowed next goes.0 goes.1 goes.2 in
       let after : next_sequence (goes.0 ++ (goes.1 ++ n ∷ [])) ≡ Some (sequence_after n) = ap next_sequence (sym (append_assoc goes.0 goes.1 (n ∷ []))) ∙ next_push (goes.0 ++ goes.1) n in
-      (goes.0, goes.1 ++ n ∷ [], shown, subst (λ (o : Option ℕ). IsNext o (sequence_after n)) (sym after) refl)
+      (goes.0, goes.1 ++ n ∷ [], shown, subst (λ (o : Option ℕ). IsNextSequence o (sequence_after n)) (sym after) refl)
 
   pub goes_on_kept : (old new : Wal F g) (first : ℕ) → IsReserved g old.log new.log → new.sizes ≡ old.sizes → new.is_fresh ≡ old.is_fresh → new.waiting.items ≡ old.waiting.items → MayGoOn g old first → MayGoOn g new first
   goes_on_kept old new first reserved sizes fresh waiting next told =
@@ -155,7 +155,7 @@ module _ {F : Type 0} (g : Ghosts F) where
       → ((bodies : List (List ℕ)) → gate.IsLogOf g old.log bodies → gate.IsAtRest g new.log (bodies ++ frame ∷ [])) → MayGoOn g old first → MayGoOn g new first
   goes_on_synced old new frame first same_told same sizes fresh none some logged next told =
       let goes = next (subst IsTrue same_told told) in
-      (goes.0 ++ goes.1, [], synced old new frame goes.0 goes.1 goes.2 same sizes fresh none some logged, subst (λ (xs : List Numbered). IsNext (next_sequence xs) first) (sym (append-nil (goes.0 ++ goes.1))) goes.3)
+      (goes.0 ++ goes.1, [], synced old new frame goes.0 goes.1 goes.2 same sizes fresh none some logged, subst (λ (xs : List Numbered). IsNextSequence (next_sequence xs) first) (sym (append-nil (goes.0 ++ goes.1))) goes.3)
 
   pub shows_nothing : (wal : Wal F g) → gate.IsAtRest g wal.log [] → wal.is_fresh ≡ true → wal.waiting.items ≡ [] → IsWalOf g wal [] []
   shows_nothing wal rest fresh none = (holds_nothing wal rest fresh none).shown
@@ -168,7 +168,7 @@ module _ {F : Type 0} (g : Ghosts F) where
   pub goes_on_at : (wal : Wal F g) (m n : ℕ) → m ≡ n → MayGoOn g wal m → MayGoOn g wal n
   goes_on_at wal m n same next told =
       let goes = next told in
-      (goes.0, goes.1, goes.2, subst (IsNext (next_sequence (goes.0 ++ goes.1))) same goes.3)
+      (goes.0, goes.1, goes.2, subst (IsNextSequence (next_sequence (goes.0 ++ goes.1))) same goes.3)
 
   -- with the same log inside, the same log
   pub same_wal : (old : Wal F g) (log : GateLog F g) → log ≡ old.log → (fits : length old.waiting.items ≤ 8388608) (reserved : length old.waiting.items ≤ gate.log_room log) → (let new : Wal F g = record { log = log; sizes = old.sizes; waiting = old.waiting; is_fresh = old.is_fresh; fits = fits; reserved = reserved } in new) ≡ old

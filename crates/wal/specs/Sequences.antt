@@ -14,13 +14,13 @@ next_sequence (numbered ∷ []) = Some (sequence_after numbered)
 next_sequence (numbered ∷ other ∷ batches) = next_sequence (other ∷ batches)
 
 -- a batch may follow here: anything where there is no batch before it
-abbrev pub IsNext : Option ℕ → ℕ → Type 0
-IsNext next first = IfSome next (λ n. first ≡ n)
+abbrev pub IsNextSequence : Option ℕ → ℕ → Type 0
+IsNextSequence next first = IfSome next (λ n. first ≡ n)
 
 -- the batches go on without a gap from here
 abbrev pub GoesOn : Option ℕ → List Numbered → Type 0
 GoesOn next [] = ⊤
-GoesOn next (numbered ∷ batches) = IsNext next numbered.first.0 × GoesOn (Some (sequence_after numbered)) batches
+GoesOn next (numbered ∷ batches) = IsNextSequence next numbered.first.0 × GoesOn (Some (sequence_after numbered)) batches
 
 -- from the second batch on, each first sequence is one above the last of the batch before
 abbrev pub IsInSequence : List Numbered → Type 0

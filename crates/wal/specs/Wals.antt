@@ -1,11 +1,11 @@
 -- What a write-ahead log holds, and what waits in it.
-use Rattle.std.specs.Prelude.{◌≡◌, ℕ, Bool, List, [], ◌∷◌, ◌++◌, length, All, IsTrue}
+use Rattle.std.specs.Prelude.{◌≡◌, ◌==◌, ◌&&◌, ℕ, Bool, List, [], ◌∷◌, ◌++◌, length, All, IsTrue}
 use Rattle.udt_disk.specs.Crash.{Only}
 use Rattle.udt_disk.specs.declared.file.DiskFile.{Ghosts}
 use Rattle.gate_log.specs.GateLog as gate
-use Rattle.wal.specs.Records.{IsLoggedBatch}
-use Rattle.wal.specs.Sequences.{next_sequence, IsNext, IsInSequence}
-use Rattle.wal.specs.Bodies.{body_bytes, is_first_behind, HoldsBatches}
+use Rattle.wal.specs.Records.{batch_bytes, IsLoggedBatch}
+use Rattle.wal.specs.Sequences.{next_sequence, IsNextSequence, IsInSequence}
+use Rattle.wal.specs.Bodies.{front_bytes, body_bytes, is_first_behind, HoldsBatches}
 use Rattle.wal.specs.declared.numbered.Numbered.{Numbered}
 use Rattle.wal.specs.declared.wal.Wal.{Wal}
 
@@ -25,6 +25,10 @@ module _ {F : Type 0} {g : Ghosts F} where
   -- the body of the frame that the next sync writes
   abbrev pub wal_waiting : Wal F g → List ℕ
   wal_waiting wal = wal.waiting.items
+
+  -- the same, where this batch waits too
+  abbrev pub waiting_with : Wal F g → Numbered → List ℕ
+  waiting_with wal n = wal_waiting wal ++ (front_bytes (wal_sizes wal) (wal.is_fresh && (wal_pending wal == 0)) ++ batch_bytes n)
 
   -- the offset behind the log's last frame
   abbrev pub wal_end : Wal F g → ℕ
@@ -56,4 +60,4 @@ IsWalReady g wal = IsTrue (g.is_told (wal_file wal)) → (batches : List Numbere
 
 -- the same, and a batch that begins with this sequence may go on there
 abbrev pub MayGoOn : {F : Type 0} (g : Ghosts F) → Wal F g → ℕ → Type 0
-MayGoOn g wal first = IsTrue (g.is_told (wal_file wal)) → (batches : List Numbered) × (waiting : List Numbered) × IsWalOf g wal batches waiting × IsNext (next_sequence (batches ++ waiting)) first
+MayGoOn g wal first = IsTrue (g.is_told (wal_file wal)) → (batches : List Numbered) × (waiting : List Numbered) × IsWalOf g wal batches waiting × IsNextSequence (next_sequence (batches ++ waiting)) first

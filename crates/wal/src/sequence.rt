@@ -2,7 +2,7 @@
 
 ghost use Rattle.std.specs.Prelude.{◌≡◌, ◌+◌, ◌^◌, ◌<◌, ◌≤◌, length, All, IsTrue};
 ghost use Rattle.std.specs.Bool.{OnTrue, OnFalse};
-ghost use Rattle.wal.specs.Sequences.{sequence_after as sequence_behind, next_sequence as next_of, IsNext, GoesOn, IsNumberedWithin};
+ghost use Rattle.wal.specs.Sequences.{sequence_after as sequence_behind, next_sequence as next_of, IsNextSequence, GoesOn, IsNumberedWithin};
 
 use crate::numbered::Numbered;
 
@@ -24,8 +24,8 @@ pub(crate) fn next_sequence(batches: &[Numbered]) -> Option<u64>
 }
 
 fn is_next(next: Option<u64>, first: u64) -> bool
-    ensures yes { OnTrue result (IsNext next first) }
-    ensures no { OnFalse result (¬ IsNext next first) }
+    ensures yes { OnTrue result (IsNextSequence next first) }
+    ensures no { OnFalse result (¬ IsNextSequence next first) }
 {
     match next {
         Some(n) => first == n,

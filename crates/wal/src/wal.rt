@@ -126,7 +126,7 @@ fn replay_fault(alloc: Global, fault: FramesFault, number: u64, sizes: &Sizes) -
 }
 
 impl<F: DiskFile> Wal<F> {
-    ghost use Rattle.wal.specs.Wals.{wal_file, wal_sizes, wal_pending, wal_waiting, wal_end, IsWalOf, Holds, IsWalReady, MayGoOn};
+    ghost use Rattle.wal.specs.Wals.{wal_file, wal_sizes, wal_pending, wal_waiting, waiting_with, wal_end, IsWalOf, Holds, IsWalReady, MayGoOn};
 
     /// Makes the file of log `number`, and in it a log without frames, on the disk. A crash at any moment leaves under its
     /// name what it might have left there before; or none, or a file of one byte at most; or, where a file was there, any
@@ -224,6 +224,7 @@ impl<F: DiskFile> Wal<F> {
         ensures holds { (batches waiting : List NumberedBatch) → Holds F.DiskFile self.old batches waiting → OnOk result (Holds F.DiskFile self.new batches (waiting ++ record { first = first; batch = batch.now } ∷ [])) }
         ensures goes_on { OnOk result (MayGoOn F.DiskFile self.new (first.0 + length batch.now)) }
         ensures more { OnOk result (wal_pending self.old < wal_pending self.new) }
+        ensures bytes { OnOk result (wal_waiting self.new ≡ waiting_with self.old (record { first = first; batch = batch.now })) }
 
         ensures err_waits { (batches waiting : List NumberedBatch) → IsWalOf F.DiskFile self.old batches waiting → OnErr result (IsWalOf F.DiskFile self.new batches waiting) }
         ensures err_holds { (batches waiting : List NumberedBatch) → Holds F.DiskFile self.old batches waiting → OnErr result (Holds F.DiskFile self.new batches waiting) }

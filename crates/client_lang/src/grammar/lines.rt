@@ -2,7 +2,7 @@
 ghost use Rattle.std.specs.Prelude.{◌≡◌, ◌⊎◌, ◌≤◌, List, length, map, take, All, IfOk, IfErr};
 ghost use Rattle.client_lang.specs.declared.command.Command.{Command};
 ghost use Rattle.client_lang.specs.Faults.{IsReadFault, Refuses};
-ghost use Rattle.client_lang.specs.Grammar.{Reads, IsEvent, IsFile, words_of, wants_command as kept};
+ghost use Rattle.client_lang.specs.Grammar.{Reads, IsEvent, IsFile, words_of, wants_command as wanted};
 ghost use Rattle.client_lang.specs.Print.{IsBuiltCommand};
 ghost use Rattle.client_lang.specs.Stamps.{IsStampedCommand};
 ghost use Rattle.client_lang.specs.declared.grammar.lines.ReadFault.{ReadFault};
@@ -95,9 +95,9 @@ fn read_lines(alloc: Global, bytes: &[u8]) -> Result<Vec<Command>, ReadFault>
     Ok(commands)
 }
 
-/// Is the line not skipped?
+/// Does the line want a command? Empty lines and comments want none.
 fn wants_command(line: &[u8]) -> bool
-    ensures { result ≡ kept line.now }
+    ensures { result ≡ wanted line.now }
 {
     match line {
         [] => false,

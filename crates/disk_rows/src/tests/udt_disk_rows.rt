@@ -362,6 +362,42 @@ fn a_real_folder_keeps_its_files(rt: HostRuntime) -> io::Result<()> {
     fs::remove_dir_all(&rt, path.as_str())
 }
 
+/// What was read of the found log 1 from its second byte on.
+fn read_found<D: Disk>(disk: &mut D) -> Result<[u8; 3], Failed> {
+    let Some(mut file) = disk.open_file(FileName::Log(1))? else {
+        return Err(Failed);
+    };
+    let mut into = [0u8; 3];
+    let read = file.read_at(1, &mut into);
+    disk.retire(file);
+    read?;
+    Ok(into)
+}
+
+#[test]
+fn a_real_file_that_is_found_is_read_and_stays(rt: HostRuntime) -> io::Result<()> {
+    let alloc = rt.alloc();
+    let path = temporary(&rt, "found")?;
+    fs::create_dir(&rt, path.as_str())?;
+    let log = format!(in alloc; "{path}/1.log")?;
+    fs::write(&rt, log.as_str(), "bytes of a log")?;
+    let Ok(text) = text_of(alloc, &path, "") else {
+        return Ok(());
+    };
+    let mut host = RealHost::new(&rt);
+    let Ok(Some(mut folder)) = host.open_folder(&text, false) else {
+        assert!(rt; false, "a folder");
+        return Ok(());
+    };
+    assert_eq!(rt; read_found(&mut folder), Ok(*b"yte"));
+    host.close_folder(&text, folder);
+    assert_eq!(rt;
+        fs::read_to_string(&rt, log.as_str())?.as_str(),
+        "bytes of a log"
+    );
+    fs::remove_dir_all(&rt, path.as_str())
+}
+
 #[test]
 fn a_real_folder_is_made_at_a_path_of_one_word(rt: HostRuntime) -> io::Result<()> {
     let alloc = rt.alloc();

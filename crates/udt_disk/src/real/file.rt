@@ -44,9 +44,9 @@ impl HostFile {
 
     /// Brings what was just read to the device. Where a sync of an earlier process failed, the system may hand out bytes
     /// that never reached it and call them clean, so that a sync alone would pass them over. Written again, at the same
-    /// place, they are dirty: the sync reaches the device with them, or fails. A crash between the two leaves at each place
-    /// what was there or these bytes.
-    fn settle(&mut self, at: u64, bytes: &[u8]) -> Result<(), Failed>
+    /// place, they are dirty: the sync reaches the device with them, or fails. It is trusted that
+    /// a crash between the two leaves at each place what was there or these bytes: the model of crashes promises less.
+    fn rewrite_and_sync(&mut self, at: u64, bytes: &[u8]) -> Result<(), Failed>
         ensures cause { HasCause self.old.faults.count self.new.faults.count result }
         ensures name { self.new.name ≡ self.old.name }
     {
@@ -85,11 +85,11 @@ impl DiskFile for HostFile {
         Ok(metadata.len())
     }
 
-    /// What is read of a file that was found is settled before it is handed out.
+    /// What is read of a file that was found is written again and synced before it is handed out.
     fn read_at(&mut self, at: u64, into: &mut [u8]) -> Result<usize, Failed> {
         let count = self.read_once(at, into)?;
         if self.is_found && count > 0 {
-            self.settle(at, &into[..count])?;
+            self.rewrite_and_sync(at, &into[..count])?;
         }
         Ok(count)
     }

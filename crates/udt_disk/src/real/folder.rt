@@ -1,5 +1,6 @@
 //! Folders of the operating system. One that is open is locked, and what is opened in it is synced before it is read, and
-//! settled as it is read, since an earlier process may have been stopped between a write and its sync, or its sync failed.
+//! written again as it is read, since an earlier process may have been stopped between a write and its sync, or its sync
+//! failed.
 ghost use Rattle.std.specs.Prelude.{◌≡◌, None, IfOk, IfSome, true, false};
 ghost use Rattle.udt_disk.specs.Folder.{opened};
 ghost use Rattle.udt_disk.specs.Real.{not_told};

@@ -1,4 +1,5 @@
 use Rattle.client_lang.proofs.Pushing.{cut, cut_keeps}
+use Rattle.client_lang.proofs.Transcripts.{transcript_back}
 use Rattle.client_lang.proofs.print.print_header.Goals as goal
 
 pub returns-clause-text : goal.returns-clause-text
@@ -6,3 +7,6 @@ returns-clause-text c = cut c.len-before.ensures c.push_header-pushed.ensures c.
 
 pub returns-clause-kept : goal.returns-clause-kept
 returns-clause-kept c = cut_keeps c.cut_on_err.new.out c.len-before.ensures c.push_header-pushed.ensures c.cut_on_err.ensures.same c.cut_on_err.ensures.err
+
+pub returns-clause-one : goal.returns-clause-one
+returns-clause-one c = transcript_back

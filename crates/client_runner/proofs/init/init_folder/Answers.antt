@@ -1,6 +1,7 @@
 use Rattle.std.proofs.Common.{◌∙◌, ap}
 use Rattle.std.specs.Prelude.{Err}
 use Rattle.udt_disk.specs.declared.traits.Failed.{Failed}
+use Rattle.recovery.proofs.MakeLemmas.{unmade_opened}
 use Rattle.client_runner.proofs.HostLemmas.{IsMakingFailed, given_back, init_left, made_at}
 use Rattle.client_runner.proofs.init.init_folder.Goals as goal
 
@@ -14,7 +15,8 @@ returns-in-Ok-made-clause-made g c =
     let leaves = h.leaves_at c.close_folder.new.self path in
     let given = given_back d Failed (h.folder_at c.args.host.now) (h.folder_at c.open_folder.new.self) new leaves path _ (h.has_place c.open_folder.new.self path) c.in-Ok.opened c.in-Some.disk last c.in-Some.is
     c.in-Ok.ensures.opens c.in-Ok.ensures.clean c.in-Ok.ensures.place c.make_store-made.ensures.told c.close_folder.ensures.stands c.close_folder.ensures.crash in
-    made_at d new leaves c.in-Some.disk last c.args.head.now.families (h.folder_at c.args.host.now path) given c.in-Ok-made.ensures.made c.in-Ok-made.ensures.none c.in-Ok-made.ensures.durable
+    made_at d new leaves c.in-Some.disk last c.args.head.now.families (h.folder_at c.args.host.now path) given c.in-Ok-made.ensures.made c.in-Ok-made.ensures.none
+    (λ told clean. c.in-Ok-made.ensures.durable (unmade_opened d g.H.Folder.File.DiskFile c.in-Some.disk told clean (c.in-Ok-made.ensures.none told)))
 
 pub returns-in-Err-clause-unmade : goal.returns-in-Err-clause-unmade
 returns-in-Err-clause-unmade g c =
@@ -32,9 +34,9 @@ returns-in-Err-clause-unmade g c =
       refused = c.in-Err.ensures.refused;
       looked = c.in-Err.ensures.only_looked;
       stopped = c.in-Err.ensures.stopped;
-      stopped_crash = e.stopped_crash;
+      stopped_crash = λ told clean none. e.stopped_crash (unmade_opened d g.H.Folder.File.DiskFile c.in-Some.disk told clean none);
       no_memory = λ is. e.no_memory (c.in-Err.is ∙ ap Err is);
-      no_memory_crash = λ is. e.no_memory_crash (c.in-Err.is ∙ ap Err is);
+      no_memory_crash = λ is told clean none. e.no_memory_crash (c.in-Err.is ∙ ap Err is) (unmade_opened d g.H.Folder.File.DiskFile c.in-Some.disk told clean none);
       kept = e.kept;
     } in
     rw c.stop_of_making.ensures (init_left d new leaves c.in-Some.disk last families g.H.Folder.File.DiskFile (h.folder_at c.args.host.now path) (h.faults c.args.host.now) (h.faults c.close_folder.new.self) c.in-Err.fault given failed)

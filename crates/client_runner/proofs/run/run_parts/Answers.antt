@@ -3,7 +3,7 @@ use Rattle.std.specs.Prelude.{None}
 use Rattle.udt_model.specs.State.{State}
 use Rattle.wal.specs.Wals.{wal_file}
 use Rattle.client_lang.specs.Print.{print_header}
-use Rattle.client_runner.specs.LoggedStores.{state_of, wal_of}
+use Rattle.solo_runner.specs.LoggedStores.{state_of, wal_of}
 use Rattle.client_runner.specs.Runs.{HasRunParts, state_of_parts}
 use Rattle.client_runner.proofs.RunLemmas.{IsClosed, parts_over, parts_unmade}
 use Rattle.client_runner.proofs.run.run_parts.Goals.{in-Ok, in-Err}

@@ -1,7 +1,7 @@
 use Rattle.std.proofs.Common.{◌≡◌, refl, ◌∙◌, ap}
 use Rattle.client_lang.specs.Print.{print_header}
-use Rattle.client_runner.specs.Solo.{HasRun}
-use Rattle.client_runner.specs.Transcripts.{fresh}
+use Rattle.solo_runner.specs.Solo.{HasRun}
+use Rattle.solo_runner.specs.Transcripts.{fresh}
 use Rattle.client_runner.proofs.Transcribing.{transcribed}
 use Rattle.client_runner.proofs.top.transcribe.Goals as goal
 use Rattle.udt_model.specs.State.{heads_of}

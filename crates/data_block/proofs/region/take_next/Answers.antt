@@ -1,6 +1,6 @@
 use Rattle.std.proofs.Common.{◌≡◌, ◌+◌, ◌++◌, [], ◌∷◌, ℕ, List, length, drop, sym, ap, subst, ◌∙◌, arith}
 use Rattle.ts_key.specs.Order.{sort_key_of}
-use Rattle.data_block.specs.Reading.{IsJoined, IsNext, EndsBefore, item_from}
+use Rattle.data_block.specs.Reading.{IsJoined, IsNextEntry, EndsBefore, item_from}
 use Rattle.data_block.specs.Regions.{items_in}
 use Rattle.data_block.proofs.Nexts.{gives}
 use Rattle.data_block.proofs.Steps.{joined_moved, no_parts, not_joined, the_next, parts_at, read_more}
@@ -40,7 +40,7 @@ returns c =
     let joined : IsJoined (length old.entries.items) c.args.last.now.items f = joined_moved _ _ _ _ f count c.deref.ensures.value (c.is_joined.ensures.0 c.if-not-is_joined.false) in
     let here = c.in-Some-key_at.ensures (length old.entries.items) c.args.last.now.items joined (c.deref-2.ensures.value ∙ c.in_ok-join.ensures) in
     let w = item_from f (c.in-Some-key_at.k, c.in-Some-key_at.kind) in
-    let next : IsNext c.args.form (length old.entries.items) c.args.last.now.items (drop c.args.at region) w f.rest.now = subst (λ (x : List ℕ). IsNext c.args.form (length old.entries.items) c.args.last.now.items x w f.rest.now) (sym e) here in
+    let next : IsNextEntry c.args.form (length old.entries.items) c.args.last.now.items (drop c.args.at region) w f.rest.now = subst (λ (x : List ℕ). IsNextEntry c.args.form (length old.entries.items) c.args.last.now.items x w f.rest.now) (sym e) here in
     let p = parts_at region c.args.at f c.requires.fits e in
     let items = c.in_ok-add.ensures.items ∙ ap (λ (x : List ℕ). items_in region old ++ (record { sort_key = sort_key_of c.in-Some-key_at.k; kind = c.in-Some-key_at.kind; value = x }) ∷ []) p.value in
     let key = c.in_ok-join.ensures ∙ (gives c.args.form (length old.entries.items) c.args.last.now.items f w f.rest.now c.in-Some.ensures.0 here).key in (

@@ -4,7 +4,7 @@ use Rattle.udt_disk.specs.Crash.{Image}
 use Rattle.udt_disk.proofs.Runs.{no_read, read_then}
 use Rattle.gate_log.specs.Reads.{IsFront}
 use Rattle.gate_log.specs.Placed.{Placed}
-use Rattle.gate_log.specs.Fronts.{IsFrontOf, IsNext}
+use Rattle.gate_log.specs.Fronts.{IsFrontOf, TellsNext}
 use Rattle.gate_log.specs.declared.image.Next.TheVariants.{Bad, Frame}
 use Rattle.gate_log.proofs.Reading.{reads_more, bad_there}
 use Rattle.gate_log.proofs.Fronts.{longer, body_there}
@@ -26,7 +26,7 @@ returns-in-Bad-clause-refused g c told =
     let at = c.loop-frames.at in
     let kept = c.loop-frames.invariant in
     let front : IsFront frames at all = kept.4 told in
-    let next : IsNext Bad at all = subst (λ (l : List ℕ). IsNext Bad at l) kept.0.seen (rw c.in-Bad.is at c.in_ok-next_at.ensures.next (subst IsTrue (sym kept.0.told) told)) in
+    let next : TellsNext Bad at all = subst (λ (l : List ℕ). TellsNext Bad at l) kept.0.seen (rw c.in-Bad.is at c.in_ok-next_at.ensures.next (subst IsTrue (sym kept.0.told) told)) in
     bad_there frames at all front (kept.5 told) next
 
 pub loop-frames-preserved : goal.loop-frames-preserved
@@ -40,11 +40,11 @@ loop-frames-preserved g c =
     let bytes = c.next_at.new.front.bytes.items in
     let still = λ (told : IsTrue (f.is_told c.args.file.now)). subst IsTrue (sym kept.0.told) told in
     let front = λ (told : IsTrue (f.is_told c.args.file.now)). subst (λ (l : List ℕ). IsFrontOf bytes l) kept.0.seen (c.in_ok-next_at.ensures.front (still told)) in
-    let next = λ (told : IsTrue (f.is_told c.args.file.now)). subst (λ (l : List ℕ). IsNext (Frame n) at l) kept.0.seen (rw c.in-Frame.is at c.in_ok-next_at.ensures.next (still told)) in
+    let next = λ (told : IsTrue (f.is_told c.args.file.now)). subst (λ (l : List ℕ). TellsNext (Frame n) at l) kept.0.seen (rw c.in-Frame.is at c.in_ok-next_at.ensures.next (still told)) in
     let body : at + n + 6 ≤ length bytes = rw c.in-Frame.is at c.in_ok-next_at.ensures.body in
     let laid : take n (drop 4 (drop (at + 1) bytes)) ≡ take n (drop 4 (take (length c.deref.result.now - (at + 1)) (drop (at + 1) c.deref.result.now))) =
     ap (λ (l : List ℕ). take n (drop 4 l)) (sym (take_rest c.deref.result.now (at + 1) ∙ ap (λ (l : List ℕ). drop (at + 1) l) c.deref.ensures.value)) in
-    let more = λ (told : IsTrue (f.is_told c.args.file.now)) (here : IsFrontOf bytes all) (next : IsNext (Frame n) at all).
+    let more = λ (told : IsTrue (f.is_told c.args.file.now)) (here : IsFrontOf bytes all) (next : TellsNext (Frame n) at all).
     subst (λ (l : List Placed). IsFront l (at + (n + 5)) all)
     (ap (λ (b : List ℕ). frames ++ record { at = at; bytes = b } ∷ []) (body_there at n bytes all here body ∙ laid) ∙ sym c.in_ok-push_frame-in-Frame.ensures)
     (reads_more frames at n all (kept.4 told) next.0 next.1 next.2) in (

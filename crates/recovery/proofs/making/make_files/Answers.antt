@@ -82,3 +82,11 @@ returns-clause-touches g c told =
     let log = c.make_first_log.ensures.touches in
     let manifest = c.make_manifest.ensures.touches (subst IsTrue (sym log.told) told) in
     touches_then d IsMakingName old mid new (touches_more d (λ n. n ≡ Log 1) IsMakingName old mid (λ n is. inr is) log) (touches_more d IsStoreName IsMakingName mid new (λ n is. inl is) manifest)
+
+pub returns-in_err-make_first_log-clause-unmade : goal.returns-in_err-make_first_log-clause-unmade
+returns-in_err-make_first_log-clause-unmade g c is unmade =
+    still_unmade g.D.Disk g.D.File.DiskFile c.args.head.now.families c.args.disk.now c.make_first_log.new.disk unmade c.make_first_log.ensures.touches
+
+pub returns-clause-unmade : goal.returns-clause-unmade
+returns-clause-unmade g c is unmade =
+    c.make_manifest.ensures.unmade is (still_unmade g.D.Disk g.D.File.DiskFile c.args.head.now.families c.args.disk.now c.make_first_log.new.disk unmade c.make_first_log.ensures.touches)

@@ -6,7 +6,8 @@ use Rattle.std.specs.Result.{is_ok}
 use Rattle.std.proofs.lemmas.List.Edits.{length-insert}
 use Rattle.std.proofs.lemmas.List.Sorted.{IsPartitionPoint-from_clause, IsPartitionedBy-leb, IsNonDecreasingBy-insert}
 use Rattle.ts_key.specs.declared.numbers.Seq.{Seq}
-use Rattle.snapshot_list.specs.Registered.{IsList, AreAscending, paired, has_id, with_snapshot}
+use Rattle.ts_key.specs.Ascending.{AreAscending}
+use Rattle.snapshot_list.specs.Registered.{IsList, paired, has_id, with_snapshot}
 use Rattle.snapshot_list.proofs.Snapshots.{length_paired, has_paired, distinct_insert, inserted_is, le_from, gt_from, known_is}
 use Rattle.snapshot_list.proofs.Snaps.add.Goals as goal
 

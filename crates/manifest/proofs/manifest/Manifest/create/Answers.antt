@@ -1,4 +1,4 @@
-use Rattle.std.proofs.Common.{◌≡◌, List, [], ◌∷◌, sym, ◌∙◌, subst}
+use Rattle.std.proofs.Common.{◌≡◌, List, [], ◌∷◌, Some, refl, sym, ap, ◌∙◌, subst}
 use Rattle.std.specs.Prelude.{IsTrue}
 use Rattle.udt_disk.specs.Crash.{Image}
 use Rattle.udt_disk.specs.Joint.{Ran}
@@ -12,7 +12,7 @@ use Rattle.manifest.specs.Files.{HasFold}
 use Rattle.manifest.specs.Folders.{chosen_by}
 use Rattle.manifest.specs.Folds.{fold_of}
 use Rattle.manifest.specs.Making.{IsNoneOrAll}
-use Rattle.manifest.proofs.Makes.{at_rest_now, first_step, second_step, third_step, gives_back, all_there, head_of, has_fold, early_names}
+use Rattle.manifest.proofs.Makes.{current_isn't_first, none_or_all, unmade_beside, at_rest_now, first_step, second_step, third_step, gives_back, all_there, head_of, has_fold, early_names}
 use Rattle.manifest.proofs.Files.{none_made}
 use Rattle.manifest.proofs.Sizes.{head_fits}
 use Rattle.manifest.proofs.manifest.Manifest.create.Goals as goal
@@ -124,3 +124,28 @@ returns-clause-moments g c unmade =
     let giving : Giving d f three new x = record { touches = touches_one d _ (f.name x) three new (λ n free. free) r.others r.time r.told r.model; stands = r.stands; crash = r.crash } in
     third_step d f disk_now file_now families zero unmade two m touched made.name current file (alone new)
     (gives_back d f disk_now file_now families zero unmade two m touched made.name current file three new c.make_empty.ensures.touches (subst (Giving d f three new) same giving) (made.file_told ∙ sym c.make_log.ensures.touches.told ∙ sym c.make_empty.ensures.touches.told)) second
+
+pub returns-in_err-log-clause-unmade : goal.returns-in_err-log-clause-unmade
+returns-in_err-log-clause-unmade g c is unmade =
+    unmade_beside g.D.Disk Manifest0 c.empty_current.new.disk c.make_log.new.disk (λ is. cc) (λ is. cc) (c.in-Ok-empty_current.ensures.unmade unmade) c.make_log.ensures.touches
+
+pub returns-clause-stopped : goal.returns-clause-stopped
+returns-clause-stopped g c told none =
+    let d = g.D.Disk in
+    let f = g.F.DiskFile in
+    let families = c.args.head.now.families in
+    let m = c.in_ok-log.log.file in
+    let made = c.in_ok-log.ensures in
+    let x = c.into_file.result in
+    let new = c.retire.new.self in
+    let same : x ≡ m = c.into_file.ensures in
+    let told_one = subst IsTrue (sym c.empty_current.ensures.touches.told) told in
+    let told_three = subst IsTrue (sym (c.make_empty.ensures.touches.told ∙ c.make_log.ensures.touches.told)) told_one in
+    let head = head_of families c.as_slice.result.now c.deref.result.now c.in-Ok.body.items c.requires c.as_slice.ensures c.in-Ok.ensures.text c.in-Ok.ensures.named c.deref.ensures.value in
+    let fold = has_fold (f.seen m) c.deref.result.now families (made.at_rest told_one).logged.file head in
+    let name : f.name x ≡ Manifest0 = ap f.name same ∙ made.name in
+    let file_told = subst IsTrue (sym (ap f.is_told same ∙ made.file_told)) told_one in
+    let first : d.stands new Manifest0 ≡ Some (f.seen m) = subst (λ (n : FileName). d.stands new n ≡ Some (f.seen x)) name (c.retire.ensures.stands told_three file_told) ∙ ap (λ (y : g.row.F.Denot). Some (f.seen y)) same in
+    let current : d.stands new Current ≡ d.stands c.empty_current.new.disk Current =
+    c.retire.ensures.others.same Current (λ is. current_isn't_first (is ∙ name)) ∙ c.make_empty.ensures.touches.same Current (λ is. cc) ∙ c.make_log.ensures.touches.same Current (λ is. cc) in
+    none_or_all (d.stands new) families (d.stands new Made) refl (ap chosen_by current ∙ c.in-Ok-empty_current.ensures.chooses told) (subst (λ (k : Image). HasFold k (fold_of families)) (sym first) fold)

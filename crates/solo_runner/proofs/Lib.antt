@@ -1,0 +1,10 @@
+pub mod Adding
+pub mod VersionListLemmas
+pub mod LoggingLemmas
+pub mod VersionLemmas
+pub mod KeepingLemmas
+pub mod StepLemmas
+pub mod SoloLemmas
+pub mod SessionLemmas
+pub mod Naming
+pub mod ExpandRows

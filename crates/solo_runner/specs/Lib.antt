@@ -1,0 +1,10 @@
+pub mod Keeping
+pub mod Logging
+pub mod LoggedStores
+pub mod Expand
+pub mod Named
+pub mod Adding
+pub mod VersionLists
+pub mod Transcripts
+pub mod Solo
+pub mod Sessions
