@@ -1,7 +1,9 @@
 -- Which edits a fold accepts, and what they make of it.
-use Rattle.std.specs.Prelude.{◌≡◌, ℕ, ◌-◌, ◌^◌, ◌<◌, ◌≤◌, Bool, not, ◌==◌, ◌||◌, List, [], ◌∷◌, ◌++◌, length, map, take, drop, slice_get, slice_set, slice_index, Option, Some, None, IsTrue, All, ⊤}
+use Rattle.std.specs.Prelude.{◌≡◌, ℕ, ◌-◌, ◌<◌, ◌≤◌, Bool, not, ◌==◌, ◌||◌, List, [], ◌∷◌, ◌++◌, length, map, take, drop, slice_get, slice_set, slice_index, Option, Some, None, IsTrue, All, ⊤}
 use Rattle.std.specs.List.{list_any}
 use Rattle.std.specs.List.Sorted.{IsStrictlyIncreasing}
+use Rattle.ts_key.specs.declared.limits.TheConstants.{SEQUENCE_LIMIT}
+use Rattle.manifest_fold.specs.declared.limits.TheConstants.{FILE_LIMIT, LOWEST_LEVEL}
 use Rattle.manifest_edit.specs.declared.edit.TableAt.{TableAt}
 use Rattle.manifest_edit.specs.declared.edit.FamilyEdit.{FamilyEdit}
 use Rattle.manifest_edit.specs.declared.edit.Edit.{Edit}
@@ -66,7 +68,7 @@ pub record IsLogsEdit (logs : List ℕ) (edit : Edit) : Type 0 where
 pub record IsTablesEdit (fs : List FamilyFold) (next : ℕ) (old : FamilyFold) (e : FamilyEdit) : Type 0 where
   pub added : IsStrictlyIncreasing (map (λ (t : TableAt). t.number) e.add)
   pub removed : IsStrictlyIncreasing e.remove
-  pub levels : All (λ (t : TableAt). t.level ≤ 6) e.add
+  pub levels : All (λ (t : TableAt). t.level ≤ LOWEST_LEVEL) e.add
   pub below : All (λ (t : TableAt). t.number < next) e.add
   pub live : All (λ n. IsTrue (has_table_number old.tables n)) e.remove
   pub free : All (λ (t : TableAt). IsFree fs e.remove t.number) e.add
@@ -88,8 +90,8 @@ IsPart fs edit (Some e) = IsOnePart fs edit e
 -- the fold accepts the edit
 pub record IsAccepted (fold : Folded) (edit : Edit) : Type 0 where
   pub next : fold.next_file ≤ edit.next_file
-  pub most : edit.next_file ≤ 2 ^ 63
+  pub most : edit.next_file ≤ FILE_LIMIT
   pub last : fold.last.0 ≤ edit.last.0
-  pub within : edit.last.0 < 2 ^ 56
+  pub within : edit.last.0 ≤ SEQUENCE_LIMIT
   pub logs : IsLogsEdit fold.logs edit
   pub part : IsPart fold.families edit edit.family

@@ -7,15 +7,9 @@ ghost use Rattle.manifest_fold.specs.Folds.{IsAccepted, IsLogsEdit, IsPart, IsOn
 ghost use Rattle.manifest_edit.specs.LiveTables.{has_table_number};
 ghost use Rattle.manifest_edit.specs.declared.edit.TableAt.{TableAt as Table};
 
-use crate::{FamilyFold, Folded};
+use crate::{FILE_LIMIT, FamilyFold, Folded, LOWEST_LEVEL};
 use manifest_edit::{Edit, FamilyEdit, LiveTables, TableAt};
 use ts_key::SEQUENCE_LIMIT;
-
-/// The greatest number that the next file may have.
-pub const FILE_LIMIT: u64 = 1 << 63;
-
-/// The lowest level of tables; the highest is 0.
-pub const LOWEST_LEVEL: u32 = 6;
 
 impl Folded {
     /// Does the fold accept the edit? It costs time linear in the edit times the logarithm of the live tables.
@@ -142,7 +136,7 @@ fn ascend_by_number(tables: &[TableAt]) -> bool
 }
 
 fn are_on_levels(tables: &[TableAt]) -> bool
-    ensures { IsTrue result ↔ All (λ (t : Table). t.level ≤ 6) tables.now }
+    ensures { IsTrue result ↔ All (λ (t : Table). t.level ≤ LOWEST_LEVEL) tables.now }
 {
     tables.iter().all(|table| table.level <= LOWEST_LEVEL)
 }

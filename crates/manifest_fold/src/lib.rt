@@ -4,10 +4,11 @@
 pub mod accept;
 pub mod body;
 pub mod fold;
+mod limits;
 
-pub use accept::{FILE_LIMIT, LOWEST_LEVEL};
 pub use body::fold_body;
 pub use fold::{FamilyFold, Folded};
+pub use limits::{FILE_LIMIT, LOWEST_LEVEL};
 
 /// Memory ran out.
 pub type NoMemory = std::alloc::AllocError;

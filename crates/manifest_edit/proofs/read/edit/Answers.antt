@@ -1,8 +1,8 @@
-use Rattle.std.proofs.Common.{arith, ℕ, List, ◌<◌, ◌^◌}
+use Rattle.std.proofs.Common.{arith}
 use Rattle.ts_key.specs.Numbers.{number_bytes}
-use Rattle.manifest_edit.specs.Edits.{IsWord, IsTableWords, AreCounted, IsSizedFamily, IsSizedPart, IsSized, counted_text, table_text, family_edit_text, part_text, edit_text}
-use Rattle.manifest_edit.proofs.Fronts.{hands_on, none_there, counted_on}
-use Rattle.manifest_edit.proofs.Parts.{behind_kind, behind_logs, behind_dropped, behind_next, behind_last, logs_none, dropped_none, next_none, last_none, part_none}
+use Rattle.manifest_edit.specs.Edits.{IsWord, AreCounted, IsSizedPart, IsSized, counted_text, part_text, edit_text}
+use Rattle.manifest_edit.proofs.Fronts.{hands_on, none_there}
+use Rattle.manifest_edit.proofs.Parts.{behind_kind, behind_logs, behind_dropped, behind_next, behind_last, dropped_none, next_none, last_none, part_none}
 use Rattle.manifest_edit.proofs.read.edit.Goals as goal
 
 pub returns-in_err-drop_logs : goal.returns-in_err-drop_logs

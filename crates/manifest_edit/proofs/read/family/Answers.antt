@@ -1,8 +1,7 @@
-use Rattle.std.proofs.Common.{ℕ, List, ◌<◌, ◌^◌}
 use Rattle.ts_key.specs.Numbers.{number_bytes}
-use Rattle.manifest_edit.specs.Edits.{IsWord, IsTableWords, AreCounted, IsSizedFamily, IsSizedPart, IsSized, counted_text, table_text, family_edit_text, part_text, edit_text}
-use Rattle.manifest_edit.proofs.Fronts.{hands_on, none_there, counted_on}
-use Rattle.manifest_edit.proofs.Parts.{behind_family, behind_floor, behind_through, behind_added, family_none, floor_none, through_none, added_none, removed_none}
+use Rattle.manifest_edit.specs.Edits.{IsWord, IsTableWords, AreCounted, IsSizedFamily, counted_text, table_text, family_edit_text}
+use Rattle.manifest_edit.proofs.Fronts.{hands_on, none_there}
+use Rattle.manifest_edit.proofs.Parts.{behind_family, behind_floor, behind_through, behind_added, floor_none, through_none, added_none, removed_none}
 use Rattle.manifest_edit.proofs.read.family.Goals as goal
 
 pub returns-in_err-floor : goal.returns-in_err-floor
