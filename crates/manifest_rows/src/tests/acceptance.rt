@@ -338,7 +338,7 @@ fn added_tables_ascend(rt: HostRuntime) -> Result<(), Fail> {
 fn the_fold_is_changed(rt: HostRuntime) -> Result<(), Fail> {
     let alloc = rt.alloc();
     let fold = fold(alloc)?.with(&edit(alloc, &GOOD)?)?;
-    assert_eq!(rt; fold.logs.as_slice(), &[4, 7]);
+    assert_eq!(rt; fold.logs.as_slice(), [4, 7].as_slice());
     let first = fold
         .families
         .as_slice()
