@@ -1,5 +1,5 @@
 -- What a command meant, from what its parts answered.
-use Rattle.std.proofs.Common.{◌≡◌, ◌⊎◌, ℕ, false, List, [], ◌++◌, Option, refl, sym, ap, subst, ◌∙◌, inl, inr}
+use Rattle.std.proofs.Common.{◌≡◌, ℕ, false, List, [], ◌++◌, Option, refl, sym, ap, subst, ◌∙◌, inl, inr}
 use Rattle.std.specs.Prelude.{All, Some, None}
 use Rattle.std.specs.List.{list_any}
 use Rattle.udt_disk.specs.Causes.{Rose}
@@ -23,15 +23,14 @@ use Rattle.client_runner.specs.declared.output.Ready.{Ready}
 use Rattle.client_runner.specs.declared.status.Status.{Status}
 use Rattle.client_runner.specs.declared.status.Status.TheVariants as statuses
 use Rattle.client_runner.specs.declared.status.Stop.{Stop}
-use Rattle.client_runner.specs.declared.status.Stop.TheVariants.{BadWords, NoFile, TooLong, TooMany, BadLine, SourceFault, StoreExists, NoStore, BadManifest, BadLog, DiskFault, NoMemory}
+use Rattle.client_runner.specs.declared.status.Stop.TheVariants.{NoFile, TooLong, TooMany, BadLine, StoreExists, BadManifest, BadLog, DiskFault, NoMemory}
 use Rattle.client_runner.specs.Ends.{Spells}
 use Rattle.client_runner.specs.Left.{IsUnmadeAt, StaysAsItWas, TellsFolder}
 use Rattle.client_lang.specs.declared.command.Command.{Command}
-use Rattle.manifest.specs.declared.fold.Folded.{Folded}
 use Rattle.manifest.specs.Folders.{Means}
-use Rattle.manifest.specs.Folders.Meaning.{no_store, bad_at, store}
+use Rattle.manifest.specs.Folders.Meaning.{no_store, bad_at}
 use Rattle.udt_disk.specs.Joint.{Folder}
-use Rattle.client_runner.proofs.TopLemmas.{not_bad, not_store}
+use Rattle.client_runner.proofs.TopLemmas.{not_bad}
 use Rattle.client_runner.proofs.FaultLemmas.{none_told}
 use Rattle.client_runner.proofs.OutputLemmas.{Appends-nil}
 
