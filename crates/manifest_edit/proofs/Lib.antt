@@ -1,0 +1,5 @@
+pub mod Fronts
+pub mod Parts
+pub mod Writing
+pub mod Entries
+pub mod Lists

@@ -1,0 +1,3 @@
+pub mod Edits
+pub mod Reading
+pub mod LiveTables
