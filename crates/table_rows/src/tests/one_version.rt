@@ -44,8 +44,8 @@ fn has_properties(table: &Table) -> bool {
     p.family == Family(0)
         && p.form == Form::Persist
         && p.count == 1
-        && p.least.bytes() == b"a"
-        && p.greatest.bytes() == b"a"
+        && p.least.bytes() == b"a".as_slice()
+        && p.greatest.bytes() == b"a".as_slice()
         && p.least_seq == Seq(1)
         && p.greatest_seq == Seq(1)
         && p.greatest_ts == Ts(5)
