@@ -146,10 +146,12 @@ fn are_sought(alloc: Global, table: &Table, versions: &[Version]) -> Result<bool
 
 /// The table holds the versions.
 fn holds(alloc: Global, table: &Table, versions: &[Version]) -> Result<bool, Fail> {
-    Ok(table.properties().count == versions.len() as u64
-        && are_found(table, versions)
-        && are_walked(alloc, table, versions)?
-        && are_sought(alloc, table, versions)?)
+    Ok(
+        table.properties().count == versions.len() as u64
+            && are_found(table, versions)
+            && are_walked(alloc, table, versions)?
+            && are_sought(alloc, table, versions)?,
+    )
 }
 
 /// The table that is answered holds the versions, and so does the one that is read of the file.
@@ -158,9 +160,11 @@ fn is_kept(alloc: Global, versions: &[Version], form: Form) -> Result<bool, Fail
     let written = write(alloc, &mut disk, versions, form, Ts(0))??;
     let contents = disk.contents(TABLE).ok_or("no contents")?;
     let found = read(alloc, contents)??;
-    Ok(written.size() == contents.len() as u64
-        && holds(alloc, &written, versions)?
-        && holds(alloc, &found, versions)?)
+    Ok(
+        written.size() == contents.len() as u64
+            && holds(alloc, &written, versions)?
+            && holds(alloc, &found, versions)?,
+    )
 }
 
 #[test]

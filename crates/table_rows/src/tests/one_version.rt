@@ -78,6 +78,18 @@ fn no_prefix_is_a_table(rt: HostRuntime) -> Result<(), Fail> {
     Ok(())
 }
 
+#[test]
+fn an_altered_last_byte_is_bad(rt: HostRuntime) -> Result<(), Fail> {
+    let alloc = rt.alloc();
+    let mut image = Vec::new(alloc);
+    image.extend_from_slice(IMAGE)?;
+    if let Some(last) = image.last_mut() {
+        *last = b'2';
+    }
+    assert!(rt; is_bad(alloc, &image)?);
+    Ok(())
+}
+
 /// What writing the table answers where the call with this number, of those on the table's file, fails.
 fn failed_at(alloc: Global, call: u64) -> Result<Option<TableWriteFault>, Fail> {
     let mut troubles = Vec::new(alloc);

@@ -2,8 +2,10 @@
 
 ghost use Rattle.std.specs.Bool.{OnTrue};
 ghost use Rattle.std.specs.Prelude.{◌≡◌, ◌<◌, All, length};
-ghost use Rattle.ts_key.specs.Items.{items_of};
+ghost use Rattle.std.specs.declared.cmp.Ordering.TheVariants.{Less};
+ghost use Rattle.ts_key.specs.Items.{item_of, items_of};
 ghost use Rattle.ts_key.specs.Lists.{IsSorted};
+ghost use Rattle.ts_key.specs.Order.{sort_cmp};
 ghost use Rattle.ts_key.specs.StoredKeys.{IsStamp, IsSequence};
 
 use block_table::{Table, TableFault, TableWriteFault, write_table};
@@ -62,12 +64,19 @@ fn are_of(family: Family, versions: &[Version]) -> bool
     versions.iter().all(|v| v.family == family)
 }
 
+fn comes_before(a: &Version, b: &Version) -> bool
+    ensures { OnTrue result (sort_cmp (item_of a.now).sort_key (item_of b.now).sort_key ≡ Less) }
+{
+    compare(&a.key_ref(), &b.key_ref()).is_lt()
+}
+
 /// Each version stands before the next one.
 fn are_sorted(versions: &[Version]) -> bool
     ensures { OnTrue result (IsSorted (items_of versions.now)) }
 {
     for i in 1..versions.len() {
-        if !compare(&versions[i - 1].key_ref(), &versions[i].key_ref()).is_lt() {
+        let last = i - 1;
+        if !comes_before(&versions[last], &versions[i]) {
             return false;
         }
     }
