@@ -1,6 +1,6 @@
 //! A table as it is written, version by version.
 
-ghost use Rattle.std.specs.Prelude.{◌≡◌, ◌<◌, ◌≤◌, ◌+◌, ◌^◌, List, [], ◌∷◌, ◌++◌, length, OnOk, IfOk, Some};
+ghost use Rattle.std.specs.Prelude.{◌≡◌, ◌<◌, ◌≤◌, ◌+◌, ◌^◌, List, [], ◌∷◌, ◌++◌, length, IsOk, OnOk, IfOk, Some};
 ghost use Rattle.ts_key.specs.Items.{Item, item_of};
 ghost use Rattle.ts_key.specs.StoredKeys.{IsStamp, IsSequence, IsItem};
 ghost use Rattle.data_block.specs.Grammar.{block_target};
@@ -84,13 +84,14 @@ pub(crate) fn put_tail(
 impl TableWriter {
     ghost use Rattle.block_table.specs.Pushed.{IsBehind, IsOpen, HasPushed, HaveBlockBytes, IsClosed, IsSpelled, contents_of, and_version};
 
-    /// A writer that no version was pushed to.
+    /// A writer that no version was pushed to. It takes no memory yet.
     pub fn new(
         alloc: Global,
         family: Family,
         form: Form,
         collected_by: Ts,
     ) -> Result<TableWriter, NoMemory>
+        ensures made { IsOk result }
         ensures form { IfOk result (λ w. w.form ≡ form) }
         ensures pushed { IfOk result (λ w. HasPushed w (contents_of family form collected_by [])) }
     {

@@ -41,7 +41,7 @@ returns-in_err-versions c =
     let head = c.in-Some-head_of.head in
     let hs = c.in-Some-2.handles.items in
     let index = subst (ReadsIndex x.index.now) c.in-Some-2.is c.in_ok-handles.ensures in
-    let told = err_from_is_err_and c.from_residual.result c.from_residual.ensures.1 in
+    let told = err_from_is_err_and c.from_residual-in_err-versions.result c.from_residual-in_err-versions.ensures.1 in
     let e = c.in_err-versions.field-0.0 in
     let read = moved_blocks head.form _ image _ (length x.blocks.now) _ hs (Err e) c.in_ok-clone.ensures.cases refl c.deref.ensures.value c.in_err-versions.ensures in
     subst (ReadsContents image) (sym (told.1 ∙ ap Err told.2))

@@ -5,7 +5,7 @@ use Rattle.block_table.specs.Pushed.{contents_of}
 use Rattle.block_table.proofs.write.write_table.Goals as goal
 
 pub finish-requires-clause-whole : goal.finish-requires-clause-whole
-finish-requires-clause-whole g c =
+finish-requires-clause-whole g c = λ lifetimes outlive.
     let vs = c.args.versions.now in
     let one = c.requires.one_family in
     let some : 0 < length vs = c.requires.some in

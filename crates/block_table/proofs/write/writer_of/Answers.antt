@@ -16,8 +16,7 @@ loop-v-init c = record {
   form = c.in_ok-w.ensures.form;
   pushed = λ family all.
       let first = All-get_or (λ (v : Version). v.family ≡ family) c.args.versions.now 0 c.index-versions-0.result c.requires.some all in
-      let same : c.index-versions-0.result.family ≡ family = ap (λ (v : Version). v.family) c.index-versions-0.is ∙ first in
-      subst (λ (f : Family). HasPushed c.in_ok-w.w (contents_of f c.args.form c.args.collected_by [])) same c.in_ok-w.ensures.pushed;
+      subst (λ (f : Family). HasPushed c.in_ok-w.w (contents_of f c.args.form c.args.collected_by [])) first c.in_ok-w.ensures.pushed;
 }
 
 pub push-requires-clause-stamp : goal.push-requires-clause-stamp
