@@ -1,5 +1,5 @@
 -- A block that was read, and how it was cut.
-use Rattle.std.proofs.Common.{◌≡◌, ℕ, zero, suc, ◌+◌, ◌-◌, ◌<◌, ◌≤◌, Bool, true, false, List, [], ◌∷◌, ◌++◌, length, refl, sym, ap, subst, ◌∙◌, ◌⊎◌, inl, inr, ⊎_elim, arith}
+use Rattle.std.proofs.Common.{◌≡◌, ℕ, ◌+◌, ◌<◌, ◌≤◌, Bool, true, false, List, [], ◌∷◌, ◌++◌, length, refl, sym, ap, subst, ◌∙◌, ◌⊎◌, inl, inr, arith}
 use Rattle.std.specs.List.{slice_range}
 use Rattle.std.proofs.lemmas.Bool.{cases_Bool}
 use Rattle.ts_key.specs.Items.{Item}
@@ -9,7 +9,7 @@ use Rattle.data_block.specs.Grammar.{block_target, block_entries, block, IsBlock
 use Rattle.data_block.specs.Gathered.{ComesAfter, IsCutOf}
 use Rattle.data_block.proofs.Faulting.{blocks_unique}
 use Rattle.block_table.specs.declared.handle.BlockHandle.{BlockHandle}
-use Rattle.block_table.specs.Gathering.{handle_of, IsCutRightly, IsBlockAt}
+use Rattle.block_table.specs.Gathering.{IsCutRightly, IsBlockAt}
 
 snoc_on : (v : Item) (vs : List Item) → (front : List Item) × (last : Item) × (v ∷ vs ≡ front ++ last ∷ [])
 snoc_on v [] = ([], v, refl)

@@ -7,7 +7,6 @@ use Rattle.ts_key.specs.Items.{Item}
 use Rattle.ts_key.specs.Lists.{IsSorted, joined}
 use Rattle.ts_key.specs.declared.version.Form.{Form}
 use Rattle.data_block.specs.Grammar.{block, IsBlock}
-use Rattle.data_block.specs.Gathered.{ComesAfter}
 use Rattle.data_block.proofs.Joins.{sorted_join}
 use Rattle.data_block.proofs.Written.{all_snoc}
 use Rattle.data_block.proofs.Faulting.{blocks_unique}

@@ -1,6 +1,6 @@
 -- Versions that are cut into blocks, one block more.
-use Rattle.std.proofs.Common.{◌≡◌, ℕ, zero, suc, ◌+◌, ◌<◌, ◌≤◌, List, [], ◌∷◌, ◌++◌, length, refl, sym, ap, subst, ◌∙◌, arith, length-append}
-use Rattle.std.specs.List.{flat_map, AllByRecursion}
+use Rattle.std.proofs.Common.{◌≡◌, ℕ, suc, ◌+◌, ◌<◌, List, [], ◌∷◌, ◌++◌, length, refl, sym, ap, subst, ◌∙◌, arith, length-append}
+use Rattle.std.specs.List.{AllByRecursion}
 use Rattle.std.proofs.lemmas.List.{append_assoc, append-nil}
 use Rattle.ts_key.specs.Items.{Item}
 use Rattle.ts_key.specs.Lists.{joined}
@@ -8,7 +8,7 @@ use Rattle.ts_key.specs.declared.version.Form.{Form}
 use Rattle.data_block.specs.Grammar.{block_target, entries, block_entries, block, entry_of, last_key}
 use Rattle.data_block.proofs.Written.{entries_snoc}
 use Rattle.block_table.specs.declared.handle.BlockHandle.{BlockHandle}
-use Rattle.block_table.specs.Tables.{EndsInTime, IsFull, AreCut, blocks, handles}
+use Rattle.block_table.specs.Tables.{EndsInTime, AreCut, blocks, handles}
 use Rattle.block_table.specs.Pushed.{IsDone}
 use Rattle.block_table.specs.Gathering.{handle_of}
 

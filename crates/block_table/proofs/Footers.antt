@@ -1,5 +1,5 @@
 -- Where the parts of a table stand.
-use Rattle.std.proofs.Common.{◌≡◌, ℕ, ◌+◌, ◌-◌, ◌^◌, ◌<◌, ◌≤◌, List, [], ◌∷◌, ◌++◌, length, refl, sym, ap, ◌∙◌, arith, length-append, append_assoc}
+use Rattle.std.proofs.Common.{◌≡◌, ℕ, ◌+◌, ◌^◌, ◌<◌, ◌≤◌, List, ◌++◌, length, refl, sym, ap, ◌∙◌, arith, length-append, append_assoc}
 use Rattle.ts_key.specs.Numbers.{number_bytes}
 use Rattle.ts_key.proofs.NumberBytes.{length-number_bytes, number_bytes-unique}
 use Rattle.data_block.proofs.Fielded.{cut}

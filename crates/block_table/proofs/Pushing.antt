@@ -1,29 +1,24 @@
 -- A table as it is written.
-use Rattle.std.proofs.Common.{◌≡◌, ℕ, zero, suc, ◌+◌, ◌^◌, ◌<◌, ◌≤◌, List, [], ◌∷◌, ◌++◌, length, refl, sym, ap, subst, ◌∙◌, Bool, true, false, ⊎_elim, arith, length-append, append_assoc, Some}
+use Rattle.std.proofs.Common.{◌≡◌, ℕ, ◌+◌, ◌^◌, ◌<◌, ◌≤◌, List, [], ◌∷◌, ◌++◌, length, sym, ap, subst, ◌∙◌, Bool, true, false, ⊎_elim, arith, length-append, Some}
 use Rattle.std.specs.List.{AllByRecursion}
 use Rattle.std.proofs.lemmas.Bool.{cases_lt}
 use Rattle.std.proofs.lemmas.List.{append-nil}
-use Rattle.ts_key.specs.Items.{Item, item_of}
+use Rattle.ts_key.specs.Items.{Item}
 use Rattle.ts_key.specs.Lists.{IsSorted, joined}
-use Rattle.ts_key.specs.StoredKeys.{IsItem}
 use Rattle.ts_key.specs.declared.version.Form.{Form}
-use Rattle.ts_key.specs.declared.version.Version.{Version}
 use Rattle.data_block.specs.Grammar.{block_target, entries, block_entries, block, IsBlock}
 use Rattle.data_block.specs.Written.{Written, HasWritten}
 use Rattle.data_block.proofs.Written.{all_snoc}
 use Rattle.block_table.specs.declared.handle.BlockHandle.{BlockHandle}
-use Rattle.block_table.specs.declared.properties.Properties.{Properties}
-use Rattle.block_table.specs.declared.tally.Tally.{Tally}
 use Rattle.block_table.specs.declared.writer.KeyRange.{KeyRange}
 use Rattle.block_table.specs.declared.writer.TableWriter.{TableWriter}
-use Rattle.block_table.specs.Contents.{Contents, properties_of, first_key, last_user_key}
-use Rattle.block_table.specs.Tables.{IsFull, EndsInTime, AreCut, blocks, handles, index, properties, AreBlocks, IsTable, table}
-use Rattle.block_table.specs.Tallies.{tally_of}
+use Rattle.block_table.specs.Contents.{Contents, properties_of}
+use Rattle.block_table.specs.Tables.{IsFull, blocks, handles, index, properties, IsTable}
 use Rattle.block_table.specs.Ranges.{IsRangeOf}
-use Rattle.block_table.specs.Pushed.{IsReadable, IsOpen, IsBehind, IsDone, HasPushed, HaveBlockBytes, IsClosed, IsSpelled, and_version}
+use Rattle.block_table.specs.Pushed.{IsReadable, IsOpen, IsBehind, IsDone, HasPushed, HaveBlockBytes, IsClosed, IsSpelled}
 use Rattle.block_table.specs.Gathering.{handle_of}
-use Rattle.block_table.proofs.Cuts.{joined_more, blocks_more, handles_more, length-handles, cut_more, cut_done, ends_with, ends_open}
-use Rattle.block_table.proofs.Lists.{sorted_left, sorted_right, all_last, all_both}
+use Rattle.block_table.proofs.Cuts.{joined_more, blocks_more, handles_more, cut_more, cut_done, ends_with, ends_open}
+use Rattle.block_table.proofs.Lists.{sorted_left, sorted_right}
 use Rattle.block_table.proofs.Tallying.{first_snoc, last_snoc}
 use Rattle.block_table.proofs.Reading.{longer}
 

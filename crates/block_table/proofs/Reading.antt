@@ -1,5 +1,5 @@
 -- A table that is read part by part.
-use Rattle.std.proofs.Common.{◌≡◌, ℕ, zero, suc, ◌+◌, ◌^◌, ◌<◌, ◌≤◌, List, [], ◌∷◌, ◌++◌, length, take, refl, sym, ap, subst, ◌∙◌, arith, length-append, append_assoc, Some}
+use Rattle.std.proofs.Common.{◌≡◌, ℕ, ◌+◌, ◌^◌, ◌<◌, ◌≤◌, List, [], ◌∷◌, ◌++◌, length, take, refl, sym, ap, subst, ◌∙◌, arith, length-append, append_assoc, Some}
 use Rattle.std.specs.List.{AllByRecursion}
 use Rattle.std.proofs.lemmas.List.{take_at}
 use Rattle.ts_key.specs.Numbers.{number_bytes}
@@ -12,7 +12,7 @@ use Rattle.block_table.specs.declared.handle.BlockHandle.{BlockHandle}
 use Rattle.block_table.specs.declared.parts.Head.{Head}
 use Rattle.block_table.specs.declared.properties.Properties.{Properties}
 use Rattle.block_table.specs.Contents.{Contents, properties_of}
-use Rattle.block_table.specs.Tables.{magic, footer, with_footer, blocks, handles, index, properties, AreBlocks, IsTable}
+use Rattle.block_table.specs.Tables.{magic, footer, with_footer, blocks, handles, index, properties, IsTable}
 use Rattle.block_table.specs.Parts.{ReadsParts, FitsHead, FitsFound, IsHead}
 use Rattle.block_table.specs.Indexes.{IsHandle, AreHandles}
 use Rattle.std.specs.Prelude.{Result, Err, None}

@@ -1,5 +1,5 @@
 -- What is counted of versions, one more.
-use Rattle.std.proofs.Common.{◌≡◌, ℕ, zero, suc, ◌+◌, ◌-◌, ◌^◌, ◌<◌, ◌≤◌, List, [], ◌∷◌, ◌++◌, length, take, refl, sym, ap, subst, ◌∙◌, arith, length-append, min, max, Some}
+use Rattle.std.proofs.Common.{◌≡◌, ℕ, zero, suc, ◌+◌, ◌-◌, ◌<◌, ◌≤◌, List, [], ◌∷◌, ◌++◌, length, take, refl, sym, ap, ◌∙◌, arith, length-append, min, max, Some}
 use Rattle.std.specs.Prelude.{slice_get}
 use Rattle.ts_key.specs.Items.{Item}
 use Rattle.std.proofs.lemmas.Bool.Decides.{nat_tests}

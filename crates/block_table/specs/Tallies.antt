@@ -1,5 +1,5 @@
 -- What is counted of versions.
-use Rattle.std.specs.Prelude.{ℕ, List, length}
+use Rattle.std.specs.Prelude.{List, length}
 use Rattle.ts_key.specs.Items.{Item}
 use Rattle.block_table.specs.declared.tally.Tally.{Tally}
 use Rattle.block_table.specs.Contents.{least_of, greatest_of}

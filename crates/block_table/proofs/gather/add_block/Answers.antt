@@ -1,9 +1,8 @@
-use Rattle.std.proofs.Common.{◌≡◌, ◌+◌, ◌-◌, List, ℕ, length, take, drop, refl, sym, ap, ◌∙◌, arith, length-drop}
+use Rattle.std.proofs.Common.{◌≡◌, ◌+◌, ◌-◌, ℕ, length, drop, refl, ap, ◌∙◌, arith, length-drop}
 use Rattle.std.specs.List.{slice_range}
 use Rattle.std.proofs.lemmas.List.{length-take}
 use Rattle.data_block.proofs.Faulting.{faults_right}
 use Rattle.block_table.specs.declared.handle.BlockHandle.{BlockHandle}
-use Rattle.block_table.specs.Gathering.{IsCutRightly}
 use Rattle.block_table.proofs.BlockCuts.{passes, is_there}
 use Rattle.block_table.proofs.gather.add_block.Goals as goal
 

@@ -1,8 +1,8 @@
-use Rattle.std.proofs.Common.{◌≡◌, ◌+◌, ◌<◌, ◌≤◌, List, ℕ, length, refl, sym, ap, subst, ◌∙◌, arith}
+use Rattle.std.proofs.Common.{◌<◌, length, refl, sym, ap, subst, ◌∙◌, arith}
 use Rattle.std.specs.Prelude.{Err}
 use Rattle.std.proofs.lemmas.Bool.{eqb-true, eqb-false}
 use Rattle.std.proofs.lemmas.Result.{err_from_is_err_and}
-use Rattle.block_table.specs.Gathering.{HasAddedBlock, AddsBlock, AreOnlyBlocksOf, ReadsBlocks}
+use Rattle.block_table.specs.Gathering.{AreOnlyBlocksOf, ReadsBlocks}
 use Rattle.block_table.proofs.Blocks.{no_handles, none_read, failed_at, read_at, blocks_read, ends_wrong}
 use Rattle.block_table.proofs.gather.read_blocks.Goals as goal
 

@@ -1,5 +1,5 @@
-use Rattle.std.proofs.Common.{List, ℕ, arith}
-use Rattle.block_table.proofs.Footers.{Split, Footed, footed, parted, long}
+use Rattle.std.proofs.Common.{arith}
+use Rattle.block_table.proofs.Footers.{Split, footed, parted, long}
 use Rattle.block_table.proofs.parts.parts_of.Goals as goal
 
 pub returns-then-image-lt-FOOTER_LEN-clause-parts : goal.returns-then-image-lt-FOOTER_LEN-clause-parts

@@ -1,4 +1,4 @@
-use Rattle.std.proofs.Common.{◌≡◌, ◌+◌, ◌-◌, length, Some, refl, sym, ap, ◌∙◌, arith}
+use Rattle.std.proofs.Common.{◌≡◌, length, Some, sym, ap, ◌∙◌, arith}
 use Rattle.ts_key.specs.Lists.{standing}
 use Rattle.block_table.specs.Contents.{first_key, last_user_key}
 use Rattle.block_table.proofs.Tallying.{first_standing, last_standing, some_standing}

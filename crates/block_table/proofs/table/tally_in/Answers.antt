@@ -1,6 +1,6 @@
-use Rattle.std.proofs.Common.{◌≡◌, ◌≤◌, ◌+◌, ℕ, ◌-◌, List, take, refl, ap, sym, ◌∙◌, arith, length, Some}
+use Rattle.std.proofs.Common.{◌≡◌, ℕ, ◌-◌, List, take, refl, ap, sym, ◌∙◌, arith, length, Some}
 use Rattle.ts_key.specs.Items.{Item, shown}
-use Rattle.ts_key.specs.Lists.{standing, onward}
+use Rattle.ts_key.specs.Lists.{standing}
 use Rattle.block_table.specs.Tallies.{tally_of}
 use Rattle.block_table.proofs.Tallying.{take_standing, standing_within, onward_more}
 use Rattle.block_table.proofs.table.tally_in.Goals as goal
@@ -14,7 +14,6 @@ loop-key-init c =
       within = omega (arith, p);
       tally = c.new-tally.ensures ∙ ap (λ (n : ℕ). tally_of (take (n - 1) c.args.versions.now)) (sym p);
     }
-
 
 pub loop-key-preserved : goal.loop-key-preserved
 loop-key-preserved c =

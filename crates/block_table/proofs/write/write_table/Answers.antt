@@ -8,12 +8,14 @@ pub finish-requires-clause-whole : goal.finish-requires-clause-whole
 finish-requires-clause-whole g c = λ lifetimes outlive.
     let vs = c.args.versions.now in
     let one = c.requires.one_family in
-    let some : 0 < length vs = c.requires.some in
-    (contents_of one.0 c.args.form c.args.collected_by (items_of vs), record {
-      pushed = c.in_ok-writer.ensures one.0 one.1;
-      some = omega (arith, some, length-map vs item_of);
-      sorted = c.requires.sorted;
-    })
+    let some : 0 < length vs = c.requires.some in (
+      contents_of one.0 c.args.form c.args.collected_by (items_of vs),
+      record {
+        pushed = c.in_ok-writer.ensures one.0 one.1;
+        some = omega (arith, some, length-map vs item_of);
+        sorted = c.requires.sorted;
+      },
+    )
 
 pub returns : goal.returns
 returns g c = λ family all.

@@ -1,4 +1,4 @@
-use Rattle.std.proofs.Common.{◌≡◌, List, sym, ap, subst, ◌∙◌}
+use Rattle.std.proofs.Common.{ap, subst, ◌∙◌}
 use Rattle.std.specs.Prelude.{Option, option_map}
 use Rattle.std.specs.List.{AllByRecursion}
 use Rattle.ts_key.specs.Items.{Item}

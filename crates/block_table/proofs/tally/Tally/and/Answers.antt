@@ -1,4 +1,4 @@
-use Rattle.std.proofs.Common.{◌≡◌, ◌+◌, max, min, refl, sym, ap, ◌∙◌}
+use Rattle.std.proofs.Common.{max, min, refl, sym, ap, ◌∙◌}
 use Rattle.block_table.proofs.Tallying.{tally_more}
 use Rattle.block_table.proofs.tally.Tally.and.Goals as goal
 

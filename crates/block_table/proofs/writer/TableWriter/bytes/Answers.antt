@@ -1,4 +1,4 @@
-use Rattle.std.proofs.Common.{◌≡◌, ◌+◌, length, sym, ap, ◌∙◌, arith}
+use Rattle.std.proofs.Common.{length, ap, ◌∙◌, arith}
 use Rattle.ts_key.specs.declared.version.Form.{Form}
 use Rattle.data_block.specs.Grammar.{block}
 use Rattle.block_table.proofs.Pushing.{bytes_done, bytes_open}

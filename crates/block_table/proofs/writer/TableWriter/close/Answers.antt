@@ -1,4 +1,4 @@
-use Rattle.std.proofs.Common.{◌≡◌, ◌+◌, ◌<◌, ◌^◌, ◌++◌, ℕ, List, length, refl, sym, ap, subst, ◌∙◌, arith}
+use Rattle.std.proofs.Common.{◌≡◌, ◌<◌, ◌^◌, ◌++◌, ℕ, List, length, refl, ap, subst, ◌∙◌, arith}
 use Rattle.ts_key.specs.Items.{Item}
 use Rattle.ts_key.specs.declared.version.Form.{Form}
 use Rattle.data_block.specs.Grammar.{block, IsBlock}

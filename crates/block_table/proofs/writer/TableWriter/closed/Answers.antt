@@ -1,4 +1,4 @@
-use Rattle.std.proofs.Common.{◌≡◌, ◌++◌, List, [], ◌∷◌, length, sym, ap, subst, ◌∙◌, arith}
+use Rattle.std.proofs.Common.{◌++◌, [], ◌∷◌, sym, ap, subst, ◌∙◌, arith}
 use Rattle.data_block.specs.Written.{Written, HasWritten}
 use Rattle.block_table.proofs.Pushing.{closed_none, closed_last}
 use Rattle.block_table.proofs.writer.TableWriter.closed.Goals as goal

@@ -1,4 +1,4 @@
-use Rattle.std.proofs.Common.{◌≡◌, List, ℕ, sym, ap, subst, ◌∙◌, arith}
+use Rattle.std.proofs.Common.{List, ℕ, sym, subst, arith}
 use Rattle.std.specs.Prelude.{Ok, Err}
 use Rattle.udt_disk.specs.Runs.{WritesSynced}
 use Rattle.udt_disk.specs.declared.traits.Failed.{Failed}

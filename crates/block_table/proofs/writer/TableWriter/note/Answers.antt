@@ -1,4 +1,4 @@
-use Rattle.std.proofs.Common.{◌≡◌, ◌+◌, ◌++◌, length, refl, sym, ap, subst, Option, ◌∙◌, arith, append_assoc, List, [], ◌∷◌, length-append}
+use Rattle.std.proofs.Common.{◌++◌, refl, sym, ap, subst, Option, ◌∙◌, arith, append_assoc, List, [], ◌∷◌, length-append}
 use Rattle.ts_key.specs.Items.{Item, item_of}
 use Rattle.ts_key.specs.Lists.{joined}
 use Rattle.ts_key.specs.StoredKeys.{IsItem}

@@ -1,8 +1,8 @@
-use Rattle.std.proofs.Common.{◌≡◌, ◌+◌, ◌++◌, ◌<◌, ◌≤◌, List, [], ◌∷◌, length, sym, ap, subst, ◌∙◌, arith}
-use Rattle.ts_key.specs.Items.{Item, item_of}
+use Rattle.std.proofs.Common.{◌++◌, [], ◌∷◌, length, sym, ap, subst, ◌∙◌, arith}
+use Rattle.ts_key.specs.Items.{item_of}
 use Rattle.ts_key.specs.StoredKeys.{IsStamp, IsItem}
 use Rattle.ts_key.specs.declared.version.Form.{Form}
-use Rattle.data_block.specs.Grammar.{block_entries, block_target}
+use Rattle.data_block.specs.Grammar.{block_entries}
 use Rattle.data_block.specs.Written.{Written, HasWritten}
 use Rattle.block_table.proofs.Lists.{all_last}
 use Rattle.block_table.proofs.Pushing.{push_full, not_full}
