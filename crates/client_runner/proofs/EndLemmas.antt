@@ -1,5 +1,5 @@
 -- What a command meant, from what its parts answered.
-use Rattle.std.proofs.Common.{◌≡◌, ◌⊎◌, ℕ, false, List, [], ◌++◌, Option, refl, sym, ap, subst, ◌∙◌, inl, inr}
+use Rattle.std.proofs.Common.{◌≡◌, ℕ, false, List, [], ◌++◌, Option, refl, sym, ap, subst, ◌∙◌, inl, inr}
 use Rattle.std.specs.Prelude.{All, Some, None}
 use Rattle.std.specs.List.{list_any}
 use Rattle.udt_disk.specs.Causes.{Rose}
@@ -10,8 +10,9 @@ use Rattle.udt_model.specs.declared.line.Line.{Line}
 use Rattle.udt_model.specs.State.{State, heads_of}
 use Rattle.udt_model.specs.Histories.{Point, Leads, start}
 use Rattle.client_lang.specs.Print.{IsBuiltLine, print_header, print_lines}
-use Rattle.client_runner.specs.Commands.{IsRun}
-use Rattle.client_runner.specs.Ends.{IsEnd, IsInitWork, IsRunLeft, IsRunWork}
+use Rattle.client_runner.specs.Commands.{IsRunCommand}
+use Rattle.client_runner.specs.Ends.{IsEnd}
+use Rattle.client_runner.specs.Works.{IsInitWork, IsRunLeft, IsRunWork}
 use Rattle.client_runner.specs.Hosts.{IsFileOf, IsFolderOf, StaysElsewhere}
 use Rattle.client_runner.specs.HostRuns.{IsRunFrom, IsStoppedFrom}
 use Rattle.client_runner.specs.Inits.{IsInitLeft}
@@ -23,15 +24,14 @@ use Rattle.client_runner.specs.declared.output.Ready.{Ready}
 use Rattle.client_runner.specs.declared.status.Status.{Status}
 use Rattle.client_runner.specs.declared.status.Status.TheVariants as statuses
 use Rattle.client_runner.specs.declared.status.Stop.{Stop}
-use Rattle.client_runner.specs.declared.status.Stop.TheVariants.{BadWords, NoFile, TooLong, TooMany, BadLine, SourceFault, StoreExists, NoStore, BadManifest, BadLog, DiskFault, NoMemory}
-use Rattle.client_runner.specs.Ends.{Spells}
+use Rattle.client_runner.specs.declared.status.Stop.TheVariants.{NoFile, TooLong, TooMany, BadLine, StoreExists, BadManifest, BadLog, DiskFault, NoMemory}
+use Rattle.client_runner.specs.Works.{Spells}
 use Rattle.client_runner.specs.Left.{IsUnmadeAt, StaysAsItWas, TellsFolder}
 use Rattle.client_lang.specs.declared.command.Command.{Command}
-use Rattle.manifest.specs.declared.fold.Folded.{Folded}
 use Rattle.manifest.specs.Folders.{Means}
-use Rattle.manifest.specs.Folders.Meaning.{no_store, bad_at, store}
+use Rattle.manifest.specs.Folders.Meaning.{no_store, bad_at}
 use Rattle.udt_disk.specs.Joint.{Folder}
-use Rattle.client_runner.proofs.TopLemmas.{not_bad, not_store}
+use Rattle.client_runner.proofs.FolderLemmas.{not_bad}
 use Rattle.client_runner.proofs.FaultLemmas.{none_told}
 use Rattle.client_runner.proofs.OutputLemmas.{Appends-nil}
 
@@ -122,6 +122,6 @@ run_told standing old new was leaves before now file r status from e =
 
 -- ---- other paths
 
-pub stays_elsewhere : (words : List (List ℕ)) (folder file : List ℕ) (old new : List ℕ → Standing) → IsRun words folder file → StaysElsewhere file folder old new → (path : List ℕ) → ¬ IsFileOf words path → ¬ IsFolderOf words path → new path ≡ old path
+pub stays_elsewhere : (words : List (List ℕ)) (folder file : List ℕ) (old new : List ℕ → Standing) → IsRunCommand words folder file → StaysElsewhere file folder old new → (path : List ℕ) → ¬ IsFileOf words path → ¬ IsFolderOf words path → new path ≡ old path
 stays_elsewhere words folder file old new r stays path no_file no_folder =
-    stays path (λ e. no_file (inr (folder, subst (λ (p : List ℕ). IsRun words folder p) (sym e) r))) (λ e. no_folder (inr (file, subst (λ (p : List ℕ). IsRun words p file) (sym e) r)))
+    stays path (λ e. no_file (inr (folder, subst (λ (p : List ℕ). IsRunCommand words folder p) (sym e) r))) (λ e. no_folder (inr (file, subst (λ (p : List ℕ). IsRunCommand words p file) (sym e) r)))

@@ -1,6 +1,6 @@
 -- A history in which no disk failed tells no fault.
 use Rattle.std.proofs.Common.{◌∙◌, ◌≡◌, ℕ, ◌+◌, Bool, true, false, List, [], ◌∷◌, ◌++◌, Option, Some, None, refl, sym, ap, subst, inl, inr}
-use Rattle.std.specs.Prelude.{All, option_map, nat_lt, if◌then◌else◌, length, ◌-◌, ◌^◌}
+use Rattle.std.specs.Prelude.{All, option_map, nat_lt, if◌then◌else◌, length}
 use Rattle.std.specs.List.{list_any}
 use Rattle.std.proofs.lemmas.List.Elements.{All-head, All-tail}
 use Rattle.ts_key.specs.declared.limits.TheConstants.{SEQUENCE_LIMIT}

@@ -2,8 +2,14 @@ pub mod WordLemmas
 pub mod FlowLemmas
 pub mod Transcribing
 pub mod OutputLemmas
+pub mod SyncLemmas
 pub mod RunLemmas
+pub mod GivenBack
 pub mod HostLemmas
 pub mod FaultLemmas
+pub mod FileLemmas
+pub mod FolderLemmas
+pub mod RunEnds
+pub mod InitEnds
 pub mod TopLemmas
 pub mod EndLemmas

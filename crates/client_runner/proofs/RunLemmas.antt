@@ -1,8 +1,6 @@
 -- What a run over the store in a folder leaves there.
-use Rattle.std.proofs.Common.{◌⊎◌, ◌≡◌, ◌≢◌, inl, inr, ⊎_elim, ℕ, ◌+◌, ◌≤◌, Bool, true, false, if◌then◌else◌, ◌||◌, List, [], ◌∷◌, ◌++◌, refl, sym, ap, ◌∙◌, subst, arith}
-use Rattle.std.specs.Prelude.{map, Some, None, Option, IsTrue, IfOk, Result, Ok, Err}
-use Rattle.std.specs.List.{list_any}
-use Rattle.std.proofs.lemmas.List.Folds.{list_any-append}
+use Rattle.std.proofs.Common.{◌⊎◌, ◌≡◌, ◌≢◌, inl, inr, ⊎_elim, ℕ, ◌≤◌, List, [], ◌∷◌, refl, sym, ap, ◌∙◌, subst, arith}
+use Rattle.std.specs.Prelude.{map, Some, None, IsTrue, IfOk, Result, Ok, Err}
 use Rattle.udt_disk.specs.Causes.{plus_faults, Rose}
 use Rattle.udt_disk.specs.Crash.{Image, NoMore}
 use Rattle.udt_disk.specs.Joint.{Folder, IsFree, IsHeld}
@@ -11,22 +9,14 @@ use Rattle.udt_disk.specs.declared.name.FileName.TheVariants.{Current, Log, Made
 use Rattle.udt_disk.specs.declared.file.DiskFile as file
 use Rattle.udt_disk.specs.declared.disk.Disk as disk
 use Rattle.udt_disk.proofs.Names.{same_or_other}
-use Rattle.udt_model.specs.declared.event.Event.{Event}
-use Rattle.udt_model.specs.declared.event.Event.TheVariants.{Sync}
-use Rattle.udt_model.specs.declared.reply.Reply.{Reply}
-use Rattle.udt_model.specs.declared.reply.Reply.TheVariants.{Done, Halted}
 use Rattle.ts_key.specs.declared.numbers.Seq.{Seq}
 use Rattle.ts_key.specs.declared.version.Version.{Version}
 use Rattle.udt_model.specs.declared.line.FamilyHead.{FamilyHead}
 use Rattle.udt_model.specs.declared.line.Line.{Line}
-use Rattle.udt_model.specs.declared.line.Who.TheVariants.{Client}
 use Rattle.udt_model.specs.State.{State, unflushed}
-use Rattle.solo_runner.specs.Named.{IsReply, after}
-use Rattle.udt_model.specs.Histories.{Point, start, IsLegal, behind, Leads, own}
+use Rattle.udt_model.specs.Histories.{Point, start, Leads}
 use Rattle.udt_model.specs.Crashes.{Course, IsOutcome, course_start, course_behind, settled}
 use Rattle.udt_model.proofs.Laws.{heads_unflushed}
-use Rattle.solo_runner.specs.Named.{course_after}
-use Rattle.solo_runner.proofs.Naming.{after_agrees, reply_agrees_back}
 use Rattle.udt_disk.specs.Runs.{IsSameFile}
 use Rattle.wal.specs.declared.numbered.Numbered.{Numbered}
 use Rattle.wal.specs.declared.wal.Wal.{Wal}
@@ -41,9 +31,9 @@ use Rattle.manifest.specs.Manifest.{manifest_file}
 use Rattle.udt_disk.specs.Moments.{alone, holding, OnlyReads}
 use Rattle.udt_disk.proofs.Moments.{stands_free, stands_held, leaves_free, leaves_held}
 use Rattle.client_lang.specs.declared.command.Command.{Command}
-use Rattle.client_lang.specs.Print.{IsBuilt, print_header}
+use Rattle.client_lang.specs.Print.{print_header}
 use Rattle.solo_runner.specs.Expand.{IsRunHistory}
-use Rattle.client_runner.specs.Left.{MayBeLeft, status_of_lines, tells_fault}
+use Rattle.client_runner.specs.Left.{MayBeLeft, status_of_lines}
 use Rattle.solo_runner.specs.LoggedStores.{state_of, wal_of}
 use Rattle.udt_disk.specs.Moments.{IsClean}
 use Rattle.recovery.specs.Opening.{IsOpened}
@@ -61,76 +51,8 @@ use Rattle.client_runner.specs.declared.status.Stop.TheVariants.{NoMemory}
 use Rattle.solo_runner.proofs.KeepingLemmas.{all_synced, opens_kept}
 use Rattle.solo_runner.proofs.VersionLemmas.{settled_state}
 use Rattle.recovery.proofs.OpeningLemmas.{chosen_isn't_log}
-use Rattle.solo_runner.proofs.SoloLemmas.{course_push, height_kept, sound_none}
-
--- ---- where no line tells a fault, all is synced at the end
-
--- where the lines tell no fault, the state works at their end and all of it is synced
-abbrev pub Settles : State → List Line → Point → Type 0
-Settles m lines end = status_of_lines lines ≡ statuses.Done → (end.state.halted ≡ None) × ((course_behind (start m) (course_start m) lines).synced ≡ end.state.last.0)
-
-none_told : (told : Bool) → (if told then statuses.DiskFault else statuses.Done) ≡ statuses.Done → told ≡ false
-none_told true e = cc e
-none_told false e = refl
-
-no_fault : (lines : List Line) → status_of_lines lines ≡ statuses.Done → list_any (λ (l : Line). tells_fault l.reply) lines ≡ false
-no_fault lines e = none_told (list_any (λ (l : Line). tells_fault l.reply) lines) e
-
-second_none : (a b : Bool) → (a || (b || false)) ≡ false → b ≡ false
-second_none true b e = cc e
-second_none false true e = cc e
-second_none false false e = refl
-
-last_none : (lines : List Line) (line : Line) → list_any (λ (l : Line). tells_fault l.reply) (lines ++ line ∷ []) ≡ false → tells_fault line.reply ≡ false
-last_none lines line e =
-    second_none (list_any (λ (l : Line). tells_fault l.reply) lines) (tells_fault line.reply) (sym (list_any-append (λ (l : Line). tells_fault l.reply) lines (line ∷ [])) ∙ e)
-
--- lines and one more lead over the point between them
-record Splits (p : Point) (lines : List Line) (line : Line) (end : Point) : Type 0 where
-  pub mid : Point
-  pub before : Leads p lines mid
-  pub legal : IsLegal mid line
-  pub end_is : end ≡ behind mid line
-
-splits_more : (p : Point) (l : Line) (lines : List Line) (line : Line) (end : Point) → IsLegal p l → Splits (behind p l) lines line end → Splits p (l ∷ lines) line end
-splits_more p l lines line end legal s = record { mid = s.mid; before = (legal, s.before); legal = s.legal; end_is = s.end_is }
-
-splits : (p : Point) (lines : List Line) (line : Line) (end : Point) → Leads p (lines ++ line ∷ []) end → Splits p lines line end
-splits p [] line end h = record { mid = p; before = refl; legal = h.0; end_is = h.1 }
-splits p (l ∷ lines) line end h = splits_more p l lines line end h.0 (splits (behind p l) lines line end h.1)
-
--- a sync of a store that works, which tells no fault, is done
-sync_done : (halted : Option ℕ) (m : State) (reply : Reply) → m.halted ≡ halted → IsReply m Sync reply → tells_fault reply ≡ false → (halted ≡ None) × (reply ≡ Done)
-sync_done halted m reply is (inr (inl want)) none = absurd (cc want.1)
-sync_done halted m reply is (inr (inr fault)) none = absurd (cc (ap tells_fault fault.0, none))
-sync_done None m reply is (inl told) none = (refl, rw is at told)
-sync_done (Some n) m reply is (inl told) none = absurd (let e : reply ≡ Halted n = rw is at told in cc (ap tells_fault e, none))
-
--- the runner's sync settles the lines before it
-settled_by : (m : State) (lines : List Line) (line : Line) (end : Point) → Leads (start m) (lines ++ line ∷ []) end → line.event ≡ Sync → tells_fault line.reply ≡ false
-    → (end.state.halted ≡ None) × ((course_behind (start m) (course_start m) (lines ++ line ∷ [])).synced ≡ end.state.last.0)
-settled_by m lines line end leads event none =
-    let s = splits (start m) lines line end leads in
-    let built : IsBuilt line.event = subst IsBuilt (sym event) tt in
-    let low : s.mid.height ≡ 0 = height_kept (start m) s.mid lines s.before in
-    let reply : IsReply s.mid.state Sync line.reply =
-    subst (λ (e : Event). IsReply s.mid.state e line.reply) event (reply_agrees_back s.mid.height s.mid.state (s.mid.names line.who) line.event line.reply low built s.legal.reply) in
-    let done = sync_done s.mid.state.halted s.mid.state line.reply refl reply none in
-    let state : end.state ≡ s.mid.state =
-    ap (λ (p : Point). p.state) s.end_is ∙ after_agrees s.mid.state (s.mid.names line.who) (s.mid.number + 1) line.event line.reply built ∙ ap (λ (e : Event). after s.mid.state (s.mid.number + 1) e line.reply) event ∙ ap (λ (r : Reply). after s.mid.state (s.mid.number + 1) Sync r) done.1 in
-    let c : Course = course_behind (start m) (course_start m) lines in
-    let course : course_behind (start m) (course_start m) (lines ++ line ∷ []) ≡ record c { synced = s.mid.state.last.0 } =
-    course_push (start m) s.mid (course_start m) lines line built s.before
-    ∙ ap (λ (e : Event). course_after s.mid.state (s.mid.number + 1) c e line.reply) event ∙ ap (λ (r : Reply). course_after s.mid.state (s.mid.number + 1) c Sync r) done.1 in
-    (ap (λ (x : State). x.halted) state ∙ done.0, ap (λ (x : Course). x.synced) course ∙ ap (λ (x : State). x.last.0) (sym state))
-
-pub session_settles : (m : State) (commands : List Command) (lines : List Line) (end : Point) → IsRunHistory m commands lines end → Settles m lines end
-session_settles m commands lines end h done =
-    let before : List Line = own (Client 1) lines in
-    let leads : Leads (start m) (before ++ h.sync ∷ []) end = subst (λ (ls : List Line). Leads (start m) ls end) h.rest h.legal in
-    let none : list_any (λ (l : Line). tells_fault l.reply) (before ++ h.sync ∷ []) ≡ false = ap (list_any (λ (l : Line). tells_fault l.reply)) (sym h.rest) ∙ no_fault lines done in
-    let both = settled_by m before h.sync end leads h.is_sync (last_none before h.sync none) in
-    (both.0, ap (λ (ls : List Line). (course_behind (start m) (course_start m) ls).synced) h.rest ∙ both.1)
+use Rattle.solo_runner.proofs.SoloLemmas.{sound_none}
+use Rattle.client_runner.proofs.SyncLemmas.{Settles, session_settles}
 
 -- ---- folders that mean the same store
 
@@ -138,8 +60,8 @@ session_settles m commands lines end h done =
 abbrev pub IsSameBut : ℕ → Folder → Folder → Type 0
 IsSameBut number a b = (n : FileName) → n ≢ Log number → b n ≡ a n
 
-means_same : (number : ℕ) (a b : Folder) (fold : Folded) → IsSameBut number a b → Means a (store fold) → Means b (store fold)
-means_same number a b fold same means =
+means_same_but : (number : ℕ) (a b : Folder) (fold : Folded) → IsSameBut number a b → Means a (store fold) → Means b (store fold)
+means_same_but number a b fold same means =
     let chosen_is : chosen b ≡ chosen a = ap chosen_by (same Current (λ e. cc e)) in
     let manifest : b (chosen b) ≡ a (chosen a) = ap b chosen_is ∙ same (chosen a) (chosen_isn't_log a number) in
     ((λ none. means.0 (sym (same Made (λ e. cc e)) ∙ none)), subst (λ (image : Image). HasFold image fold) (sym manifest) means.1)
@@ -148,7 +70,7 @@ means_same number a b fold same means =
 pub stands_so : (number : ℕ) (a b : Folder) (fold : Folded) (batches : List Numbered) (m : State) → IsSameBut number a b → Means a (store fold) → fold.logs ≡ number ∷ []
     → ReadsAs (sizes_of fold) batches (b (Log number)) → m ≡ stores.state_of fold batches → FolderStands b m
 stands_so number a b fold batches m same means live held is =
-    record { fold = fold; means = means_same number a b fold same means; number = number; live = live; batches = batches; held = held; state_is = is }
+    record { fold = fold; means = means_same_but number a b fold same means; number = number; live = live; batches = batches; held = held; state_is = is }
 
 manifest_last : (bodies : List (List ℕ)) (fold : Folded) → IsManifest bodies fold → fold.last.0 ≡ 0
 manifest_last [] fold means = absurd means

@@ -8,7 +8,7 @@ use Rattle.ts_key.specs.declared.version.Form.{Form}
 use Rattle.ts_key.specs.declared.numbers.Ts.{Ts}
 use Rattle.udt_model.specs.declared.line.FamilyHead.{FamilyHead}
 use Rattle.manifest.specs.Heads.{AreNew, IsNewFamily, IsNamed}
-use Rattle.client_runner.specs.Commands.{IsHelp, IsVersion, IsTry, IsInit, IsRun, IsInitWord, family_word, IsNamePart, IsFamilyWord, AreFamilyWords, AreHeadWords}
+use Rattle.client_runner.specs.Commands.{IsHelpCommand, IsVersionCommand, IsTryCommand, IsInitCommand, IsRunCommand, IsInitWord, family_word, IsNamePart, IsFamilyWord, AreFamilyWords, AreHeadWords}
 
 -- ---- the words of families
 
@@ -76,62 +76,62 @@ no_head words found read bad families h =
 
 -- ---- one command
 
-pub help_no_version : (words : List (List ℕ)) → IsHelp words → IsVersion words → ⊥
+pub help_no_version : (words : List (List ℕ)) → IsHelpCommand words → IsVersionCommand words → ⊥
 help_no_version words p q = let e = sym p ∙ q in cc e
 
-pub help_no_try : (words : List (List ℕ)) (file : List ℕ) → IsHelp words → IsTry words file → ⊥
+pub help_no_try : (words : List (List ℕ)) (file : List ℕ) → IsHelpCommand words → IsTryCommand words file → ⊥
 help_no_try words file p q = let e = sym p ∙ q.0 in cc e
 
-pub help_no_init : (words : List (List ℕ)) (folder : List ℕ) (families : List FamilyHead) → IsHelp words → IsInit words folder families → ⊥
+pub help_no_init : (words : List (List ℕ)) (folder : List ℕ) (families : List FamilyHead) → IsHelpCommand words → IsInitCommand words folder families → ⊥
 help_no_init words folder families p q = let e = sym p ∙ q.is in cc e
 
-pub help_no_run : (words : List (List ℕ)) (folder file : List ℕ) → IsHelp words → IsRun words folder file → ⊥
+pub help_no_run : (words : List (List ℕ)) (folder file : List ℕ) → IsHelpCommand words → IsRunCommand words folder file → ⊥
 help_no_run words folder file p q = let e = sym p ∙ q.0 in cc e
 
-pub version_no_try : (words : List (List ℕ)) (file : List ℕ) → IsVersion words → IsTry words file → ⊥
+pub version_no_try : (words : List (List ℕ)) (file : List ℕ) → IsVersionCommand words → IsTryCommand words file → ⊥
 version_no_try words file p q = let e = sym p ∙ q.0 in cc e
 
-pub version_no_init : (words : List (List ℕ)) (folder : List ℕ) (families : List FamilyHead) → IsVersion words → IsInit words folder families → ⊥
+pub version_no_init : (words : List (List ℕ)) (folder : List ℕ) (families : List FamilyHead) → IsVersionCommand words → IsInitCommand words folder families → ⊥
 version_no_init words folder families p q = let e = sym p ∙ q.is in cc e
 
-pub version_no_run : (words : List (List ℕ)) (folder file : List ℕ) → IsVersion words → IsRun words folder file → ⊥
+pub version_no_run : (words : List (List ℕ)) (folder file : List ℕ) → IsVersionCommand words → IsRunCommand words folder file → ⊥
 version_no_run words folder file p q = let e = sym p ∙ q.0 in cc e
 
-pub try_no_init : (words : List (List ℕ)) (file folder : List ℕ) (families : List FamilyHead) → IsTry words file → IsInit words folder families → ⊥
+pub try_no_init : (words : List (List ℕ)) (file folder : List ℕ) (families : List FamilyHead) → IsTryCommand words file → IsInitCommand words folder families → ⊥
 try_no_init words file folder families p q = let e = sym p.0 ∙ q.is in cc e
 
-pub try_no_run : (words : List (List ℕ)) (file folder other : List ℕ) → IsTry words file → IsRun words folder other → ⊥
+pub try_no_run : (words : List (List ℕ)) (file folder other : List ℕ) → IsTryCommand words file → IsRunCommand words folder other → ⊥
 try_no_run words file folder other p q = let e = sym p.0 ∙ q.0 in cc e
 
-pub init_no_run : (words : List (List ℕ)) (at : List ℕ) (families : List FamilyHead) (folder file : List ℕ) → IsInit words at families → IsRun words folder file → ⊥
+pub init_no_run : (words : List (List ℕ)) (at : List ℕ) (families : List FamilyHead) (folder file : List ℕ) → IsInitCommand words at families → IsRunCommand words folder file → ⊥
 init_no_run words at families folder file p q = let e = sym p.is ∙ q.0 in cc e
 
 -- ---- the word init
 
-pub init_word : (words : List (List ℕ)) (folder : List ℕ) (families : List FamilyHead) → IsInit words folder families → IsInitWord words
+pub init_word : (words : List (List ℕ)) (folder : List ℕ) (families : List FamilyHead) → IsInitCommand words folder families → IsInitWord words
 init_word words folder families p = (folder ∷ map family_word families, p.is)
 
-pub init_word_no_help : (words : List (List ℕ)) → IsInitWord words → IsHelp words → ⊥
+pub init_word_no_help : (words : List (List ℕ)) → IsInitWord words → IsHelpCommand words → ⊥
 init_word_no_help words p q = let e = sym p.1 ∙ q in cc e
 
-pub init_word_no_version : (words : List (List ℕ)) → IsInitWord words → IsVersion words → ⊥
+pub init_word_no_version : (words : List (List ℕ)) → IsInitWord words → IsVersionCommand words → ⊥
 init_word_no_version words p q = let e = sym p.1 ∙ q in cc e
 
-pub init_word_no_try : (words : List (List ℕ)) (file : List ℕ) → IsInitWord words → IsTry words file → ⊥
+pub init_word_no_try : (words : List (List ℕ)) (file : List ℕ) → IsInitWord words → IsTryCommand words file → ⊥
 init_word_no_try words file p q = let e = sym p.1 ∙ q.0 in cc e
 
-pub init_word_no_run : (words : List (List ℕ)) (folder file : List ℕ) → IsInitWord words → IsRun words folder file → ⊥
+pub init_word_no_run : (words : List (List ℕ)) (folder file : List ℕ) → IsInitWord words → IsRunCommand words folder file → ⊥
 init_word_no_run words folder file p q = let e = sym p.1 ∙ q.0 in cc e
 
 -- ---- one meaning
 
-pub try_once : (words : List (List ℕ)) (a b : List ℕ) → IsTry words a → IsTry words b → a ≡ b
+pub try_once : (words : List (List ℕ)) (a b : List ℕ) → IsTryCommand words a → IsTryCommand words b → a ≡ b
 try_once words a b p q = let e = sym p.0 ∙ q.0 in cc
 
-pub run_once : (words : List (List ℕ)) (a b c d : List ℕ) → IsRun words a b → IsRun words c d → (a ≡ c) × (b ≡ d)
+pub run_once : (words : List (List ℕ)) (a b c d : List ℕ) → IsRunCommand words a b → IsRunCommand words c d → (a ≡ c) × (b ≡ d)
 run_once words a b c d p q = let e = sym p.0 ∙ q.0 in (cc, cc)
 
-pub init_once : (words : List (List ℕ)) (a b : List ℕ) (fs gs : List FamilyHead) → IsInit words a fs → IsInit words b gs → (a ≡ b) × (fs ≡ gs)
+pub init_once : (words : List (List ℕ)) (a b : List ℕ) (fs gs : List FamilyHead) → IsInitCommand words a fs → IsInitCommand words b gs → (a ≡ b) × (fs ≡ gs)
 init_once words a b fs gs p q =
     let e = sym p.is ∙ q.is in
     let behind : map family_word fs ≡ map family_word gs = cc in

@@ -6,47 +6,47 @@ use Rattle.manifest.specs.Heads.{AreNew, IsNewFamily, IsNamed}
 use Rattle.client_runner.specs.declared.words.Command.{Command}
 use Rattle.client_runner.specs.declared.words.Command.TheVariants.{Help, Version, Try, Init, Run}
 
-abbrev pub IsHelp : List (List ℕ) → Type 0
-IsHelp words = words ≡ codes "--help" ∷ []
+abbrev pub IsHelpCommand : List (List ℕ) → Type 0
+IsHelpCommand words = words ≡ codes "--help" ∷ []
 
-abbrev pub IsVersion : List (List ℕ) → Type 0
-IsVersion words = words ≡ codes "--version" ∷ []
+abbrev pub IsVersionCommand : List (List ℕ) → Type 0
+IsVersionCommand words = words ≡ codes "--version" ∷ []
 
 -- try FILE, where FILE is text
-abbrev pub IsTry : List (List ℕ) → List ℕ → Type 0
-IsTry words file = (words ≡ codes "try" ∷ file ∷ []) × IsUtf8 file
+abbrev pub IsTryCommand : List (List ℕ) → List ℕ → Type 0
+IsTryCommand words file = (words ≡ codes "try" ∷ file ∷ []) × IsUtf8 file
 
 -- the word of a family: its name, a colon and its form
 abbrev pub family_word : FamilyHead → List ℕ
 family_word f = f.name ++ codes ":persist"
 
 -- init FOLDER NAME:persist .., for these families, where FOLDER is text
-pub record IsInit (words : List (List ℕ)) (folder : List ℕ) (families : List FamilyHead) : Type 0 where
+pub record IsInitCommand (words : List (List ℕ)) (folder : List ℕ) (families : List FamilyHead) : Type 0 where
   pub is : words ≡ codes "init" ∷ folder ∷ map family_word families
   pub text : IsUtf8 folder
   pub new : AreNew families
   pub named : All IsNamed families
 
 -- run FOLDER FILE, where both are text
-abbrev pub IsRun : List (List ℕ) → List ℕ → List ℕ → Type 0
-IsRun words folder file = (words ≡ codes "run" ∷ folder ∷ file ∷ []) × IsUtf8 folder × IsUtf8 file
+abbrev pub IsRunCommand : List (List ℕ) → List ℕ → List ℕ → Type 0
+IsRunCommand words folder file = (words ≡ codes "run" ∷ folder ∷ file ∷ []) × IsUtf8 folder × IsUtf8 file
 
 -- the words are no command
 pub record IsNoCommand (words : List (List ℕ)) : Type 0 where
-  pub no_help : IsHelp words → ⊥
-  pub no_version : IsVersion words → ⊥
-  pub no_try : (file : List ℕ) → IsTry words file → ⊥
-  pub no_init : (folder : List ℕ) (families : List FamilyHead) → IsInit words folder families → ⊥
-  pub no_run : (folder file : List ℕ) → IsRun words folder file → ⊥
+  pub no_help : IsHelpCommand words → ⊥
+  pub no_version : IsVersionCommand words → ⊥
+  pub no_try : (file : List ℕ) → IsTryCommand words file → ⊥
+  pub no_init : (folder : List ℕ) (families : List FamilyHead) → IsInitCommand words folder families → ⊥
+  pub no_run : (folder file : List ℕ) → IsRunCommand words folder file → ⊥
 
 -- these words are this command
 abbrev pub IsCommandOf : List (List ℕ) → Option Command → Type 0
 IsCommandOf words None = IsNoCommand words
-IsCommandOf words (Some Help) = IsHelp words
-IsCommandOf words (Some Version) = IsVersion words
-IsCommandOf words (Some (Try file)) = IsTry words file.now
-IsCommandOf words (Some (Init folder head)) = IsInit words folder.now head.families
-IsCommandOf words (Some (Run folder file)) = IsRun words folder.now file.now
+IsCommandOf words (Some Help) = IsHelpCommand words
+IsCommandOf words (Some Version) = IsVersionCommand words
+IsCommandOf words (Some (Try file)) = IsTryCommand words file.now
+IsCommandOf words (Some (Init folder head)) = IsInitCommand words folder.now head.families
+IsCommandOf words (Some (Run folder file)) = IsRunCommand words folder.now file.now
 
 -- the first word is init
 abbrev pub IsInitWord : List (List ℕ) → Type 0

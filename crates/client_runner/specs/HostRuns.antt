@@ -8,7 +8,7 @@ use Rattle.udt_model.specs.Histories.{Point}
 use Rattle.client_lang.specs.declared.command.Command.{Command}
 use Rattle.client_lang.specs.Print.{print_header}
 use Rattle.solo_runner.specs.Expand.{IsRunHistory}
-use Rattle.client_runner.specs.Ends.{IsRunLeft, IsRunStop, Spells}
+use Rattle.client_runner.specs.Works.{IsRunLeft, IsRunStop, Spells}
 use Rattle.client_runner.specs.Left.{LeavesByName, ContinuesFrom, Crashes}
 use Rattle.client_runner.specs.Ready.{IsReadAs}
 use Rattle.client_runner.specs.Runs.{Waits}

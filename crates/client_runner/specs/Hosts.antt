@@ -4,15 +4,15 @@ use Rattle.udt_disk.specs.Opens.{Standing, StaysBut, without_source}
 use Rattle.udt_disk.specs.OpensFolder.{KeepsFolders, KeepsFoldersBut, LeavesNoMore, LeavesNoMoreBut}
 use Rattle.udt_disk.specs.declared.traits.Host.{Ghosts}
 use Rattle.udt_model.specs.declared.line.FamilyHead.{FamilyHead}
-use Rattle.client_runner.specs.Commands.{IsTry, IsInit, IsRun}
+use Rattle.client_runner.specs.Commands.{IsTryCommand, IsInitCommand, IsRunCommand}
 
 -- the command reads the file under this path
 abbrev pub IsFileOf : List (List ℕ) → List ℕ → Type 0
-IsFileOf words path = IsTry words path ⊎ ((folder : List ℕ) × IsRun words folder path)
+IsFileOf words path = IsTryCommand words path ⊎ ((folder : List ℕ) × IsRunCommand words folder path)
 
 -- the command opens the folder under this path
 abbrev pub IsFolderOf : List (List ℕ) → List ℕ → Type 0
-IsFolderOf words path = ((families : List FamilyHead) × IsInit words path families) ⊎ ((file : List ℕ) × IsRun words path file)
+IsFolderOf words path = ((families : List FamilyHead) × IsInitCommand words path families) ⊎ ((file : List ℕ) × IsRunCommand words path file)
 
 -- what stands there stays, or is taken out
 abbrev pub StaysOrGoes : Standing → Standing → Type 0

@@ -9,5 +9,8 @@ pub mod Hosts
 pub mod Ready
 pub mod Runs
 pub mod HostRuns
+pub mod Works
 pub mod Ends
+pub mod Completions
+pub mod Refusals
 pub mod Judging

@@ -1,4 +1,4 @@
-//! Tests of the language of clients, by its public calls.
+//! Tests of the language of clients, by its public calls: command files, lines that are no command, and what is printed.
 #![tactic(auto)]
 
 #[cfg(test)]

@@ -1,5 +1,5 @@
 use Rattle.std.proofs.Common.{inr}
-use Rattle.client_runner.proofs.TopLemmas.{said_stop}
+use Rattle.client_runner.proofs.FileLemmas.{said_stop}
 use Rattle.client_runner.proofs.top.try_file.Goals as goal
 
 pub returns-in-Err-clause-ends : goal.returns-in-Err-clause-ends

@@ -1,5 +1,0 @@
-//! Tests of the printer of the language of clients, by its public calls.
-#![tactic(auto)]
-
-#[cfg(test)]
-mod tests;
