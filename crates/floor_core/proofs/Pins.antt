@@ -148,7 +148,7 @@ none_written count = record {
   rising = λ a b i. absurd (omega (arith, i.1));
 }
 
-no_live : (forms : List Form) → [] ≡ flat_map (λ (f : FamilyState). numbers_of f.tables) (map unflushed_family (map new_head forms))
+pub no_live : (forms : List Form) → [] ≡ flat_map (λ (f : FamilyState). numbers_of f.tables) (map unflushed_family (map new_head forms))
 no_live [] = refl
 no_live (form ∷ forms) = no_live forms
 
