@@ -4,6 +4,7 @@ pub mod Numbering
 pub mod Pins
 pub mod Refusing
 pub mod Starts
+pub mod Keeping
 pub mod Admitting
 pub mod Judging
 pub mod Places

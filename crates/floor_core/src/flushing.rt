@@ -125,7 +125,6 @@ fn has_greatest(versions: &[Version]) -> bool
 }
 
 /// The floor that a flush of these versions leaves; `NoMemory` where one of them has the greatest timestamp, which no write gives.
-
 pub(crate) fn floor_over(form: Form, floor: Ts, taken: &[Version]) -> Result<Ts, NoMemory>
     ensures { IfOk result (λ left. left ≡ floor_left form floor taken.now) }
 {

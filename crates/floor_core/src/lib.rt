@@ -11,6 +11,6 @@ mod machine;
 mod parts;
 
 pub use event::{CoreEvent, CoreReply};
-pub use laws::{core_is_safe, core_refuses_exactly, jobs_end_by_their_start};
+pub use laws::{core_is_safe, core_refuses_exactly, jobs_end_by_their_start, numbers_are_kept};
 pub use machine::Core;
 pub use udt_model::{Items, Piece, Row};

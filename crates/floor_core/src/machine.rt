@@ -8,6 +8,7 @@ ghost use Rattle.udt_model.specs.Refusals.{op_refusal, unknown};
 ghost use Rattle.floor_laws.specs.Sound.{lists_of};
 ghost use Rattle.floor_core.specs.Cores.{fresh_core};
 ghost use Rattle.floor_core.specs.Machine.{behind_event, changed_by, has_snapshot as knows, is_accepted, kept_families, kept_family, pin_of, sight_from, told};
+ghost use Rattle.floor_core.specs.Runs.{IsSoundCore, told_from_writes};
 ghost use Rattle.floor_core.specs.Steps.{admitted, compaction_from, find_snap, flush_from, judged, tables_behind};
 
 use crate::compacting::{are_closed, are_new, deeper_spans, input_versions, other_tables, parts};
@@ -21,14 +22,10 @@ use crate::parts::{
 use collection_laws::plain_collect;
 use std::alloc::AllocError;
 use std::marker::Model;
-use ts_key::{Batch, Family, Form, Key, NoMemory, Seq, Ts, Version, WriteOp};
+use ts_key::{
+    Batch, Family, Form, Key, NoMemory, SEQUENCE_LIMIT, SNAPSHOT_LIMIT, Seq, Ts, Version, WriteOp,
+};
 use udt_model::{Items, Piece, Place, plain_newest, plain_read};
-
-/// The last sequence that a version may have.
-const LAST_SEQUENCE: u64 = (1 << 56) - 1;
-
-/// The most snapshots that are registered at once.
-const SNAPSHOT_LIMIT: usize = 1024;
 
 /// The core: the families with their tables, every version that was ever written, the snapshots, the running jobs and the
 /// views. Contracts see it as a `CoreState`.
@@ -73,9 +70,10 @@ fn version_of(op: &WriteOp, sequence: u64) -> Result<Version, NoMemory>
 impl Core {
     /// The core before every event, with families of these forms, whose numbers are their places. `NoMemory` comes where there is
     /// no memory, and for more families than 32 bits number.
-    #[tactic(auto, using(crate::proofs::Begun::fresh_is))]
+    #[tactic(auto, using(crate::proofs::Begun::fresh_is, crate::proofs::Pins::fresh_is_sound))]
     pub fn fresh(forms: Vec<Form>) -> Result<Core, NoMemory>
-        ensures { IfOk result (λ core. core ≡ fresh_core forms.items) }
+        ensures fresh { IfOk result (λ core. core ≡ fresh_core forms.items) }
+        ensures sound { IfOk result IsSoundCore }
     {
         if forms.len() > u32::MAX as usize {
             return Err(AllocError);
@@ -275,7 +273,7 @@ impl Core {
         if self.halted.is_some() {
             return Ok(None);
         }
-        if self.last.0 + ops.len() as u64 > LAST_SEQUENCE {
+        if self.last.0 + ops.len() as u64 > SEQUENCE_LIMIT {
             return Ok(None);
         }
         self.admit(ops)
@@ -725,6 +723,8 @@ impl Core {
         ensures told { IfOk result (λ reply. reply ≡ told self.old event.now) }
         ensures left { OnOk result (self.new ≡ behind_event self.old event.now) }
         ensures kept { OnErr result (self.new ≡ self.old) }
+        ensures sound { IsSoundCore self.old → OnOk result (IsSoundCore self.new) }
+        ensures reads { IsSoundCore self.old → IfOk result (λ reply. reply ≡ told_from_writes self.old event.now) }
     {
         if self.events == u64::MAX {
             return Err(AllocError);
