@@ -10,7 +10,7 @@ use Rattle.ts_key.specs.declared.version.Version.{Version}
 use Rattle.udt_model.specs.declared.reply.KeySpan.{KeySpan}
 use Rattle.udt_model.specs.Orders.{is_in, is_in_some, span_of_key, stored}
 use Rattle.udt_model.specs.Versions.{is_put}
-use Rattle.udt_model.specs.Collecting.{collect, collect_all, cutoff, is_put_below, is_seen, is_useless, seen_of}
+use Rattle.udt_model.specs.Collecting.{collect, collect_all, cutoff, is_put_below, is_ever_seen, is_useless, seen_of}
 use Rattle.udt_model.specs.State.{LiveTable, with_table}
 use Rattle.floor_laws.proofs.Keys.{at_most_itself}
 use Rattle.floor_laws.proofs.Members.{In, filter_every, filter-In}
@@ -53,7 +53,7 @@ pub collect_covered : (vs : List Version) (floor : Ts) (seqs : List Seq) → col
 collect_covered vs floor seqs =
     let kept = seen_of vs floor seqs in
     ap stored (filter_every (λ (v : Version). not (is_useless kept floor (spans vs) v)) kept (λ v i.
-    let j = (filter-In (is_seen vs floor seqs) v vs i).0 in
+    let j = (filter-In (is_ever_seen vs floor seqs) v vs i).0 in
     not_false (is_useless kept floor (spans vs) v) (useful (not (is_put v.op)) (nat_le v.ts.0 floor.0) (is_in_some (spans vs) v.key) (list_any (is_put_below v) kept) (in_own_span vs v j))))
 
 -- ---- places of tables

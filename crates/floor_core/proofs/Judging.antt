@@ -1,8 +1,9 @@
 -- When an event isn't refused.
-use Rattle.std.proofs.Common.{◌≡◌, ℕ, ◌+◌, ◌-◌, ◌^◌, ◌<◌, ◌≤◌, Bool, true, false, ◌&&◌, List, [], ◌∷◌, ◌++◌, length, Option, Some, None, refl, sym, ap, subst, ◌∙◌, arith}
+use Rattle.std.proofs.Common.{◌≡◌, ℕ, ◌+◌, ◌<◌, ◌≤◌, Bool, true, false, ◌&&◌, List, [], ◌∷◌, ◌++◌, length, Option, Some, None, refl, sym, ap, subst, ◌∙◌, arith}
 use Rattle.std.specs.Prelude.{is_none, is_some, nat_lt, option_map, if◌then◌else◌}
 use Rattle.std.proofs.lemmas.Bool.{cases_Bool}
 use Rattle.std.proofs.lemmas.Bool.Decides.{nat_tests}
+use Rattle.ts_key.specs.declared.limits.TheConstants.{SEQUENCE_LIMIT}
 use Rattle.ts_key.specs.declared.batch.WriteOp.{WriteOp}
 use Rattle.ts_key.specs.declared.version.Version.{Version}
 use Rattle.udt_model.specs.declared.reply.Reply.{Reply}
@@ -65,7 +66,7 @@ judged_unknown c ops e = not_judged c ops (taken_by c ops ∙ all_three _ _ _ _ 
 pub judged_halted : (c : CoreState) (ops : List WriteOp) → true ≡ is_some c.store.halted → None ≡ judged c ops
 judged_halted c ops e = not_judged c ops (taken_by c ops ∙ second _ _ _ _ (halt_none c.store.halted ∙ some_none c.store.halted e))
 
-full_none : (m : State) (ops : List WriteOp) (b : Bool) → nat_lt (2 ^ 56 - 1) (m.last.0 + length ops) ≡ b → is_none (full m ops) ≡ (if b then false else true)
+full_none : (m : State) (ops : List WriteOp) (b : Bool) → nat_lt SEQUENCE_LIMIT (m.last.0 + length ops) ≡ b → is_none (full m ops) ≡ (if b then false else true)
 full_none m ops true e = ap (λ b. is_none (if b then Some (Full m.last) else None)) e
 full_none m ops false e = ap (λ b. is_none (if b then Some (Full m.last) else None)) e
 
@@ -75,8 +76,8 @@ is_above a b h = grind (arith, nat_tests)
 isnt_above : (a b : ℕ) → b ≤ a → nat_lt a b ≡ false
 isnt_above a b h = grind (arith, nat_tests)
 
-pub judged_full : (c : CoreState) (ops : List WriteOp) → 2 ^ 56 - 1 < c.store.last.0 + length ops → None ≡ judged c ops
-judged_full c ops lt = not_judged c ops (taken_by c ops ∙ last_one _ _ (full_none c.store ops true (is_above (2 ^ 56 - 1) (c.store.last.0 + length ops) lt)))
+pub judged_full : (c : CoreState) (ops : List WriteOp) → SEQUENCE_LIMIT < c.store.last.0 + length ops → None ≡ judged c ops
+judged_full c ops lt = not_judged c ops (taken_by c ops ∙ last_one _ _ (full_none c.store ops true (is_above SEQUENCE_LIMIT (c.store.last.0 + length ops) lt)))
 
 rest_only : (a b x y : Bool) → a ≡ true → b ≡ true → y ≡ true → (((a && b) && x) && y) ≡ x
 rest_only true true true true p q r = refl
@@ -85,11 +86,11 @@ rest_only true true x false p q r = absurd (cc)
 rest_only true false x y p q r = absurd (cc)
 rest_only false b x y p q r = absurd (cc)
 
-pub judged_admitted : (c : CoreState) (ops : List WriteOp) → false ≡ is_some (unknown c.store ops) → false ≡ is_some c.store.halted → c.store.last.0 + length ops ≤ 2 ^ 56 - 1 → admitted c.store ops ≡ judged c ops
+pub judged_admitted : (c : CoreState) (ops : List WriteOp) → false ≡ is_some (unknown c.store ops) → false ≡ is_some c.store.halted → c.store.last.0 + length ops ≤ SEQUENCE_LIMIT → admitted c.store ops ≡ judged c ops
 judged_admitted c ops u h le =
     let m = c.store in
     sym (ap (λ b. if b then Some (m.versions ++ made m.last.0 ops) else None) (taken_by c ops
-    ∙ rest_only _ _ _ _ (none_none (unknown m ops) u) (halt_none m.halted ∙ none_none m.halted h) (full_none m ops false (isnt_above (2 ^ 56 - 1) (m.last.0 + length ops) le))))
+    ∙ rest_only _ _ _ _ (none_none (unknown m ops) u) (halt_none m.halted ∙ none_none m.halted h) (full_none m ops false (isnt_above SEQUENCE_LIMIT (m.last.0 + length ops) le))))
 
 -- ---- a write, by what it is judged
 

@@ -9,7 +9,7 @@ use Rattle.std.proofs.lemmas.List.{at_drop_more, at_drop_all, append-nil, drop-d
 use Rattle.ts_key.specs.declared.version.Version.{Version}
 use Rattle.udt_model.specs.declared.reply.KeySpan.{KeySpan}
 use Rattle.udt_model.specs.declared.reply.Piece.{Piece}
-use Rattle.udt_model.specs.Orders.{hull_with, joined, meets, span_of, span_of_key}
+use Rattle.udt_model.specs.Orders.{hull_with, meets, span_of, span_of_both, span_of_key}
 use Rattle.udt_model.specs.Jobs.{are_new, are_parts, goes_with, has_number, hull_of, is_ascending, is_cut, is_input, is_wanted, numbers_of_pieces, spans_of, tables_from}
 use Rattle.udt_model.specs.State.{LiveTable}
 use Rattle.floor_core.specs.Steps.{hull_from, hull_of_spans, is_above, may_part, parted, span_of_some, span_with, with_span}
@@ -54,7 +54,7 @@ ascends_all before ns i le inv = sym (at_drop_all (ascends_from before) ns i le 
 
 span_more : (v : Version) (vs : List Version) → span_of (v ∷ vs) ≡ span_with v.key (span_of_some vs)
 span_more v [] = refl
-span_more v (w ∷ vs) = ap (joined (span_of_key v.key)) (span_more w vs)
+span_more v (w ∷ vs) = ap (span_of_both (span_of_key v.key)) (span_more w vs)
 
 pub span_some : (vs : List Version) (span : KeySpan) → Some span ≡ span_of_some vs → span ≡ span_of vs
 span_some [] span e = absurd (cc)
@@ -80,7 +80,7 @@ span_back vs i v lt at =
 
 hull_some : (a : KeySpan) (ss : List KeySpan) → hull_from (Some a) ss ≡ Some (hull_with a ss)
 hull_some a [] = refl
-hull_some a (s ∷ ss) = hull_some (joined a s) ss
+hull_some a (s ∷ ss) = hull_some (span_of_both a s) ss
 
 pub hull_found : (ss : List KeySpan) (hull : KeySpan) → Some hull ≡ hull_from None ss → hull ≡ hull_of_spans ss
 hull_found [] hull e = absurd (cc)

@@ -6,7 +6,7 @@ use Rattle.ts_key.specs.declared.version.Version.{Version}
 use Rattle.udt_model.specs.declared.reply.KeySpan.{KeySpan}
 use Rattle.udt_model.specs.declared.reply.Piece.{Piece}
 use Rattle.udt_model.specs.State.{State, FamilyState, LiveTable, Snap, Flush, Compaction, floor_at, seqs_of, tables_of, with_tables}
-use Rattle.udt_model.specs.Orders.{hull_with, joined, span_of, span_of_key}
+use Rattle.udt_model.specs.Orders.{hull_with, span_of, span_of_both, span_of_key}
 use Rattle.udt_model.specs.Versions.{made}
 use Rattle.udt_model.specs.Refusals.{refused}
 use Rattle.udt_model.specs.Jobs.{are_new, are_parts, compaction_kept, deeper_of, is_cut, is_input, numbers_of_pieces, tables_from}
@@ -60,7 +60,7 @@ is_above (Some before) number = nat_lt before number
 -- the span of a key and of what lies behind it
 abbrev pub span_with : List ℕ → Option KeySpan → KeySpan
 span_with key None = span_of_key key
-span_with key (Some span) = joined (span_of_key key) span
+span_with key (Some span) = span_of_both (span_of_key key) span
 
 -- the span of the keys of versions, where there are some
 abbrev pub span_of_some : List Version → Option KeySpan
@@ -73,7 +73,7 @@ span_of_table t = span_of t.versions
 -- the span of what lies before and of this one
 abbrev pub with_span : Option KeySpan → KeySpan → KeySpan
 with_span None span = span
-with_span (Some a) span = joined a span
+with_span (Some a) span = span_of_both a span
 
 -- the hull of what lies before and of spans
 abbrev pub hull_from : Option KeySpan → List KeySpan → Option KeySpan

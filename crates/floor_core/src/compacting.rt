@@ -3,7 +3,7 @@ ghost use Rattle.std.specs.Prelude.{◌≡◌, ◌≤◌, ◌∷◌, ◌&&◌, �
 ghost use Rattle.std.specs.List.{list_all, list_any};
 ghost use Rattle.std.specs.Str.{bytes_eq};
 ghost use Rattle.udt_model.specs.Jobs.{are_new as have_new, goes_with as goes, has_number, is_amid as amid, is_ascending as ascends, is_input as input, is_wanted, numbers_of_pieces, spans_of};
-ghost use Rattle.udt_model.specs.Orders.{higher_of, joined, lower_of, meets as meet, span_of as spans, span_of_key};
+ghost use Rattle.udt_model.specs.Orders.{higher_of, lower_of, meets as meet, span_of as spans, span_of_both, span_of_key};
 ghost use Rattle.udt_model.specs.State.{numbers_of};
 ghost use Rattle.floor_core.specs.Machine.{are_closed as closed};
 ghost use Rattle.floor_core.specs.Steps.{hull_from, hull_of_spans, is_above, may_part, parted, span_of_some, span_of_table, span_with, with_span};
@@ -131,7 +131,7 @@ fn copy_span(span: &KeySpan) -> Result<KeySpan, NoMemory>
 
 /// The span from the lowest to the highest of both.
 fn join_spans(a: KeySpan, b: KeySpan) -> KeySpan
-    ensures { result ≡ joined a b }
+    ensures { result ≡ span_of_both a b }
 {
     KeySpan {
         low: lower(a.low, b.low),

@@ -1,8 +1,9 @@
 //! The core and its events.
 ghost use Rattle.std.specs.Prelude.{◌≡◌, ℕ, ◌+◌, ◌^◌, ◌<◌, ◌≤◌, is_some, IfOk, OnErr, OnOk, length};
 ghost use Rattle.std.specs.Option.{option_copied};
+ghost use Rattle.ts_key.specs.declared.limits.TheConstants.{BATCH_LIMIT};
 ghost use Rattle.udt_model.specs.State.{family_at, floor_at, form_at, is_registered as registers, place_at, seqs_of, tables_of, through_at};
-ghost use Rattle.udt_model.specs.Jobs.{compaction_kept, flush_floor, flush_kept, has_number, taken as taken_by};
+ghost use Rattle.udt_model.specs.Jobs.{compaction_kept, flush_floor, flush_kept, flush_taken, has_number};
 ghost use Rattle.udt_model.specs.Versions.{version_of as version_made};
 ghost use Rattle.udt_model.specs.Refusals.{op_refusal, unknown};
 ghost use Rattle.floor_laws.specs.Sound.{lists_of};
@@ -246,7 +247,7 @@ impl Core {
 
     /// Every version with those that the operations make, unless one of them is refused over those before it.
     fn admit(&self, ops: &[WriteOp]) -> Result<Option<Items<Version>>, NoMemory>
-        requires { length ops.now ≤ 64 }
+        requires { length ops.now ≤ BATCH_LIMIT }
         ensures { IfOk result (λ found. found ≡ admitted self.now.store ops.now) }
     {
         let last = self.last.0;
@@ -264,7 +265,7 @@ impl Core {
     /// The same, unless the write is refused.
     #[tactic(auto, using(crate::proofs::Judging::judged_unknown, crate::proofs::Judging::judged_halted, crate::proofs::Judging::judged_full, crate::proofs::Judging::judged_admitted))]
     fn judge(&self, ops: &[WriteOp]) -> Result<Option<Items<Version>>, NoMemory>
-        requires { length ops.now ≤ 64 }
+        requires { length ops.now ≤ BATCH_LIMIT }
         ensures { IfOk result (λ found. found ≡ judged self.now ops.now) }
     {
         if self.has_unknown(ops) {
@@ -506,7 +507,7 @@ impl Core {
 
     /// The versions that a flush takes.
     fn taken(&self, job: &CoreFlush) -> Result<Vec<Version>, NoMemory>
-        ensures { IfOk result (λ versions. versions.items ≡ taken_by self.now.store job.now) }
+        ensures { IfOk result (λ versions. versions.items ≡ flush_taken self.now.store job.now) }
     {
         let alloc = *self.versions.allocator();
         let through = self.through(job.family);
