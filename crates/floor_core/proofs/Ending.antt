@@ -1,17 +1,15 @@
--- Ends of jobs, by what they make.
-use Rattle.std.proofs.Common.{◌≡◌, ℕ, zero, suc, ◌+◌, ◌<◌, ◌≤◌, Bool, true, false, not, ◌&&◌, List, [], ◌∷◌, ◌++◌, length, map, Option, Some, None, refl, sym, ap, ◌∙◌, arith}
+-- Ends of compactions, by what they make.
+use Rattle.std.proofs.Common.{◌≡◌, ℕ, zero, suc, ◌+◌, Bool, true, false, not, ◌&&◌, List, [], ◌∷◌, ◌++◌, Option, Some, None, refl, sym, ap, ◌∙◌}
 use Rattle.std.specs.Prelude.{filter, is_none, is_some, option_map, slice_get, if◌then◌else◌}
-use Rattle.ts_key.specs.declared.numbers.Family.{Family}
-use Rattle.ts_key.specs.declared.numbers.Ts.{Ts}
 use Rattle.udt_model.specs.declared.reply.Piece.{Piece}
 use Rattle.udt_model.specs.declared.reply.Reply.TheVariants.{Halted}
-use Rattle.udt_model.specs.State.{State, FamilyState, LiveTable, Flush, Compaction, changed_at, family_at, tables_of, tables_of_family, with_table, with_tables}
-use Rattle.udt_model.specs.Jobs.{are_new, are_parts, compaction_kept, flush_floor, flush_kept, is_input, numbers_of_pieces, tables_from}
-use Rattle.udt_model.specs.Steps.{compacted, flushed, with_compaction}
-use Rattle.floor_core.specs.declared.event.CoreEvent.TheVariants.{CompactEnd, FlushEnd}
+use Rattle.udt_model.specs.State.{FamilyState, LiveTable, Compaction, changed_at, tables_of, tables_of_family, with_table, with_tables}
+use Rattle.udt_model.specs.Jobs.{are_new, are_parts, compaction_kept, is_input, numbers_of_pieces, tables_from}
+use Rattle.udt_model.specs.Steps.{compacted, with_compaction}
+use Rattle.floor_core.specs.declared.event.CoreEvent.TheVariants.{CompactEnd}
 use Rattle.floor_core.specs.declared.event.CoreReply.TheVariants as replies
 use Rattle.floor_core.specs.Cores.{CoreState, with_live_numbers}
-use Rattle.floor_core.specs.Machine.{changed_by, effect, flush_ended, is_accepted, parts_it, told}
+use Rattle.floor_core.specs.Machine.{changed_by, effect, is_accepted, parts_it, told}
 use Rattle.floor_core.specs.Steps.{holding, tables_behind}
 
 -- ---- tables put in
@@ -100,41 +98,6 @@ end_left c job pieces tables h e some =
     ap (λ z. record c { store = with_live_numbers (record c.store { families = z; compaction = None }) }) same
     ∙ ap (λ o. record c { store = with_live_numbers (with_compaction c.store o pieces) }) e
     ∙ sym (ap (λ b. record c { store = if b then with_live_numbers (effect c.store (c.events + 1) (CompactEnd pieces)) else c.store }) (end_accepted c job pieces tables h e some))
-
--- ---- the end of a flush
-
-pub flush_told : (c : CoreState) (table : ℕ) → true ≡ is_accepted c (FlushEnd table) → replies.Done ≡ told c (FlushEnd table)
-flush_told c table e = sym (ap (λ b. if b then replies.Done else replies.Refused) (sym e))
-
-pub flush_refused : (c : CoreState) (table : ℕ) → false ≡ is_accepted c (FlushEnd table) → replies.Refused ≡ told c (FlushEnd table)
-flush_refused c table e = sym (ap (λ b. if b then replies.Done else replies.Refused) (sym e))
-
-pub flush_stays : (c : CoreState) (table : ℕ) → false ≡ is_accepted c (FlushEnd table) → c ≡ changed_by c (FlushEnd table)
-flush_stays c table e = sym (ap (λ b. record c { store = if b then with_live_numbers (effect c.store (c.events + 1) (FlushEnd table)) else c.store }) (sym e))
-
-pub no_flush : (c : CoreState) (table : ℕ) → true ≡ is_accepted c (FlushEnd table) → None ≡ c.store.flush → ⊥
-no_flush c table e none =
-    let m = c.store in
-    on (is_none (option_map Halted m.halted)) (are_new m.used (table ∷ [])) (e ∙ ap (λ o. (is_none (option_map Halted m.halted) && is_some o) && are_new m.used (table ∷ [])) (sym none))
-  where
-    on : (a b : Bool) → true ≡ ((a && false) && b) → ⊥
-    on true b e = cc
-    on false b e = cc
-
-pub flush_idle_told : (c : CoreState) (table : ℕ) → true ≡ is_accepted c (FlushEnd table) → None ≡ c.store.flush → replies.Refused ≡ told c (FlushEnd table)
-flush_idle_told c table y e = absurd (no_flush c table y e)
-
-pub flush_idle_stays : (c : CoreState) (table : ℕ) → true ≡ is_accepted c (FlushEnd table) → None ≡ c.store.flush → c ≡ changed_by c (FlushEnd table)
-flush_idle_stays c table y e = absurd (no_flush c table y e)
-
-pub flush_left : (c : CoreState) (job : Flush) (table : ℕ) (made : LiveTable) (floor : Ts) → true ≡ is_accepted c (FlushEnd table) → Some job ≡ c.store.flush → made ≡ record { number = table; level = 0; versions = flush_kept c.store job } → floor ≡ flush_floor c.store job
-    → record c { store = with_live_numbers (record c.store { families = changed_at job.family.0 (flushed made job.through floor) c.store.families; flush = None }) } ≡ changed_by c (FlushEnd table)
-flush_left c job table made floor y e is left =
-    let m = c.store in
-    ap (λ (t : LiveTable). record c { store = with_live_numbers (record m { families = changed_at job.family.0 (flushed t job.through floor) m.families; flush = None }) }) is
-    ∙ ap (λ (z : Ts). record c { store = with_live_numbers (record m { families = changed_at job.family.0 (flushed (record { number = table; level = 0; versions = flush_kept m job }) job.through z) m.families; flush = None }) }) left
-    ∙ ap (λ o. record c { store = with_live_numbers (flush_ended m o table) }) e
-    ∙ sym (ap (λ b. record c { store = if b then with_live_numbers (effect m (c.events + 1) (FlushEnd table)) else m }) (sym y))
 
 -- the same of a list of families that is known to be that
 pub end_left_by : (c : CoreState) (job : Compaction) (pieces : List Piece) (tables : List LiveTable) (fs : List FamilyState) → fs ≡ changed_at job.family.0 (holding tables) c.store.families

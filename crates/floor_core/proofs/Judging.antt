@@ -4,15 +4,17 @@ use Rattle.std.specs.Prelude.{is_none, is_some, nat_lt, option_map, if◌then◌
 use Rattle.std.proofs.lemmas.Bool.{cases_Bool}
 use Rattle.std.proofs.lemmas.Bool.Decides.{nat_tests}
 use Rattle.ts_key.specs.declared.limits.TheConstants.{SEQUENCE_LIMIT}
+use Rattle.ts_key.specs.declared.numbers.Family.{Family}
+use Rattle.ts_key.specs.declared.numbers.Ts.{Ts}
 use Rattle.ts_key.specs.declared.batch.WriteOp.{WriteOp}
 use Rattle.ts_key.specs.declared.version.Version.{Version}
 use Rattle.udt_model.specs.declared.reply.Reply.{Reply}
 use Rattle.udt_model.specs.declared.reply.Reply.TheVariants.{Full, Halted}
-use Rattle.udt_model.specs.State.{State}
+use Rattle.udt_model.specs.State.{State, live_numbers}
 use Rattle.udt_model.specs.Versions.{made}
 use Rattle.udt_model.specs.Refusals.{full, halt, refused, unknown, ◌or_else◌}
 use Rattle.floor_core.specs.declared.event.CoreEvent.{CoreEvent}
-use Rattle.floor_core.specs.declared.event.CoreEvent.TheVariants.{Write}
+use Rattle.floor_core.specs.declared.event.CoreEvent.TheVariants.{Write, Get, PinnedGet}
 use Rattle.floor_core.specs.Cores.{CoreState, PinnedView, with_live_numbers}
 use Rattle.floor_core.specs.declared.event.CoreReply.TheVariants as replies
 use Rattle.floor_core.specs.Machine.{changed_by, effect, is_accepted, pinned_too, store_behind, told}
@@ -135,3 +137,12 @@ event_leaves c e same pins =
     let of_store : State → CoreState = λ m. record { store = m; pins = pinned_too c e; events = c.events } in
     let of_views : List PinnedView → CoreState = λ vs. record { store = c.store; pins = vs; events = c.events } in
     sym (ap of_store (if_same (is_accepted c e) (with_live_numbers (effect c.store (c.events + 1) e)) c.store same) ∙ ap of_views pins)
+
+live_already : (m : State) → m.used ≡ live_numbers m → with_live_numbers m ≡ m
+live_already m e = ap (λ (z : List ℕ). record m { used = z }) (sym e)
+
+pub get_leaves : (c : CoreState) (family : Family) (key : List ℕ) (t : Ts) (snap : Option ℕ) → c.store.used ≡ live_numbers c.store → c ≡ changed_by c (Get family key t snap)
+get_leaves c family key t snap e = event_leaves c (Get family key t snap) (live_already c.store e) refl
+
+pub pinned_get_leaves : (c : CoreState) (pin : ℕ) (family : Family) (key : List ℕ) (t : Ts) (snap : Option ℕ) → c.store.used ≡ live_numbers c.store → c ≡ changed_by c (PinnedGet pin family key t snap)
+pinned_get_leaves c pin family key t snap e = event_leaves c (PinnedGet pin family key t snap) (live_already c.store e) refl

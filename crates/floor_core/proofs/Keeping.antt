@@ -49,14 +49,14 @@ found_left p q (x ∷ xs) s passes h =
     let P : Bool → Type 0 = λ b. find p (cond b (x ∷ filter q xs) (filter q xs)) ≡ Some s in
     elim (cases_Bool (p x)) [
       | inl y ↦
-      let here : Some x ≡ Some s = sym (ap (λ b. cond b (Some x) (find p xs)) y) ∙ h in
-      subst P (sym (passes x y)) (ap (λ b. cond b (Some x) (find p (filter q xs))) y ∙ here)
+          let here : Some x ≡ Some s = sym (ap (λ b. cond b (Some x) (find p xs)) y) ∙ h in
+          subst P (sym (passes x y)) (ap (λ b. cond b (Some x) (find p (filter q xs))) y ∙ here)
       | inr n ↦
-      let rest : find p (filter q xs) ≡ Some s = found_left p q xs s passes (sym (ap (λ b. cond b (Some x) (find p xs)) n) ∙ h) in
-      elim (cases_Bool (q x)) [
-        | inl y ↦ subst P (sym y) (ap (λ b. cond b (Some x) (find p (filter q xs))) n ∙ rest)
-        | inr m ↦ subst P (sym m) rest
-      ]
+          let rest : find p (filter q xs) ≡ Some s = found_left p q xs s passes (sym (ap (λ b. cond b (Some x) (find p xs)) n) ∙ h) in
+          elim (cases_Bool (q x)) [
+            | inl y ↦ subst P (sym y) (ap (λ b. cond b (Some x) (find p (filter q xs))) n ∙ rest)
+            | inr m ↦ subst P (sym m) rest
+          ]
     ]
 
 other_number : (a k id : ℕ) → not (id == k) ≡ true → (a == k) ≡ true → not (a == id) ≡ true

@@ -1,5 +1,5 @@
 -- Snapshots, views, jobs and the halt keep the numbers of their events.
-use Rattle.std.proofs.Common.{◌≡◌, ℕ, ◌+◌, ◌<◌, ◌≤◌, Bool, List, [], ◌∷◌, Option, Some, None, refl, sym, subst, inl, inr, arith, get_or, zero, suc}
+use Rattle.std.proofs.Common.{◌≡◌, ℕ, ◌+◌, ◌<◌, ◌≤◌, Bool, true, List, [], ◌∷◌, Option, Some, None, refl, sym, subst, inl, inr, arith, get_or, zero, suc}
 use Rattle.std.specs.Prelude.{All, AllPairs, ◌==◌, if◌then◌else◌, not, option_map, unwrap_or, length}
 use Rattle.std.proofs.lemmas.Bool.{cases_Bool}
 use Rattle.std.proofs.lemmas.List.Elements.{All-append, All-cons, All-filter, All-nil}

@@ -9,7 +9,7 @@ ghost use Rattle.floor_core.specs.Machine.{are_closed as closed};
 ghost use Rattle.floor_core.specs.Steps.{hull_from, hull_of_spans, is_above, may_part, parted, span_of_some, span_of_table, span_with, with_span};
 
 use crate::lists::append;
-use crate::parts::CoreTable;
+use crate::parts::{CoreTable, has_table};
 use std::alloc::{AllocError, Global};
 use ts_key::{Key, NoMemory, Version};
 use udt_model::{Items, KeySpan, Piece};
@@ -31,11 +31,10 @@ fn is_input(inputs: &[u64], t: &CoreTable) -> bool
 }
 
 /// Whether a table has the number.
-#[tactic(auto, using(crate::proofs::Places::has_mapped))]
 fn is_table(tables: &[CoreTable], number: u64) -> bool
     ensures { result ≡ has_number (numbers_of tables.now) number }
 {
-    tables.iter().any(|t| t.number == number)
+    has_table(tables, number)
 }
 
 /// Whether each number is that of a table.

@@ -71,10 +71,18 @@ fn version_of(op: &WriteOp, sequence: u64) -> Result<Version, NoMemory>
 impl Core {
     /// The core before every event, with families of these forms, whose numbers are their places. `NoMemory` comes where there is
     /// no memory, and for more families than 32 bits number.
-    #[tactic(auto, using(crate::proofs::Begun::fresh_is, crate::proofs::Pins::fresh_is_sound))]
     pub fn fresh(forms: Vec<Form>) -> Result<Core, NoMemory>
         ensures fresh { IfOk result (λ core. core ≡ fresh_core forms.items) }
         ensures sound { IfOk result IsSoundCore }
+    {
+        let core = Core::begun(forms)?;
+        Ok(core)
+    }
+
+    /// The core before every event, of which it isn't said yet that it is sound.
+    #[tactic(auto, using(crate::proofs::Begun::fresh_is))]
+    fn begun(forms: Vec<Form>) -> Result<Core, NoMemory>
+        ensures { IfOk result (λ core. core ≡ fresh_core forms.items) }
     {
         if forms.len() > u32::MAX as usize {
             return Err(AllocError);
@@ -161,6 +169,7 @@ impl Core {
         Ok(lists)
     }
 
+    #[tactic(auto, using(crate::proofs::Judging::get_leaves))]
     fn get(
         &self,
         family: Family,
@@ -168,15 +177,17 @@ impl Core {
         t: Ts,
         snap: Option<u64>,
     ) -> Result<CoreReply, NoMemory>
-        ensures { IfOk result (λ reply. reply ≡ told self.now (CoreEvent.Get family key.now t snap)) }
+        ensures told { IfOk result (λ reply. reply ≡ told self.now (CoreEvent.Get family key.now t snap)) }
+        ensures left { self.now ≡ changed_by self.now (CoreEvent.Get family key.now t snap) }
     {
+        let last = self.last;
         let Some(f) = self.family(family) else {
             return Ok(CoreReply::Refused);
         };
         if !self.has_snapshot(snap) {
             return Ok(CoreReply::Refused);
         }
-        let s = self.sight(self.last, snap);
+        let s = self.sight(last, snap);
         let lists = self.lists(family, f)?;
         let alloc = *lists.allocator();
         let read = plain_read(alloc, &lists, f.floor, family, key.bytes(), t, s)?;
@@ -190,6 +201,7 @@ impl Core {
         self.pins.iter().find(|v| v.number == pin)
     }
 
+    #[tactic(auto, using(crate::proofs::Judging::pinned_get_leaves))]
     fn pinned_get(
         &self,
         pin: u64,
@@ -198,8 +210,10 @@ impl Core {
         t: Ts,
         snap: Option<u64>,
     ) -> Result<CoreReply, NoMemory>
-        ensures { IfOk result (λ reply. reply ≡ told self.now (CoreEvent.PinnedGet pin family key.now t snap)) }
+        ensures told { IfOk result (λ reply. reply ≡ told self.now (CoreEvent.PinnedGet pin family key.now t snap)) }
+        ensures left { self.now ≡ changed_by self.now (CoreEvent.PinnedGet pin family key.now t snap) }
     {
+        let alloc = *self.versions.allocator();
         let Some(view) = self.pin_of(pin) else {
             return Ok(CoreReply::Refused);
         };
@@ -210,7 +224,6 @@ impl Core {
             return Ok(CoreReply::Refused);
         }
         let s = self.sight(view.last, snap);
-        let alloc = *self.versions.allocator();
         let read = plain_read(alloc, &f.versions, f.floor, family, key.bytes(), t, s)?;
         Ok(CoreReply::Read(read))
     }
@@ -726,6 +739,16 @@ impl Core {
         ensures kept { OnErr result (self.new ≡ self.old) }
         ensures sound { IsSoundCore self.old → OnOk result (IsSoundCore self.new) }
         ensures reads { IsSoundCore self.old → IfOk result (λ reply. reply ≡ told_from_writes self.old event.now) }
+    {
+        let reply = self.count(event)?;
+        Ok(reply)
+    }
+
+    /// The reply to an event, which is counted; of a core of which it isn't known that it is sound.
+    fn count(&mut self, event: &CoreEvent) -> Result<CoreReply, NoMemory>
+        ensures told { IfOk result (λ reply. reply ≡ told self.old event.now) }
+        ensures left { OnOk result (self.new ≡ behind_event self.old event.now) }
+        ensures kept { OnErr result (self.new ≡ self.old) }
     {
         if self.events == u64::MAX {
             return Err(AllocError);

@@ -189,11 +189,18 @@ pub(crate) fn other_snaps(
     Ok(kept)
 }
 
+/// Whether one of the tables has this number.
+pub(crate) fn has_table(tables: &[CoreTable], table: u64) -> bool
+    ensures { result ≡ list_any (λ t. t.number == table) tables.now }
+{
+    tables.iter().any(|t| t.number == table)
+}
+
 /// Whether a table of the family has this number.
 fn holds(f: &CoreFamily, table: u64) -> bool
     ensures { result ≡ list_any (λ t. t.number == table) f.now.tables }
 {
-    f.tables.iter().any(|t| t.number == table)
+    has_table(&f.tables, table)
 }
 
 /// Whether a table of some family has this number.
