@@ -1,13 +1,12 @@
 -- Writes, operation by operation.
-use Rattle.std.proofs.Common.{◌≡◌, ℕ, zero, suc, ◌+◌, ◌<◌, ◌≤◌, Bool, true, false, ◌&&◌, List, [], ◌∷◌, ◌++◌, length, get_or, drop, Option, Some, None, refl, sym, ap, subst, ◌∙◌, arith, append_assoc}
+use Rattle.std.proofs.Common.{◌≡◌, ℕ, ◌+◌, ◌<◌, ◌≤◌, true, false, List, [], ◌∷◌, ◌++◌, length, get_or, drop, Option, Some, None, refl, sym, ap, ◌∙◌, arith, append_assoc}
 use Rattle.std.specs.Prelude.{is_none, is_some, option_map, if◌then◌else◌}
 use Rattle.std.proofs.lemmas.List.{at_drop_more, at_drop_all, append-nil}
 use Rattle.ts_key.specs.declared.batch.WriteOp.{WriteOp}
 use Rattle.ts_key.specs.declared.version.Version.{Version}
-use Rattle.udt_model.specs.declared.reply.Reply.{Reply}
 use Rattle.udt_model.specs.declared.reply.Reply.TheVariants.{Unknown}
 use Rattle.udt_model.specs.State.{State, FamilyState, family_at, place_at, place_of_family}
-use Rattle.udt_model.specs.Versions.{logged, made, version_of}
+use Rattle.udt_model.specs.Versions.{made, version_of}
 use Rattle.udt_model.specs.Refusals.{op_refusal, refused, unknown, unknown_place, ◌or_else◌}
 use Rattle.floor_core.specs.Steps.{admitted}
 

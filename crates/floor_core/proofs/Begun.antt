@@ -2,7 +2,7 @@
 use Rattle.std.proofs.Common.{◌≡◌, ℕ, List, [], map, None, sym, ap, ◌∙◌}
 use Rattle.std.specs.Prelude.{flat_map}
 use Rattle.ts_key.specs.declared.version.Form.{Form}
-use Rattle.udt_model.specs.State.{State, FamilyState, numbers_of, unflushed_family}
+use Rattle.udt_model.specs.State.{FamilyState, numbers_of, unflushed_family}
 use Rattle.floor_core.specs.Cores.{CoreState, fresh_core, new_head}
 use Rattle.floor_core.proofs.Pins.{no_live}
 

@@ -1,7 +1,6 @@
 -- When an event isn't refused.
-use Rattle.std.proofs.Common.{◌≡◌, ℕ, ◌+◌, ◌<◌, ◌≤◌, Bool, true, false, ◌&&◌, List, [], ◌∷◌, ◌++◌, length, Option, Some, None, refl, sym, ap, subst, ◌∙◌, arith}
+use Rattle.std.proofs.Common.{◌≡◌, ℕ, ◌+◌, ◌<◌, ◌≤◌, Bool, true, false, ◌&&◌, List, ◌++◌, length, Option, Some, None, refl, sym, ap, ◌∙◌, arith}
 use Rattle.std.specs.Prelude.{is_none, is_some, nat_lt, option_map, if◌then◌else◌}
-use Rattle.std.proofs.lemmas.Bool.{cases_Bool}
 use Rattle.std.proofs.lemmas.Bool.Decides.{nat_tests}
 use Rattle.ts_key.specs.declared.limits.TheConstants.{SEQUENCE_LIMIT}
 use Rattle.ts_key.specs.declared.numbers.Family.{Family}
@@ -17,7 +16,7 @@ use Rattle.floor_core.specs.declared.event.CoreEvent.{CoreEvent}
 use Rattle.floor_core.specs.declared.event.CoreEvent.TheVariants.{Write, Get, PinnedGet}
 use Rattle.floor_core.specs.Cores.{CoreState, PinnedView, with_live_numbers}
 use Rattle.floor_core.specs.declared.event.CoreReply.TheVariants as replies
-use Rattle.floor_core.specs.Machine.{changed_by, effect, is_accepted, pinned_too, store_behind, told}
+use Rattle.floor_core.specs.Machine.{changed_by, effect, is_accepted, pinned_too, told}
 use Rattle.floor_core.specs.Steps.{admitted, judged}
 
 none_or : (a b : Option Reply) → is_none (a or_else b) ≡ (is_none a && is_none b)

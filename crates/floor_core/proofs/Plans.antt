@@ -1,18 +1,18 @@
 -- What compactions take and make.
-use Rattle.std.proofs.Common.{◌≡◌, ◌⊎◌, ℕ, zero, suc, ◌+◌, ◌-◌, ◌<◌, ◌≤◌, Bool, true, false, not, ◌&&◌, ◌||◌, List, [], ◌∷◌, ◌++◌, length, map, get_or, take, drop, Option, Some, None, refl, sym, ap, subst, ◌∙◌, inl, inr, arith, append_assoc}
-use Rattle.std.specs.Prelude.{filter, flat_map, nat_le, nat_lt, ◌==◌, if◌then◌else◌, is_none, option_map}
+use Rattle.std.proofs.Common.{◌≡◌, ℕ, zero, suc, ◌+◌, ◌-◌, ◌<◌, ◌≤◌, Bool, true, false, not, ◌&&◌, ◌||◌, List, [], ◌∷◌, ◌++◌, length, get_or, take, drop, Option, Some, None, refl, sym, ap, ◌∙◌, inl, inr, arith, append_assoc}
+use Rattle.std.specs.Prelude.{filter, nat_le, nat_lt, ◌==◌, if◌then◌else◌}
 use Rattle.std.specs.List.{list_all, list_any}
 use Rattle.std.specs.Str.{bytes_eq}
-use Rattle.std.proofs.lemmas.Bool.{cases_Bool, and_parts}
+use Rattle.std.proofs.lemmas.Bool.{cases_Bool}
 use Rattle.std.proofs.lemmas.Bool.Decides.{nat_tests}
-use Rattle.std.proofs.lemmas.List.{at_drop_more, at_drop_all, append-nil, drop-drop, length-drop, get_or-drop}
+use Rattle.std.proofs.lemmas.List.{at_drop_more, at_drop_all, append-nil, drop-drop, length-drop}
 use Rattle.ts_key.specs.declared.version.Version.{Version}
 use Rattle.udt_model.specs.declared.reply.KeySpan.{KeySpan}
 use Rattle.udt_model.specs.declared.reply.Piece.{Piece}
 use Rattle.udt_model.specs.Orders.{hull_with, meets, span_of, span_of_both, span_of_key}
 use Rattle.udt_model.specs.Jobs.{are_new, are_parts, goes_with, has_number, hull_of, is_ascending, is_cut, is_input, is_wanted, numbers_of_pieces, spans_of, tables_from}
 use Rattle.udt_model.specs.State.{LiveTable}
-use Rattle.floor_core.specs.Steps.{hull_from, hull_of_spans, is_above, may_part, parted, span_of_some, span_with, with_span}
+use Rattle.floor_core.specs.Steps.{hull_from, hull_of_spans, is_above, may_part, parted, span_of_some, span_with}
 
 -- ---- ascending numbers
 

@@ -1,5 +1,5 @@
-use Rattle.std.proofs.Common.{◌≡◌, ◌++◌, ◌&&◌, drop}
-use Rattle.std.specs.Prelude.{◌==◌, filter, nat_le, nat_lt}
+use Rattle.std.proofs.Common.{◌≡◌, ◌++◌, drop}
+use Rattle.std.specs.Prelude.{filter, nat_le}
 use Rattle.udt_model.specs.Versions.{up_to}
 use Rattle.floor_core.proofs.lists.first_of.Given as goal
 
