@@ -4,4 +4,13 @@ pub mod Numbering
 pub mod Pins
 pub mod Refusing
 pub mod Starts
+pub mod Keeping
+pub mod Admitting
+pub mod Judging
+pub mod Places
+pub mod Flushes
+pub mod Picked
+pub mod Plans
+pub mod Ending
+pub mod Begun
 pub mod CoreRows

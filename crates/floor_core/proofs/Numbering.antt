@@ -1,5 +1,5 @@
 -- Snapshots, views, jobs and the halt keep the numbers of their events.
-use Rattle.std.proofs.Common.{◌≡◌, ℕ, ◌+◌, ◌<◌, ◌≤◌, Bool, List, [], ◌∷◌, Option, Some, None, refl, sym, subst, inl, inr, arith, get_or, zero, suc}
+use Rattle.std.proofs.Common.{◌≡◌, ℕ, ◌+◌, ◌<◌, ◌≤◌, Bool, true, List, [], ◌∷◌, Option, Some, None, refl, sym, subst, inl, inr, arith, get_or, zero, suc}
 use Rattle.std.specs.Prelude.{All, AllPairs, ◌==◌, if◌then◌else◌, not, option_map, unwrap_or, length}
 use Rattle.std.proofs.lemmas.Bool.{cases_Bool}
 use Rattle.std.proofs.lemmas.List.Elements.{All-append, All-cons, All-filter, All-nil}
@@ -24,11 +24,11 @@ at_In (x ∷ xs) (suc k) d h = inr (at_In xs k d (omega arith))
 
 -- ---- snapshots
 
-snaps_flushed : (m : State) (o : Option Flush) (table : ℕ) → (flush_ended m o table).snaps ≡ m.snaps
+pub snaps_flushed : (m : State) (o : Option Flush) (table : ℕ) → (flush_ended m o table).snaps ≡ m.snaps
 snaps_flushed m None table = refl
 snaps_flushed m (Some job) table = refl
 
-snaps_compacted : (m : State) (o : Option Compaction) (pieces : List Piece) → (with_compaction m o pieces).snaps ≡ m.snaps
+pub snaps_compacted : (m : State) (o : Option Compaction) (pieces : List Piece) → (with_compaction m o pieces).snaps ≡ m.snaps
 snaps_compacted m None pieces = refl
 snaps_compacted m (Some job) pieces = refl
 
@@ -145,10 +145,14 @@ halted_effect n m (CompactEnd pieces) h = halted_compacted n m m.compaction piec
 halted_effect n m e h = h
 
 -- what holds of the store, and of what an accepted event makes of it, holds of the store behind an event
-store_has : (P : State → Type 0) (c : CoreState) (e : CoreEvent) → P c.store → P (with_live_numbers (effect c.store (c.events + 1) e)) → P (store_behind c e)
+pub store_has : (P : State → Type 0) (c : CoreState) (e : CoreEvent) → P c.store → P (with_live_numbers (effect c.store (c.events + 1) e)) → P (store_behind c e)
 store_has P c e old new =
     let Q : Bool → Type 0 = λ b. P (if b then with_live_numbers (effect c.store (c.events + 1) e) else c.store) in
     elim (cases_Bool (is_accepted c e)) [ inl y ↦ subst Q (sym y) new | inr y ↦ subst Q (sym y) old ]
+
+-- what holds of what an accepted event makes of the store holds of the store behind it
+pub accepted_has : (P : State → Type 0) (c : CoreState) (e : CoreEvent) → is_accepted c e ≡ true → P (with_live_numbers (effect c.store (c.events + 1) e)) → P (store_behind c e)
+accepted_has P c e y new = subst (λ (b : Bool). P (if b then with_live_numbers (effect c.store (c.events + 1) e) else c.store)) (sym y) new
 
 pub numbered_behind : (c : CoreState) (e : CoreEvent) → AreNumbered c → AreNumbered (behind_event c e)
 numbered_behind c e h =

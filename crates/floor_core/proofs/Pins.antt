@@ -26,10 +26,11 @@ use Rattle.floor_laws.proofs.Taking.{logged_above}
 use Rattle.floor_laws.proofs.Reopening.{find-In, sound_fresh, sound_opened, sound_reads}
 use Rattle.floor_core.specs.declared.event.CoreEvent.{CoreEvent}
 use Rattle.floor_core.specs.declared.event.CoreEvent.TheVariants.{Write, Get, Pin, PinnedGet, FlushEnd, CompactEnd}
+use Rattle.floor_core.specs.declared.event.CoreReply.{CoreReply}
 use Rattle.floor_core.specs.declared.event.CoreReply.TheVariants as replies
 use Rattle.floor_core.specs.Cores.{CoreState, PinnedFamily, PinnedView, fresh_core, new_head, with_live_numbers}
 use Rattle.floor_core.specs.Machine.{behind_event, effect, flush_ended, has_family, has_snapshot, is_accepted, kept_families, kept_family, pin_of, pinned_too, read_kept, read_lists, read_pin, sight_from, store_behind, told, view_now}
-use Rattle.floor_core.specs.Runs.{AreNumbered, IsOpenedCore, IsSoFar, IsSoundCore, IsSoundView, behind_all, got_at_pin, got_from_writes, read_writes}
+use Rattle.floor_core.specs.Runs.{AreNumbered, IsOpenedCore, IsSoFar, IsSoundCore, IsSoundView, behind_all, got_at_pin, got_from_writes, read_first, read_to_pin, read_writes, told_from_writes}
 use Rattle.floor_core.proofs.Legal.{sound_behind}
 use Rattle.floor_core.proofs.Numbering.{numbered_behind, snaps_behind, used_behind}
 
@@ -148,7 +149,7 @@ none_written count = record {
   rising = λ a b i. absurd (omega (arith, i.1));
 }
 
-no_live : (forms : List Form) → [] ≡ flat_map (λ (f : FamilyState). numbers_of f.tables) (map unflushed_family (map new_head forms))
+pub no_live : (forms : List Form) → [] ≡ flat_map (λ (f : FamilyState). numbers_of f.tables) (map unflushed_family (map new_head forms))
 no_live [] = refl
 no_live (form ∷ forms) = no_live forms
 
@@ -193,7 +194,7 @@ gets_answer c es i key t snap h =
 
 -- ---- views stay
 
-find_kept : (p : PinnedView → Bool) (xs ys : List PinnedView) (v : PinnedView) → find p xs ≡ Some v → find p (xs ++ ys) ≡ Some v
+pub find_kept : {X : Type 0} (p : X → Bool) (xs ys : List X) (v : X) → find p xs ≡ Some v → find p (xs ++ ys) ≡ Some v
 find_kept p [] ys v h = absurd (cc)
 find_kept p (x ∷ xs) ys v h = on (p x) (find_kept p xs ys v) h
   where
@@ -201,7 +202,7 @@ find_kept p (x ∷ xs) ys v h = on (p x) (find_kept p xs ys v) h
     on true rest h = h
     on false rest h = rest h
 
-find_last : (p : PinnedView → Bool) (xs : List PinnedView) (v : PinnedView) → ((x : PinnedView) → In x xs → p x ≡ false) → p v ≡ true → find p (xs ++ v ∷ []) ≡ Some v
+pub find_last : {X : Type 0} (p : X → Bool) (xs : List X) (v : X) → ((x : X) → In x xs → p x ≡ false) → p v ≡ true → find p (xs ++ v ∷ []) ≡ Some v
 find_last p [] v none y = ap (λ b. cond b (Some v) None) y
 find_last p (x ∷ xs) v none y = ap (λ b. cond b (Some x) (find p (xs ++ v ∷ []))) (none x (inl refl)) ∙ find_last p xs v (λ z i. none z (inr i)) y
 
@@ -213,10 +214,10 @@ view_stays : (c : CoreState) (es : List CoreEvent) (p : PinnedView → Bool) (v 
 view_stays c [] p v h = h
 view_stays c (e ∷ es) p v h = view_stays (behind_event c e) es p v (view_kept c e p v h)
 
-not_equal : (a n : ℕ) → a ≤ n → (a == (n + 1)) ≡ false
+pub not_equal : (a n : ℕ) → a ≤ n → (a == (n + 1)) ≡ false
 not_equal a n h = grind (arith, nat_tests)
 
-equal : (n : ℕ) → (n == n) ≡ true
+pub equal : (n : ℕ) → (n == n) ≡ true
 equal n = grind (arith, nat_tests)
 
 view_made : (c : CoreState) → IsSoundCore c → find (λ (v : PinnedView). v.number == (c.events + 1)) (behind_event c Pin).pins ≡ Some (view_now c.store (c.events + 1))
@@ -248,6 +249,15 @@ kept_reads : (m : State) (v : PinnedView) (i : Family) (g : PinnedFamily) (key :
     → read g.versions g.floor i key t (sight_from m v.last snap) ≡ read (up_to v.last.0 m.versions) g.floor i key t (sight_from m v.last snap)
 kept_reads m v i g key t snap h at = read_same i g.form g.versions (up_to v.last.0 m.versions) g.floor v.seqs key t (sight_from m v.last snap) (h.families i g at) (sight_in m v snap h)
 
+kept_first : (m : State) (v : PinnedView) (i : Family) (o : Option PinnedFamily) (key : List ℕ) (t : Ts) (snap : Option ℕ) → IsSoundView m v → slice_get v.families i.0 ≡ o
+    → read_kept i o key t (sight_from m v.last snap) ≡ read_first m v i o key t (sight_from m v.last snap)
+kept_first m v i None key t snap h at = refl
+kept_first m v i (Some g) key t snap h at = ap replies.Read (kept_reads m v i g key t snap h at)
+
+pin_first : (m : State) (o : Option PinnedView) (i : Family) (key : List ℕ) (t : Ts) (snap : Option ℕ) → ((v : PinnedView) → o ≡ Some v → IsSoundView m v) → read_pin m o i key t snap ≡ read_to_pin m o i key t snap
+pin_first m None i key t snap h = refl
+pin_first m (Some v) i key t snap h = kept_first m v i (slice_get v.families i.0) key t snap (h v refl) refl
+
 pinned_same : (at now : State) (number : ℕ) (i : Family) (o : Option FamilyState) (key : List ℕ) (t : Ts) (snap : Option ℕ)
     → family_at at i ≡ o → up_to at.last.0 now.versions ≡ at.versions → IsSoundView now (view_now at number)
     → (if is_some (option_map (kept_family at i) o) && has_snapshot now snap then read_kept i (option_map (kept_family at i) o) key t (sight_from now at.last snap) else replies.Refused)
@@ -272,3 +282,23 @@ pinned_gets_answer c es i key t snap h =
     ap (λ o. if has_family o i && has_snapshot d.store snap then read_pin d.store o i key t snap else replies.Refused) found
     ∙ ap (λ o. if is_some o && has_snapshot d.store snap then read_kept i o key t s else replies.Refused) (kept_is c.store (c.events + 1) i)
     ∙ pinned_same c.store d.store (c.events + 1) i (family_at c.store i) key t snap refl list sound
+
+-- ---- replies
+
+pub reads_answer : (c : CoreState) (e : CoreEvent) → IsSoundCore c → told c e ≡ told_from_writes c e
+reads_answer c (Get i key t snap) h = gets_answer c [] i key t snap h
+reads_answer c (PinnedGet pin i key t snap) h =
+    let sound : (v : PinnedView) → pin_of c pin ≡ Some v → IsSoundView c.store v = λ v e. All-In (IsSoundView c.store) c.pins v h.views (find_In (λ (z : PinnedView). z.number == pin) c.pins v e) in
+    ap (λ z. if has_family (pin_of c pin) i && has_snapshot c.store snap then z else replies.Refused) (pin_first c.store (pin_of c pin) i key t snap sound)
+reads_answer c e h = refl
+
+-- ---- a step of the core in code
+
+pub fresh_is_sound : (core : CoreState) (forms : List Form) → core ≡ fresh_core forms → IsSoundCore core
+fresh_is_sound core forms e = subst IsSoundCore (sym e) (fresh_sound forms)
+
+pub step_is_sound : (before behind : CoreState) (event : CoreEvent) → behind ≡ behind_event before event → IsSoundCore before → IsSoundCore behind
+step_is_sound before behind event e h = subst IsSoundCore (sym e) (sound_all before (event ∷ []) h)
+
+pub step_reads : (before : CoreState) (event : CoreEvent) (reply : CoreReply) → reply ≡ told before event → IsSoundCore before → reply ≡ told_from_writes before event
+step_reads before event reply e h = e ∙ reads_answer before event h

@@ -1,21 +1,23 @@
 -- A running job stays what its start made it.
-use Rattle.std.proofs.Common.{◌≡◌, ℕ, ◌+◌, Bool, true, false, List, [], ◌∷◌, Option, Some, None, refl, sym, subst, ◌∙◌, inl, inr}
+use Rattle.std.proofs.Common.{◌≡◌, ℕ, ◌+◌, Bool, true, false, List, [], ◌∷◌, Option, Some, None, refl, sym, ap, subst, ◌∙◌, inl, inr}
 use Rattle.std.specs.Prelude.{All, is_none, option_map, if◌then◌else◌}
 use Rattle.std.proofs.lemmas.Bool.{cases_Bool, and_parts}
 use Rattle.ts_key.specs.declared.numbers.Family.{Family}
 use Rattle.udt_model.specs.declared.reply.Piece.{Piece}
 use Rattle.udt_model.specs.declared.reply.Reply.{Reply}
 use Rattle.udt_model.specs.declared.reply.Reply.TheVariants.{Busy}
-use Rattle.udt_model.specs.State.{State, Flush, Compaction, floor_at, seqs_of}
+use Rattle.udt_model.specs.Collecting.{collect, collect_all}
+use Rattle.udt_model.specs.State.{State, Flush, Compaction, changed_at, floor_at, form_at, seqs_of}
 use Rattle.udt_model.specs.Refusals.{busy, halt, unknown_family, ◌or_else◌}
-use Rattle.udt_model.specs.Jobs.{deeper_of}
-use Rattle.udt_model.specs.Steps.{with_compaction}
+use Rattle.udt_model.specs.Jobs.{deeper_of, flush_floor, flush_taken, in_form, inputs_hold, tables_from}
+use Rattle.udt_model.specs.Steps.{compacted, flushed, with_compaction}
 use Rattle.floor_laws.proofs.Members.{In, All-In}
 use Rattle.floor_core.specs.declared.event.CoreEvent.{CoreEvent}
 use Rattle.floor_core.specs.declared.event.CoreEvent.TheVariants.{FlushStart, FlushEnd, FlushDrop, CompactStart, CompactEnd, CompactDrop}
 use Rattle.floor_core.specs.Cores.{CoreState, with_live_numbers}
 use Rattle.floor_core.specs.Machine.{behind_event, flush_ended, is_accepted, effect}
 use Rattle.floor_core.specs.Runs.{behind_all, ends_compaction, ends_flush}
+use Rattle.floor_core.proofs.Numbering.{accepted_has}
 
 -- ---- refused while it runs
 
@@ -97,3 +99,21 @@ pub compactions_end : (c : CoreState) (i : Family) (inputs : List ℕ) (level : 
 compactions_end c i inputs level es y n =
     let P : Bool → Type 0 = λ b. (if b then with_live_numbers (effect c.store (c.events + 1) (CompactStart i inputs level)) else c.store).compaction ≡ Some (compaction_made c i inputs level) in
     compaction_stays (behind_event c (CompactStart i inputs level)) es (compaction_made c i inputs level) (λ e j. All-In (λ (x : CoreEvent). ends_compaction x ≡ false) es e n j) (subst P (sym y) refl)
+
+-- ---- ends
+
+pub flush_makes : (c : CoreState) (job : Flush) (table : ℕ) → c.store.flush ≡ Some job → is_accepted c (FlushEnd table) ≡ true
+    → let kept = in_form (form_at c.store job.family) (collect_all (flush_taken c.store job) job.floor job.seqs) in
+    (behind_event c (FlushEnd table)).store.families ≡ changed_at job.family.0 (flushed (record { number = table; level = 0; versions = kept }) job.through (flush_floor c.store job)) c.store.families
+flush_makes c job table e y =
+    let kept = in_form (form_at c.store job.family) (collect_all (flush_taken c.store job) job.floor job.seqs) in
+    let families = changed_at job.family.0 (flushed (record { number = table; level = 0; versions = kept }) job.through (flush_floor c.store job)) c.store.families in
+    accepted_has (λ (m : State). m.families ≡ families) c (FlushEnd table) y (ap (λ o. (flush_ended c.store o table).families) e)
+
+pub compaction_makes : (c : CoreState) (job : Compaction) (pieces : List Piece) → c.store.compaction ≡ Some job → is_accepted c (CompactEnd pieces) ≡ true
+    → let kept = collect (inputs_hold c.store job) job.floor job.seqs job.deeper in
+    (behind_event c (CompactEnd pieces)).store.families ≡ changed_at job.family.0 (compacted job.inputs (tables_from job.level kept pieces)) c.store.families
+compaction_makes c job pieces e y =
+    let kept = collect (inputs_hold c.store job) job.floor job.seqs job.deeper in
+    let families = changed_at job.family.0 (compacted job.inputs (tables_from job.level kept pieces)) c.store.families in
+    accepted_has (λ (m : State). m.families ≡ families) c (CompactEnd pieces) y (ap (λ o. (with_compaction c.store o pieces).families) e)

@@ -1,3 +1,4 @@
 pub mod Cores
 pub mod Machine
 pub mod Runs
+pub mod Steps

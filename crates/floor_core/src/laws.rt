@@ -1,5 +1,5 @@
 //! What the core shows over every list of events. A function states the laws; it does nothing.
-ghost use Rattle.floor_core.specs.Runs.{CompactionsEndByTheirStart, CountsEvents, FlushesEndByTheirStart, FreshIsSound, GetsAnswer, IsSoundBehindAll, OpenedIsSound, PinnedGetsAnswer, RefusedChangesNothing, RefusesExactly};
+ghost use Rattle.floor_core.specs.Runs.{CompactionsEndByTheirStart, CompactionsMakeTheirTables, CountsEvents, FlushesEndByTheirStart, FlushesMakeTheirTable, FreshIsSound, GetsAnswer, HaltsKeepTheirNumber, IsSoundBehindAll, OpenedIsSound, PinnedGetsAnswer, RefusedChangesNothing, RefusesExactly, SnapshotsKeepTheirNumber};
 
 /// A fresh core is sound, and so is one that begins with an opened store. Behind every list of events a sound core is sound:
 /// each family's lists stand for every version that was ever written, at its floor and with the registered snapshots. So each
@@ -21,8 +21,18 @@ pub fn core_refuses_exactly()
 {}
 
 /// A job that runs is the one that its start made, with the last sequence, the floor and the snapshots of its start, and a
-/// compaction with its inputs, its level and the deeper spans: its end makes its tables by them, whatever came between.
+/// compaction with its inputs, its level and the deeper spans, whatever came between. Its end makes tables of exactly the
+/// collection by these.
 pub fn jobs_end_by_their_start()
     ensures flush { FlushesEndByTheirStart }
     ensures compaction { CompactionsEndByTheirStart }
+    ensures flushed { FlushesMakeTheirTable }
+    ensures compacted { CompactionsMakeTheirTables }
+{}
+
+/// A snapshot is known by the number of its event until it is given up, and a halted core by that of the first event that
+/// halted it.
+pub fn numbers_are_kept()
+    ensures snapshot { SnapshotsKeepTheirNumber }
+    ensures halt { HaltsKeepTheirNumber }
 {}

@@ -1,0 +1,17 @@
+use Rattle.std.specs.Prelude.{filter}
+use Rattle.udt_model.specs.Jobs.{is_input, spans_of}
+use Rattle.floor_core.specs.Steps.{span_of_table}
+use Rattle.floor_core.proofs.Picked.{picked_more, picked_all}
+use Rattle.floor_core.proofs.compacting.input_spans.Goals as goal
+
+pub loop-t-preserved : goal.loop-t-preserved
+loop-t-preserved c =
+    let ts = c.args.tables.now in
+    let inputs = c.args.inputs.now in
+    picked_more span_of_table (is_input inputs) ts c.loop-t.t-index c.t-item.result c.loop-t.spans.items c.push_span.new.spans.items (spans_of (filter (is_input inputs) ts)) c.is_input.result c.loop-t-test.true c.t-item.is c.is_input.ensures c.loop-t.invariant c.in_ok-push_span.ensures
+
+pub returns : goal.returns
+returns c =
+    let ts = c.args.tables.now in
+    let inputs = c.args.inputs.now in
+    picked_all span_of_table (is_input inputs) ts c.loop-t.t-index c.loop-t.spans.items (spans_of (filter (is_input inputs) ts)) c.loop-t-test.false c.loop-t.invariant

@@ -1,0 +1,14 @@
+use Rattle.std.proofs.Common.{ap, arith}
+use Rattle.udt_model.specs.State.{with_floor}
+use Rattle.floor_core.proofs.Places.{none_changed, set_changed}
+use Rattle.floor_core.proofs.parts.set_floor.Goals as goal
+
+pub returns-then-place-len-clause-set : goal.returns-then-place-len-clause-set
+returns-then-place-len-clause-set c =
+    let ok = c.args.families.now.ok.0 in
+    set_changed c.args.families.now.items c.args.family.0 (with_floor c.args.floor) c.index_mut-f.result.now _ (omega (arith, ok)) c.index_mut-f.ensures.value (ap (with_floor c.args.floor) c.f.view_is)
+
+pub returns-else-place-len-clause-set : goal.returns-else-place-len-clause-set
+returns-else-place-len-clause-set c =
+    let ok = c.args.families.now.ok.0 in
+    none_changed c.args.families.now.items c.args.family.0 (with_floor c.args.floor) (omega (arith, ok))
