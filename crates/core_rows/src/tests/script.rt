@@ -191,13 +191,21 @@ impl Script {
         Ok(())
     }
 
+    fn snapshot_at(&self, n: u64) -> Option<Held> {
+        self.snaps.get(n as usize).copied()
+    }
+
+    fn view_at(&self, n: u64) -> Option<Pinned> {
+        self.views.get(n as usize).copied()
+    }
+
     /// A snapshot, in half of the calls, where there is one.
     fn pick_snapshot(&mut self) -> Option<Held> {
         let n = self.pick(self.snaps.len() as u64);
         if self.pick(2) == 0 {
             return None;
         }
-        self.snaps.get(n as usize).copied()
+        self.snapshot_at(n)
     }
 
     fn get(&mut self, rt: &impl Abort, alloc: Global) -> Result<(), Fail> {
@@ -224,7 +232,7 @@ impl Script {
 
     fn get_in_view(&mut self, rt: &impl Abort, alloc: Global) -> Result<(), Fail> {
         let n = self.pick(self.views.len() as u64);
-        let Some(view) = self.views.get(n as usize).copied() else {
+        let Some(view) = self.view_at(n) else {
             return Ok(());
         };
         let family = self.pick_family();
