@@ -1,5 +1,5 @@
 -- An edit of the manifest, where nothing waits.
-use Rattle.std.proofs.Common.{◌≡◌, ◌⊎◌, ℕ, ◌<◌, ◌≤◌, ◌==◌, Bool, true, List, [], ◌++◌, map, take, drop, length, Option, Some, None, refl, sym, ap, ◌∙◌, subst, arith, inl, inr}
+use Rattle.std.proofs.Common.{◌≡◌, ◌⊎◌, ℕ, ◌<◌, ◌≤◌, ◌==◌, Bool, true, List, [], ◌∷◌, ◌++◌, map, take, drop, length, Option, Some, None, refl, sym, ap, ◌∙◌, subst, arith, inl, inr}
 use Rattle.std.specs.Prelude.{nat_lt, All, Contains, slice_get}
 use Rattle.std.specs.List.{filter}
 use Rattle.std.proofs.lemmas.Bool.{eqb-true, eq-eqb, ltb-true, lt-ltb, and_parts, and_from, false_from_ne_true}
@@ -15,11 +15,13 @@ use Rattle.udt_model.specs.State.{State, FamilyState, family_at}
 use Rattle.udt_model.specs.Crashes.{Course, settled}
 use Rattle.manifest_edit.specs.declared.edit.Edit.{Edit}
 use Rattle.manifest_fold.specs.declared.fold.FamilyFold.{FamilyFold}
-use Rattle.manifest_fold.specs.Folds.{fold_with}
+use Rattle.manifest_fold.specs.declared.fold.Folded.{Folded}
+use Rattle.manifest_fold.specs.Folds.{IsAccepted, fold_with}
+use Rattle.ts_key.specs.declared.limits.TheConstants.{STAMP_SIZE}
 use Rattle.floor_laws.specs.Sound.{IsSoundCourse}
 use Rattle.floor_laws.proofs.Members.{In, In-contains, contains_In, All-In, filter_none, filter_within}
 use Rattle.floor_laws.proofs.Kept.{same_number}
-use Rattle.engine_laws.specs.Logs.{above, is_above, versions_of, last_of, last_over, batches_of}
+use Rattle.engine_laws.specs.Logs.{sizes_of, above, is_above, versions_of, last_of, last_over, batches_of}
 use Rattle.engine_laws.specs.Standing.{Says, StandsFor, families_said, family_said, live_batches}
 use Rattle.engine_laws.specs.Engine.{durable_last, with_edit, Holds, IsOnCourse, MayEdit}
 use Rattle.engine_laws.proofs.Places.{get-map, map-get}
@@ -144,3 +146,13 @@ module _ (m : State) (c : Course) (s : Says) (edit : Edit) (next : State) (h : H
       let d : Course = record { ends = c.ends; synced = m.last.0; failing = None } in
       let sound : IsSoundCourse next d = record { synced = λ i f q. let l = (e.sound.families i f q).tables.through in let k = next_last in omega (arith, l, k); failing = λ f q. absurd (cc) } in
       whole_stands next d (with_edit s edit) (edit_holds_on d (edit_course d refl (omega arith) sound))
+
+-- an edit leaves the sizes of the families
+sizes_equal : (xs ys : List FamilyFold) → length xs ≡ length ys → map {B = ℕ} (λ (f : FamilyFold). STAMP_SIZE) xs ≡ map {B = ℕ} (λ (f : FamilyFold). STAMP_SIZE) ys
+sizes_equal [] [] e = refl
+sizes_equal [] (y ∷ ys) e = absurd (omega (arith, e))
+sizes_equal (x ∷ xs) [] e = absurd (omega (arith, e))
+sizes_equal (x ∷ xs) (y ∷ ys) e = ap (λ z. STAMP_SIZE ∷ z) (sizes_equal xs ys (omega (arith, e)))
+
+pub sizes_stay : (fold : Folded) (edit : Edit) → IsAccepted fold edit → sizes_of (fold_with fold edit) ≡ sizes_of fold
+sizes_stay fold edit a = sizes_equal (fold_with fold edit).families fold.families (families_length fold edit edit.family a.part)

@@ -227,7 +227,7 @@ module _ (fold : Folded) (edit : Edit) where
 head_none : (families : List FamilyHead) (i : ℕ) (f : FamilyFold) → slice_get (map family_fold families) i ≡ Some f → (h : FamilyHead) × (family_fold h ≡ f)
 head_none families i f q = let r = get-map family_fold families i f q in (r.0, r.2)
 
-head_dead : (families : List FamilyHead) (i : Family) (f : FamilyFold) (t : TableAt) → IsLive (fold_of families) i f t → ⊥
+pub head_dead : (families : List FamilyHead) (i : Family) (f : FamilyFold) (t : TableAt) → IsLive (fold_of families) i f t → ⊥
 head_dead families i f t l = let r = head_none families i.0 f l.family in subst (λ (z : FamilyFold). In t z.tables) (sym r.1) (live_In (fold_of families) i f t l)
 
 one_In : (n : ℕ) → In n (1 ∷ []) → n ≡ 1

@@ -6,3 +6,8 @@ pub mod Placing
 pub mod Folding
 pub mod Syncing
 pub mod Editing
+pub mod Moving
+pub mod Calls
+pub mod Keeping
+pub mod Opened
+pub mod Appending

@@ -109,7 +109,7 @@ table_swap a b (o ∷ os) ne =
               | inr k ↦ elim (cases_lt o.number b.number) [ inl j ↦ absurd (false≢true (sym q ∙ lt-ltb o.number b.number j)) | inr j ↦ absurd (omega (arith, lo, k, j)) ]
             ] in
             let x : nat_lt b.number a.number ≡ true = lt-ltb b.number a.number bo in
-            rw (p, q, x) refl
+            rw (p, q, x) (rw p refl)
       ]
       | inr p ↦ elim (cases_Bool (nat_lt o.number b.number)) [
         | inl q ↦
@@ -119,12 +119,12 @@ table_swap a b (o ∷ os) ne =
               | inr k ↦ elim (cases_lt o.number a.number) [ inl j ↦ absurd (false≢true (sym p ∙ lt-ltb o.number a.number j)) | inr j ↦ absurd (omega (arith, lo, k, j)) ]
             ] in
             let x : nat_lt a.number b.number ≡ true = lt-ltb a.number b.number ao in
-            rw (p, q, x) refl
+            rw (p, q, x) (rw p refl)
         | inr q ↦ elim (cases_Bool (nat_lt b.number a.number)) [
           | inl x ↦
               let l = ltb-true b.number a.number x in
               let y : nat_lt a.number b.number ≡ false = false_from_ne_true (nat_lt a.number b.number) (λ z. let k = ltb-true a.number b.number z in omega (arith, l, k)) in
-              rw (p, q, x, y) refl
+              rw (p, q, x, y) (rw p refl)
           | inr x ↦
               let l : a.number < b.number = elim (cases_lt a.number b.number) [
                 | inl k ↦ k

@@ -1,13 +1,158 @@
 -- The laws, as this crate's functions state them.
-use Rattle.std.specs.Prelude.{◌≡◌, ◌⊎◌, ℕ, List, [], ◌∷◌, ◌++◌}
+use Rattle.std.specs.Prelude.{◌≡◌, ◌≢◌, ◌⊎◌, ℕ, ◌+◌, ◌<◌, ◌≤◌, true, false, List, [], ◌∷◌, ◌++◌, length, Bool, Contains, IsTrue, Option, Some, None}
+use Rattle.ts_key.specs.declared.batch.WriteOp.{WriteOp}
+use Rattle.ts_key.specs.declared.numbers.Family.{Family}
+use Rattle.udt_disk.specs.Crash.{Image}
 use Rattle.udt_disk.specs.Joint.{Folder}
+use Rattle.udt_disk.specs.declared.name.FileName.{FileName}
+use Rattle.gate_log.specs.Frames.{IsWithOrWithout}
 use Rattle.wal.specs.declared.numbered.Numbered.{Numbered}
-use Rattle.udt_model.specs.State.{State}
-use Rattle.udt_model.specs.Crashes.{Course, IsOutcome}
-use Rattle.engine_laws.specs.Standing.{Grammar, Says, Reads, FolderStands, StandsForSome}
-use Rattle.engine_laws.specs.Engine.{Holds}
+use Rattle.wal.specs.Records.{IsLoggedBatch}
+use Rattle.udt_model.specs.declared.line.FamilyHead.{FamilyHead}
+use Rattle.udt_model.specs.declared.reply.Reply.{Reply}
+use Rattle.udt_model.specs.declared.reply.Reply.TheVariants.{Done, OkAt}
+use Rattle.udt_model.specs.State.{FamilyState, State, family_at, unflushed}
+use Rattle.udt_model.specs.Acts.{Act}
+use Rattle.udt_model.specs.Acts.Act.{sync_all, write}
+use Rattle.udt_model.specs.Steps.{IsReplyTo, IsTold, after, is_running}
+use Rattle.udt_model.specs.Crashes.{Course, IsOutcome, IsOutcomeUnder, course_after, course_start, is_change}
+use Rattle.manifest.specs.Folders.{chosen}
+use Rattle.manifest_edit.specs.declared.edit.TableAt.{TableAt}
+use Rattle.manifest_edit.specs.declared.edit.FamilyEdit.{FamilyEdit}
+use Rattle.manifest_edit.specs.declared.edit.Edit.{Edit}
+use Rattle.manifest_edit.specs.Edits.{IsEdit}
+use Rattle.manifest_fold.specs.declared.fold.FamilyFold.{FamilyFold}
+use Rattle.manifest_fold.specs.declared.fold.Folded.{Folded}
+use Rattle.manifest_fold.specs.Folds.{IsAccepted, fold_with}
+use Rattle.floor_laws.specs.Sound.{IsSoundCourse, IsSoundState}
+use Rattle.engine_laws.specs.Manifests.{HasFold, IsLive, IsManifest, IsWell}
+use Rattle.engine_laws.specs.Standing.{FolderStands, Grammar, Reads, Says, StandsFor, StandsForSome, TableSays, fresh_says, new_state}
+use Rattle.engine_laws.specs.Engine.{AreSameKept, Holds, IsOnCourse, IsOutcomeOr, MayEdit, SameLive, next_batch, with_batches, with_edit, with_log, with_table}
+use Rattle.engine_laws.specs.Moves.{IsLiveName}
+
+-- ---- between calls, and files that aren't live
 
 -- between two calls each folder that a crash may leave stands for an outcome
 abbrev pub StandsBetweenCalls : Type 0
 StandsBetweenCalls = (g : Grammar) (folder : Folder) (m : State) (c : Course) (s : Says) (waiting : List Numbered)
     → Holds m c s waiting → Reads g folder s → StandsForSome g folder (IsOutcome m c)
+
+-- a folder that agrees with another one on all live names stands for the same
+abbrev pub OnlyLiveNamesCount : Type 0
+OnlyLiveNamesCount = (g : Grammar) (folder other : Folder) (m : State) (stands : FolderStands g folder m)
+    → ((n : FileName) → IsLiveName (chosen folder) stands.says.fold n → other n ≡ folder n) → FolderStands g other m
+
+-- ---- syncs
+
+-- while the newest log is synced a crash leaves what was there, or all that waited
+abbrev pub SyncLeavesOutcomes : Type 0
+SyncLeavesOutcomes = (g : Grammar) (folder : Folder) (m : State) (c : Course) (s : Says) (waiting : List Numbered)
+    → Holds m c s waiting → Reads g folder s ⊎ Reads g folder (with_batches s waiting) → StandsForSome g folder (IsOutcome m c)
+
+-- after it nothing waits, whoever asked for it
+abbrev pub HoldsSynced : Type 0
+HoldsSynced = (m : State) (c : Course) (s : Says) (waiting : List Numbered) → Holds m c s waiting → Holds m c (with_batches s waiting) []
+
+-- and after one that was asked for all is synced
+abbrev pub HoldsAllSynced : Type 0
+HoldsAllSynced = (m : State) (c : Course) (s : Says) (waiting : List Numbered) (number : ℕ)
+    → Holds m c s waiting → IsReplyTo m sync_all Done → Holds (after m number sync_all Done) (course_after m number c sync_all Done) (with_batches s waiting) []
+
+-- ---- writes
+
+-- the write is accepted, and its batch may stand in a log
+pub record IsNextWrite (m : State) (s : Says) (ops : List WriteOp) (sync : Bool) : Type 0 where
+  pub accepted : IsReplyTo m (write ops sync) (OkAt (m.last.0 + length ops))
+  pub fits : IsLoggedBatch (length s.fold.families) (next_batch m ops)
+
+-- while the newest log is synced under a write a crash leaves an outcome of the state before, or the state behind it
+abbrev pub WriteLeavesOutcomes : Type 0
+WriteLeavesOutcomes = (g : Grammar) (folder : Folder) (m : State) (c : Course) (s : Says) (waiting : List Numbered) (number : ℕ) (ops : List WriteOp) (sync : Bool)
+    → Holds m c s waiting → IsNextWrite m s ops sync → Reads g folder s ⊎ Reads g folder (with_batches s (waiting ++ next_batch m ops ∷ []))
+    → StandsForSome g folder (IsOutcomeUnder m c number (write ops sync))
+
+-- what a write leads to
+abbrev pub after_write : State → ℕ → List WriteOp → Bool → State
+after_write m number ops sync = after m number (write ops sync) (OkAt (m.last.0 + length ops))
+
+abbrev pub course_after_write : State → ℕ → Course → List WriteOp → Bool → Course
+course_after_write m number c ops sync = course_after m number c (write ops sync) (OkAt (m.last.0 + length ops))
+
+-- an unsynced write waits behind the others
+abbrev pub HoldsWriteThatWaits : Type 0
+HoldsWriteThatWaits = (m : State) (c : Course) (s : Says) (waiting : List Numbered) (number : ℕ) (ops : List WriteOp)
+    → Holds m c s waiting → IsNextWrite m s ops false → Holds (after_write m number ops false) (course_after_write m number c ops false) s (waiting ++ next_batch m ops ∷ [])
+
+-- a synced one is on the disk, with all that waited
+abbrev pub HoldsSyncedWrite : Type 0
+HoldsSyncedWrite = (m : State) (c : Course) (s : Says) (waiting : List Numbered) (number : ℕ) (ops : List WriteOp)
+    → Holds m c s waiting → IsNextWrite m s ops true → Holds (after_write m number ops true) (course_after_write m number c ops true) (with_batches s (waiting ++ next_batch m ops ∷ [])) []
+
+-- ---- edits
+
+-- while an edit is appended, where nothing waits, a crash leaves an outcome of the state before, or the state behind it
+abbrev pub EditLeavesOutcomes : Type 0
+EditLeavesOutcomes = (g : Grammar) (folder : Folder) (m : State) (c : Course) (s : Says) (edit : Edit) (next : State)
+    → Holds m c s [] → MayEdit m s edit next → Reads g folder s ⊎ Reads g folder (with_edit s edit) → StandsForSome g folder (IsOutcomeOr m c next)
+
+-- that state is an outcome under the act that leads to it, or of the state before where it says the same of what is kept
+abbrev pub EditsAreOfActs : Type 0
+EditsAreOfActs = (m : State) (c : Course) (number : ℕ) (act : Act) (reply : Reply) (left : State)
+    → IsTold m act reply → IsTrue (is_change act reply) → IsTrue (is_running m act) → IsOutcomeOr m c (after m number act reply) left → IsOutcomeUnder m c number act left
+
+abbrev pub EditsMayChangeNothing : Type 0
+EditsMayChangeNothing = (m : State) (c : Course) (s : Says) (next left : State) → Holds m c s [] → AreSameKept m next → IsOutcomeOr m c next left → IsOutcome m c left
+
+-- after it the engine holds the next state, on a course with the same ends on which no more is synced than was written
+abbrev pub HoldsEdited : Type 0
+HoldsEdited = (m : State) (c d : Course) (s : Says) (edit : Edit) (next : State)
+    → Holds m c s [] → MayEdit m s edit next → d.ends ≡ c.ends → d.synced ≤ m.last.0 → IsSoundCourse next d → Holds next d (with_edit s edit) []
+
+-- an append of an edit's body leaves the fold before it, or with it
+abbrev pub AppendLeavesFolds : Type 0
+AppendLeavesFolds = (bodies : List (List ℕ)) (fold : Folded) (edit : Edit) (body : List ℕ) (image : Image)
+    → IsManifest bodies fold → IsEdit body edit → IsAccepted fold edit → IsWithOrWithout bodies body image → HasFold image fold ⊎ HasFold image (fold_with fold edit)
+
+-- ---- what is held
+
+-- an act that changes nothing that is kept on the disk leaves all as it was
+abbrev pub HoldsBesides : Type 0
+HoldsBesides = (m next : State) (c d : Course) (s : Says) (waiting : List Numbered)
+    → AreSameKept m next → IsSoundState next → IsSoundCourse next d → d.ends ≡ c.ends → d.synced ≡ c.synced → Holds m c s waiting → Holds next d s waiting
+
+-- two accounts of the files that agree on all that is live hold the same
+abbrev pub HoldsByLiveFiles : Type 0
+HoldsByLiveFiles = (m : State) (c : Course) (s other : Says) (waiting : List Numbered) → SameLive s other → Holds m c s waiting → Holds m c other waiting
+
+-- so what a table or a log says may be set when it is made, under a number that isn't live
+abbrev pub TablesMayBeSet : Type 0
+TablesMayBeSet = (s : Says) (number : ℕ) (says : TableSays) → ((i : Family) (f : FamilyFold) (t : TableAt) → IsLive s.fold i f t → t.number ≡ number → ⊥) → SameLive s (with_table s number says)
+
+abbrev pub LogsMayBeSet : Type 0
+LogsMayBeSet = (s : Says) (number : ℕ) (batches : List Numbered) → (Contains s.fold.logs number → ⊥) → SameLive s (with_log s number batches)
+
+-- ---- folds
+
+-- every fold of a manifest is well
+abbrev pub FoldsAreWell : Type 0
+FoldsAreWell = (bodies : List (List ℕ)) (fold : Folded) → IsManifest bodies fold → IsWell fold
+
+-- a dropped log isn't live with the edit
+abbrev pub DroppedLogsAreDead : Type 0
+DroppedLogsAreDead = (fold : Folded) (edit : Edit) (n : ℕ) → IsAccepted fold edit → IsWell fold → Contains edit.drop_logs n → Contains (fold_with fold edit).logs n → ⊥
+
+-- nor is a removed table, unless the edit adds one of its number
+abbrev pub RemovedTablesAreDead : Type 0
+RemovedTablesAreDead = (fold : Folded) (edit : Edit) (e : FamilyEdit) (n : ℕ)
+    → edit.family ≡ Some e → IsAccepted fold edit → IsWell fold → Contains e.remove n → ((t : TableAt) → Contains e.add t → t.number ≡ n → ⊥)
+    → (i : Family) (f : FamilyFold) (t : TableAt) → IsLive (fold_with fold edit) i f t → t.number ≡ n → ⊥
+
+-- ---- opening
+
+-- an engine of a folder that stands for a state holds that state
+abbrev pub HoldsOpened : Type 0
+HoldsOpened = (g : Grammar) (folder : Folder) (m : State) (stands : FolderStands g folder m) → Holds m (course_start m) stands.says []
+
+-- the files of a new store stand for the state in which nothing was written
+abbrev pub NewStoreStands : Type 0
+NewStoreStands = (heads : List FamilyHead) (tables : ℕ → TableSays) → StandsFor (fresh_says heads tables) (new_state heads)

@@ -11,8 +11,8 @@ use Rattle.wal.specs.declared.numbered.Numbered.{Numbered}
 use Rattle.wal.specs.Replays.{ReadsAs}
 use Rattle.wal.specs.Sequences.{IsInSequence}
 use Rattle.udt_model.specs.declared.line.FamilyHead.{FamilyHead}
-use Rattle.udt_model.specs.State.{State, FamilyState, LiveTable, family_at}
-use Rattle.udt_model.specs.Crashes.{Course, IsOutcome, settled}
+use Rattle.udt_model.specs.State.{State, FamilyState, LiveTable, family_at, head_with_floor, unflushed}
+use Rattle.udt_model.specs.Crashes.{settled}
 use Rattle.manifest_edit.specs.declared.edit.TableAt.{TableAt}
 use Rattle.manifest_fold.specs.declared.fold.FamilyFold.{FamilyFold}
 use Rattle.manifest_fold.specs.declared.fold.Folded.{Folded}
@@ -114,6 +114,10 @@ StandsForSome g folder Is = (left : State) × FolderStands g folder left × Is l
 -- what the files of a new store say: nothing was written
 abbrev pub fresh_says : List FamilyHead → (ℕ → TableSays) → Says
 fresh_says heads tables = record { fold = fold_of heads; logs = λ n. []; tables = tables }
+
+-- the state of a new store: nothing was written, and each floor is 0
+abbrev pub new_state : List FamilyHead → State
+new_state heads = unflushed (map (head_with_floor (record { 0 = 0 })) heads) [] (record { 0 = 0 }) None
 
 -- two states differ at most in what lies up to each `through`
 pub record Alike (m n : State) : Type 0 where

@@ -1,10 +1,63 @@
-//! What a folder with a manifest, logs and tables stands for, and the laws of the engine over it: what a crash may leave while it
+//! What a folder with a manifest, logs and tables stands for, and the laws of an engine over it: what a crash may leave while it
 //! works. A function states each; none does anything.
 #![tactic(auto)]
 
-ghost use Rattle.engine_laws.specs.Laws.{StandsBetweenCalls};
+ghost use Rattle.engine_laws.specs.Laws.{StandsBetweenCalls, OnlyLiveNamesCount, SyncLeavesOutcomes, HoldsSynced, HoldsAllSynced, WriteLeavesOutcomes, HoldsWriteThatWaits, HoldsSyncedWrite};
+ghost use Rattle.engine_laws.specs.Laws.{EditLeavesOutcomes, EditsAreOfActs, EditsMayChangeNothing, HoldsEdited, AppendLeavesFolds, HoldsBesides, HoldsByLiveFiles, TablesMayBeSet, LogsMayBeSet};
+ghost use Rattle.engine_laws.specs.Laws.{FoldsAreWell, DroppedLogsAreDead, RemovedTablesAreDead, HoldsOpened, NewStoreStands};
 
 /// Between two calls each folder that a crash may leave stands for an outcome.
 pub fn between_calls()
     ensures { StandsBetweenCalls }
+{}
+
+/// What isn't live changes nothing: a folder that agrees with another one on all live names stands for the same.
+pub fn other_files()
+    ensures { OnlyLiveNamesCount }
+{}
+
+/// A sync of what waits: at each moment a crash leaves what was there, or all; then nothing waits.
+pub fn syncs()
+    ensures moments { SyncLeavesOutcomes }
+    ensures unasked { HoldsSynced }
+    ensures asked { HoldsAllSynced }
+{}
+
+/// A write waits behind the others, or is synced with them. A crash meanwhile leaves an outcome of the state before it, or the state
+/// behind it.
+pub fn writes()
+    ensures moments { WriteLeavesOutcomes }
+    ensures waits { HoldsWriteThatWaits }
+    ensures synced { HoldsSyncedWrite }
+{}
+
+/// An edit of the manifest, where nothing waits: a crash leaves an outcome of the state before it, or the state that it leads to.
+pub fn edits()
+    ensures moments { EditLeavesOutcomes }
+    ensures acts { EditsAreOfActs }
+    ensures nothing { EditsMayChangeNothing }
+    ensures held { HoldsEdited }
+    ensures bytes { AppendLeavesFolds }
+{}
+
+/// What the engine holds doesn't change by acts that leave the disk alone, nor by what is said of files that aren't live.
+pub fn holds_besides()
+    ensures acts { HoldsBesides }
+    ensures live { HoldsByLiveFiles }
+    ensures table { TablesMayBeSet }
+    ensures log { LogsMayBeSet }
+{}
+
+/// What every fold of a manifest keeps: its logs and each family's live tables ascend, its numbers are below the next, and no table is
+/// live twice. A dropped log and a removed table are live no more.
+pub fn folds()
+    ensures well { FoldsAreWell }
+    ensures dropped { DroppedLogsAreDead }
+    ensures removed { RemovedTablesAreDead }
+{}
+
+/// An engine of a folder that stands for a state holds that state, and a new store stands for nothing written.
+pub fn openings()
+    ensures opened { HoldsOpened }
+    ensures made { NewStoreStands }
 {}
