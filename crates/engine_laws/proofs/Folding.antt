@@ -101,7 +101,7 @@ module _ (fold : Folded) (edit : Edit) where
   families_length (Some e) p = ap length (families_part fold.families e p.0 p.1) ∙ length-set fold.families e.family.0 (family_with p.0 e)
 
   -- a table of this number is live
-  live_known : (fs : List FamilyFold) (n : ℕ) → is_live fs n ≡ true → (f : FamilyFold) × In f fs × ((t : TableAt) × In t f.tables × (t.number ≡ n))
+  pub live_known : (fs : List FamilyFold) (n : ℕ) → is_live fs n ≡ true → (f : FamilyFold) × In f fs × ((t : TableAt) × In t f.tables × (t.number ≡ n))
   live_known fs n h =
       let r = In-any (λ (f : FamilyFold). has_table_number f.tables n) fs h in
       let k = In-any (λ (t : TableAt). t.number == n) r.0.tables r.2 in

@@ -11,3 +11,4 @@ pub mod Calls
 pub mod Keeping
 pub mod Opened
 pub mod Appending
+pub mod Installing
