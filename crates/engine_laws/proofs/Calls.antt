@@ -91,4 +91,4 @@ module _ (g : Grammar) (old new : Images) (manifest : FileName) (is : IsManifest
   write_safe waiting number ops sync h told fits y folder left = stands_write g folder m c s waiting number ops sync h told fits (syncing_reads g old new manifest is s (waiting ++ next_batch m ops ∷ []) r y folder left)
 
   pub edit_safe : (edit : Edit) (next : State) → Holds m c s [] → (e : MayEdit m s edit next) → IsReady g old s edit → Appending manifest s edit old new → IsSafe g new (IsOutcomeOr m c next)
-  edit_safe edit next h e ready a folder left = stands_edit g folder m c s edit next h e (appending_reads g old new manifest is s edit e.accepted r ready a folder left)
+  edit_safe edit next h e ready a folder left = stands_edit g folder m c s edit next h e (appending_reads g old new manifest is s edit e.leads.accepted r ready a folder left)

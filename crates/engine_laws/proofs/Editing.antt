@@ -50,13 +50,13 @@ module _ (m : State) (c : Course) (s : Says) (edit : Edit) (next : State) (h : H
   rest = batches_of s.logs (drop (length edit.drop_logs) s.fold.logs)
 
   says_last : edit.last.0 ≡ m.last.0
-  says_last = ap (λ (z : Seq). z.0) e.last
+  says_last = ap (λ (z : Seq). z.0) e.leads.last
 
   all_is : live_batches s ≡ dropped ++ rest
   all_is = ap (batches_of s.logs) (sym (take-append-drop (length edit.drop_logs) s.fold.logs)) ∙ batches_append s.logs (take (length edit.drop_logs) s.fold.logs) (drop (length edit.drop_logs) s.fold.logs)
 
   rest_is : live_batches (with_edit s edit) ≡ rest
-  rest_is = batches_append s.logs (drop (length edit.drop_logs) s.fold.logs) edit.add_logs ∙ ap (λ z. rest ++ z) (batches_none s.logs edit.add_logs (λ n i. All-In (λ k. s.logs k ≡ []) edit.add_logs n e.empty i)) ∙ append-nil rest
+  rest_is = batches_append s.logs (drop (length edit.drop_logs) s.fold.logs) edit.add_logs ∙ ap (λ z. rest ++ z) (batches_none s.logs edit.add_logs (λ n i. All-In (λ k. s.logs k ≡ []) edit.add_logs n e.leads.empty i)) ∙ append-nil rest
 
   all_last : last_of s.fold.last.0 (dropped ++ rest) ≡ m.last.0
   all_last = ap (last_of s.fold.last.0) (sym all_is) ∙ sym (durable_is m c s [] h) ∙ whole_last m c s h
@@ -74,8 +74,8 @@ module _ (m : State) (c : Course) (s : Says) (edit : Edit) (next : State) (h : H
   -- each family of the next state was there, and its `through` didn't fall
   pub edit_family : (i : Family) (f : FamilyState) → family_at next i ≡ Some f → (old : FamilyState) × (family_at m i ≡ Some old) × (old.through.0 ≤ f.through.0)
   edit_family i f q =
-      let a = get-map (family_said s.tables) (fold_with s.fold edit).families i.0 f (subst (λ z. slice_get z i.0 ≡ Some f) e.families q) in
-      let b = family_back s.fold edit edit.family i.0 a.0 e.accepted.part a.1 in
+      let a = get-map (family_said s.tables) (fold_with s.fold edit).families i.0 f (subst (λ z. slice_get z i.0 ≡ Some f) e.leads.families q) in
+      let b = family_back s.fold edit edit.family i.0 a.0 e.leads.accepted.part a.1 in
       let l : (family_said s.tables b.0).through.0 ≤ (family_said s.tables a.0).through.0 = b.2.through in
       (family_said s.tables b.0, subst (λ z. slice_get z i.0 ≡ Some (family_said s.tables b.0)) (sym h.families) (map-get (family_said s.tables) s.fold.families i.0 b.0 b.1), subst (λ (z : FamilyState). (family_said s.tables b.0).through.0 ≤ z.through.0) a.2 l)
 
@@ -84,7 +84,7 @@ module _ (m : State) (c : Course) (s : Says) (edit : Edit) (next : State) (h : H
   dropped_none i f q = filter_none (is_above i f.through.0) (versions_of dropped) (λ v j. false_from_ne_true (is_above i f.through.0 v) (λ y.
       let r = above_true i f.through.0 v y in
       let b = batches-In s.logs (take (length edit.drop_logs) s.fold.logs) v j in
-      let n : In b.0 edit.drop_logs = subst (λ z. In b.0 z) (sym e.accepted.logs.oldest) b.1 in
+      let n : In b.0 edit.drop_logs = subst (λ z. In b.0 z) (sym e.leads.accepted.logs.oldest) b.1 in
       let l = e.flushed b.0 v f (In-contains edit.drop_logs b.0 n) (In-contains (versions_of (s.logs b.0)) v b.2) (subst (λ z. family_at next z ≡ Some f) (sym r.0) q) in
       let k = r.1 in
       omega (arith, l, k)))
@@ -93,7 +93,7 @@ module _ (m : State) (c : Course) (s : Says) (edit : Edit) (next : State) (h : H
   edit_unflushed i f q =
       let old = edit_family i f q in
       let t = f.through.0 in
-      ap (above i t) e.versions
+      ap (above i t) e.leads.versions
       ∙ sym (above_higher i old.0.through.0 t m.versions old.2)
       ∙ ap (above i t) (h.unflushed i old.0 old.1)
       ∙ above_higher i old.0.through.0 t (versions_of (live_batches s ++ [])) old.2
@@ -107,17 +107,17 @@ module _ (m : State) (c : Course) (s : Says) (edit : Edit) (next : State) (h : H
   edit_logged =
       let a = front_logged m c s [] h in
       let b = all_right (length s.fold.families) dropped rest (subst (λ z. All (IsLoggedBatch (length s.fold.families)) z) all_is a) in
-      let k : length (fold_with s.fold edit).families ≡ length s.fold.families = families_length s.fold edit edit.family e.accepted.part in
+      let k : length (fold_with s.fold edit).families ≡ length s.fold.families = families_length s.fold edit edit.family e.leads.accepted.part in
       subst (λ z. All (IsLoggedBatch z) (live_batches (with_edit s edit) ++ [])) (sym k)
       (subst (λ z. All (IsLoggedBatch (length s.fold.families)) z) (sym (append-nil (live_batches (with_edit s edit)) ∙ rest_is)) b)
 
   next_last : next.last.0 ≡ m.last.0
-  next_last = ap (λ (z : Seq). z.0) e.same_last
+  next_last = ap (λ (z : Seq). z.0) e.leads.same_last
 
   -- after the edit the engine holds the next state, on whatever course
   pub edit_holds_on : (d : Course) → IsOnCourse next d m.last.0 → Holds next d (with_edit s edit) []
   edit_holds_on d on = record {
-    families = e.families;
+    families = e.leads.families;
     unflushed = edit_unflushed;
     last = next_last ∙ sym edit_last ∙ ap (last_over edit.last.0) (sym (append-nil (live_batches (with_edit s edit))));
     within = let a = h.within in let b = next_last in omega (arith, a, b);
@@ -126,7 +126,7 @@ module _ (m : State) (c : Course) (s : Says) (edit : Edit) (next : State) (h : H
     logged = edit_logged;
     behind = let a = says_last in let b = edit_last_of in omega (arith, a, b);
     fits = e.fits;
-    well = edit_well s.fold edit e.accepted h.well;
+    well = edit_well s.fold edit e.leads.accepted h.well;
     sound = e.sound;
     course = subst (IsOnCourse next d) (sym edit_last) on;
   }

@@ -154,14 +154,16 @@ raise_may m c s number i floor old next h r there file =
     let kept : without_tables [] old.tables ≡ old.tables = filter_every (λ (t : TableAt). not (list_any (λ n. t.number == n) [])) old.tables (λ t j. refl) in
     let is : family_said s.tables (family_with old e) ≡ with_floor floor (family_said s.tables old) = ap (λ ts. let f : FamilyState = record { head = head_with_floor floor (head_of old); through = old.through; tables = map (table_of s.tables) ts } in f) kept in
     record {
-      accepted = record { next = file.more; most = file.most; last = fold_last m c s h; within = h.within; logs = same_logs m c s h edit refl refl; part = part };
-      last = refl;
-      empty = All-nil (λ n. s.logs n ≡ []);
+      leads = record {
+        accepted = record { next = file.more; most = file.most; last = fold_last m c s h; within = h.within; logs = same_logs m c s h edit refl refl; part = part };
+        last = refl;
+        empty = All-nil (λ n. s.logs n ≡ []);
+        families = changed_families m c s h e old (with_floor floor) there is;
+        versions = refl;
+        same_last = refl;
+      };
       flushed = none_dropped m c s h edit (after m number (raise i floor) Done) refl;
       fits = fits_with m c s h edit e old refl part there (λ t j. absurd j);
-      families = changed_families m c s h e old (with_floor floor) there is;
-      versions = refl;
-      same_last = refl;
       sound = sound_after m number (raise i floor) Done h.sound r;
     }
 
@@ -174,27 +176,29 @@ roll_may m next c s n h new most empty k sound =
     let newest : In (newest_log s.fold.logs) s.fold.logs = subst (λ z. In (newest_log s.fold.logs) z) (sym top.is) (In-right (newest_log s.fold.logs) top.older (newest_log s.fold.logs ∷ []) (inl refl)) in
     let low = All-In (λ k. k < s.fold.next_file) s.fold.logs (newest_log s.fold.logs) h.well.logs newest in
     record {
-      accepted = record {
-        next = omega (arith, new);
-        most = most;
-        last = fold_last m c s h;
-        within = h.within;
-        logs = record {
-          ascending = λ j l. absurd (omega (arith, l));
-          newer = All-from (λ j. newest_log s.fold.logs < j) (n ∷ []) (λ j i. elim i [ inl q ↦ omega (arith, low, new, q) | inr b ↦ absurd b ]);
-          below = All-from (λ j. j < n + 1) (n ∷ []) (λ j i. elim i [ inl q ↦ omega (arith, q) | inr b ↦ absurd b ]);
-          oldest = refl;
-          one = let a = length-append s.fold.logs (n ∷ []) in omega (arith, a);
+      leads = record {
+        accepted = record {
+          next = omega (arith, new);
+          most = most;
+          last = fold_last m c s h;
+          within = h.within;
+          logs = record {
+            ascending = λ j l. absurd (omega (arith, l));
+            newer = All-from (λ j. newest_log s.fold.logs < j) (n ∷ []) (λ j i. elim i [ inl q ↦ omega (arith, low, new, q) | inr b ↦ absurd b ]);
+            below = All-from (λ j. j < n + 1) (n ∷ []) (λ j i. elim i [ inl q ↦ omega (arith, q) | inr b ↦ absurd b ]);
+            oldest = refl;
+            one = let a = length-append s.fold.logs (n ∷ []) in omega (arith, a);
+          };
+          part = tt;
         };
-        part = tt;
+        last = refl;
+        empty = All-from (λ j. s.logs j ≡ []) (n ∷ []) (λ j i. elim i [ inl q ↦ subst (λ z. s.logs z ≡ []) q empty | inr b ↦ absurd b ]);
+        families = k.families ∙ h.families;
+        versions = k.versions;
+        same_last = k.last;
       };
-      last = refl;
-      empty = All-from (λ j. s.logs j ≡ []) (n ∷ []) (λ j i. elim i [ inl q ↦ subst (λ z. s.logs z ≡ []) q empty | inr b ↦ absurd b ]);
       flushed = none_dropped m c s h edit next refl;
       fits = λ i f t l. h.fits i f t (record { family = l.family; table = l.table });
-      families = k.families ∙ h.families;
-      versions = k.versions;
-      same_last = k.last;
       sound = sound;
     }
 
@@ -305,22 +309,27 @@ module _ (m : State) (c : Course) (s : Says) (number start table kept next : ℕ
         };
       }) in
       record {
-        accepted = record {
-          next = file.more;
-          most = file.most;
-          last = fold_last m c s h;
-          within = h.within;
-          logs = record {
-            ascending = λ k l. absurd (omega (arith, l));
-            newer = All-nil (λ n. newest_log s.fold.logs < n);
-            below = All-nil (λ n. n < next);
-            oldest = sym (ap (take (length gone)) logs ∙ take-append_seam gone rest);
-            one = subst (λ z. 1 ≤ length z) (sym (append-nil (drop (length gone) s.fold.logs) ∙ rest_is)) some;
+        leads = record {
+          accepted = record {
+            next = file.more;
+            most = file.most;
+            last = fold_last m c s h;
+            within = h.within;
+            logs = record {
+              ascending = λ k l. absurd (omega (arith, l));
+              newer = All-nil (λ n. newest_log s.fold.logs < n);
+              below = All-nil (λ n. n < next);
+              oldest = sym (ap (take (length gone)) logs ∙ take-append_seam gone rest);
+              one = subst (λ z. 1 ≤ length z) (sym (append-nil (drop (length gone) s.fold.logs) ∙ rest_is)) some;
+            };
+            part = part;
           };
-          part = part;
+          last = refl;
+          empty = All-nil (λ n. s.logs n ≡ []);
+          families = flush_families;
+          versions = flush_versions;
+          same_last = ap (λ z. (with_flush m z table floor).last) runs;
         };
-        last = refl;
-        empty = All-nil (λ n. s.logs n ≡ []);
         flushed = drops_flushed m c s h flushed_next edit upto flush_versions
             (λ i x q.
                 let a = get-map (family_said s.tables) (families_with s.fold.families (Some e)) i.0 x (subst (λ z. slice_get z i.0 ≡ Some x) flush_families q) in
@@ -328,9 +337,6 @@ module _ (m : State) (c : Course) (s : Says) (number start table kept next : ℕ
                 (family_said s.tables b.0, family_is m c s h i b.0 b.1, subst (λ (z : FamilyState). b.0.through.0 ≤ z.through.0) a.2 b.2.through))
             covers drops (λ n i. subst (λ z. In n z) (sym logs) (In-left n gone rest i));
         fits = fits_with m c s h edit e old refl part there (λ t i. elim i [ inl q ↦ subst (λ (z : TableAt). Fits job.family (family_with old e) (s.tables z.number)) q (record { family = fits.family; form = fits.form; collected = fits.collected }) | inr b ↦ absurd b ]);
-        families = flush_families;
-        versions = flush_versions;
-        same_last = ap (λ z. (with_flush m z table floor).last) runs;
         sound = sound_after m number (flush_end job.family start) (Table table kept floor) h.sound r;
       }
 
@@ -409,13 +415,15 @@ module _ (m : State) (c : Course) (s : Says) (number start kept next : ℕ) (pie
         };
       }) in
       record {
-        accepted = record { next = file.more; most = file.most; last = fold_last m c s h; within = h.within; logs = same_logs m c s h edit refl refl; part = part };
-        last = refl;
-        empty = All-nil (λ n. s.logs n ≡ []);
+        leads = record {
+          accepted = record { next = file.more; most = file.most; last = fold_last m c s h; within = h.within; logs = same_logs m c s h edit refl refl; part = part };
+          last = refl;
+          empty = All-nil (λ n. s.logs n ≡ []);
+          families = ap (λ z. (with_compaction m z pieces).families) runs ∙ changed_families m c s h e old (compacted job.inputs (tables_from job.level (compaction_kept m job) pieces)) there compact_family;
+          versions = ap (λ z. (with_compaction m z pieces).versions) runs;
+          same_last = ap (λ z. (with_compaction m z pieces).last) runs;
+        };
         flushed = none_dropped m c s h edit compacted_next refl;
         fits = fits_with m c s h edit e old refl part there (λ t i. let f = All-In (λ (z : TableAt). Fits job.family old (s.tables z.number)) add t fits i in record { family = f.family; form = f.form; collected = f.collected });
-        families = ap (λ z. (with_compaction m z pieces).families) runs ∙ changed_families m c s h e old (compacted job.inputs (tables_from job.level (compaction_kept m job) pieces)) there compact_family;
-        versions = ap (λ z. (with_compaction m z pieces).versions) runs;
-        same_last = ap (λ z. (with_compaction m z pieces).last) runs;
         sound = sound_after m number (compact_end job.family start) (Kept kept pieces) h.sound r;
       }

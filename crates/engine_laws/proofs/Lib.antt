@@ -12,3 +12,4 @@ pub mod Keeping
 pub mod Opened
 pub mod Appending
 pub mod Installing
+pub mod Refused

@@ -93,18 +93,22 @@ pub record AreSameKept (m next : State) : Type 0 where
 abbrev pub DropsFlushed : Says → Edit → State → Type 0
 DropsFlushed s edit next = (n : ℕ) (v : Version) (f : FamilyState) → Contains edit.drop_logs n → Contains (versions_of (s.logs n)) v → family_at next v.family ≡ Some f → v.seq.0 ≤ f.through.0
 
--- The edit leads from the state to the next one, and may be made where nothing waits: it says the last sequence, the fold accepts it,
--- the logs that it adds have no batch, those that it drops are flushed, and its tables are of their families. The next state has its
--- families, and the same versions, and is sound.
-pub record MayEdit (m : State) (s : Says) (edit : Edit) (next : State) : Type 0 where
+-- The edit leads from the state to one with these families: the fold accepts it, it says the last sequence, and the logs that it adds
+-- have no batch. The next state has the same versions.
+pub record IsEditTo (m : State) (s : Says) (edit : Edit) (next : State) : Type 0 where
   pub accepted : IsAccepted s.fold edit
   pub last : edit.last ≡ m.last
   pub empty : All (λ n. s.logs n ≡ []) edit.add_logs
-  pub flushed : DropsFlushed s edit next
-  pub fits : TablesFit (with_edit s edit)
   pub families : next.families ≡ families_said s.tables (fold_with s.fold edit)
   pub versions : next.versions ≡ m.versions
   pub same_last : next.last ≡ m.last
+
+-- The edit may be made where nothing waits: the logs that it drops are flushed, its tables are of their families, and the state to
+-- which it leads is sound.
+pub record MayEdit (m : State) (s : Says) (edit : Edit) (next : State) : Type 0 where
+  pub leads : IsEditTo m s edit next
+  pub flushed : DropsFlushed s edit next
+  pub fits : TablesFit (with_edit s edit)
   pub sound : IsSoundState next
 
 -- an outcome of the state, or the next state with every write
