@@ -16,15 +16,17 @@ use Rattle.udt_model.specs.Crashes.{Course, settled}
 use Rattle.manifest_edit.specs.declared.edit.Edit.{Edit}
 use Rattle.manifest_fold.specs.declared.fold.FamilyFold.{FamilyFold}
 use Rattle.manifest_fold.specs.declared.fold.Folded.{Folded}
-use Rattle.manifest_fold.specs.Folds.{IsAccepted, fold_with}
+use Rattle.manifest_fold.specs.Folds.{IsAccepted, fold_with, newest_log}
 use Rattle.ts_key.specs.declared.limits.TheConstants.{STAMP_SIZE}
 use Rattle.floor_laws.specs.Sound.{IsSoundCourse}
-use Rattle.floor_laws.proofs.Members.{In, In-contains, contains_In, All-In, filter_none, filter_within}
+use Rattle.floor_laws.proofs.Members.{In, In-contains, In-right, contains_In, All-In, filter_none, filter_within}
 use Rattle.floor_laws.proofs.Kept.{same_number}
 use Rattle.engine_laws.specs.Logs.{sizes_of, above, is_above, versions_of, last_of, last_over, batches_of}
+use Rattle.engine_laws.specs.Manifests.{IsWell}
 use Rattle.engine_laws.specs.Standing.{Says, StandsFor, families_said, family_said, live_batches}
 use Rattle.engine_laws.specs.Engine.{durable_last, with_edit, Holds, IsOnCourse, MayEdit}
 use Rattle.engine_laws.proofs.Places.{get-map, map-get}
+use Rattle.engine_laws.proofs.Ascending.{newest_of, rising_sorted}
 use Rattle.engine_laws.proofs.Folding.{family_back, families_length, edit_well}
 use Rattle.engine_laws.proofs.Batches.{last_over_is, versions_append, sequence_rest, last_rest, batches_append, batches_none, batches-In, all_right}
 use Rattle.engine_laws.proofs.Resting.{front_logged, durable_is, whole_last, whole_stands}
@@ -156,3 +158,11 @@ sizes_equal (x ∷ xs) (y ∷ ys) e = ap (λ z. STAMP_SIZE ∷ z) (sizes_equal x
 
 pub sizes_stay : (fold : Folded) (edit : Edit) → IsAccepted fold edit → sizes_of (fold_with fold edit) ≡ sizes_of fold
 sizes_stay fold edit a = sizes_equal (fold_with fold edit).families fold.families (families_length fold edit edit.family a.part)
+
+-- a number from the next one on isn't that of the newest log
+pub newest_not : (fold : Folded) (n : ℕ) → IsWell fold → fold.next_file ≤ n → n ≡ newest_log fold.logs → ⊥
+newest_not fold n w more e =
+    let top = newest_of fold.logs w.some (rising_sorted fold.logs w.sorted) in
+    let newest : In (newest_log fold.logs) fold.logs = subst (λ z. In (newest_log fold.logs) z) (sym top.is) (In-right (newest_log fold.logs) top.older (newest_log fold.logs ∷ []) (inl refl)) in
+    let low = All-In (λ k. k < fold.next_file) fold.logs (newest_log fold.logs) w.logs newest in
+    omega (arith, low, more, e)

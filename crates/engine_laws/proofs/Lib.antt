@@ -12,4 +12,5 @@ pub mod Keeping
 pub mod Opened
 pub mod Appending
 pub mod Installing
+pub mod Acting
 pub mod Refused

@@ -1,16 +1,23 @@
 -- The edits that an engine makes.
-use Rattle.std.specs.Prelude.{◌≡◌, ◌⊎◌, ℕ, ◌+◌, ◌≤◌, ◌<◌, List, [], ◌∷◌, All, Contains, Some, None}
+use Rattle.std.specs.Prelude.{◌≡◌, ◌⊎◌, ℕ, ◌+◌, ◌≤◌, ◌<◌, List, [], ◌∷◌, ◌++◌, length, map, slice_get, All, Contains, Some, None}
+use Rattle.std.specs.List.Sorted.{IsStrictlyIncreasing}
 use Rattle.ts_key.specs.declared.numbers.Family.{Family}
 use Rattle.ts_key.specs.declared.numbers.Seq.{Seq}
 use Rattle.ts_key.specs.declared.numbers.Ts.{Ts}
 use Rattle.ts_key.specs.declared.version.Version.{Version}
-use Rattle.udt_model.specs.State.{State, FamilyState, family_at}
+use Rattle.udt_model.specs.declared.reply.Piece.{Piece}
+use Rattle.udt_model.specs.declared.reply.Reply.TheVariants.{Kept, Table}
+use Rattle.udt_model.specs.State.{Compaction, Flush, State, FamilyState, family_at}
+use Rattle.udt_model.specs.Acts.Act.{compact_end, flush_end}
+use Rattle.udt_model.specs.Jobs.{compaction_kept, flush_kept, tables_from}
+use Rattle.udt_model.specs.Steps.{IsReplyTo}
 use Rattle.manifest_edit.specs.declared.edit.TableAt.{TableAt}
 use Rattle.manifest_edit.specs.declared.edit.Edit.{Edit}
 use Rattle.manifest_fold.specs.declared.fold.FamilyFold.{FamilyFold}
 use Rattle.manifest_fold.specs.declared.limits.TheConstants.{FILE_LIMIT}
 use Rattle.engine_laws.specs.Logs.{above, versions_of}
-use Rattle.engine_laws.specs.Standing.{Says}
+use Rattle.engine_laws.specs.Manifests.{number_of}
+use Rattle.engine_laws.specs.Standing.{Fits, Says, table_of}
 
 -- a family gets a floor; `next` is the engine's next file number
 abbrev pub raise_edit : Seq → ℕ → Family → FamilyFold → Ts → Edit
@@ -65,3 +72,37 @@ LetsGo m upto family f = (upto ≤ f.through.0) ⊎ (above family f.through.0 m.
 -- each family of this state lets these logs go
 abbrev pub MayDrop : State → (ℕ → ℕ) → List ℕ → Type 0
 MayDrop m upto ns = (n : ℕ) (family : Family) (f : FamilyState) → Contains ns n → family_at m family ≡ Some f → LetsGo m (upto n) family f
+
+-- the logs may go: they are the oldest, one stays, and each family lets them go
+pub record LogsMayGo (s : Says) (next : State) (gone : List ℕ) : Type 0 where
+  pub kept : List ℕ
+  pub oldest : s.fold.logs ≡ gone ++ kept
+  pub some : 1 ≤ length kept
+  pub upto : ℕ → ℕ
+  pub covers : Covers s upto gone
+  pub drops : MayDrop next upto gone
+
+-- ---- what a job's end brings
+
+-- The flush that runs ends with this table and this floor: the reply is the model's, the table's file holds what the flush keeps, and
+-- its number is below that of the engine's next file.
+pub record EndsFlush (m : State) (s : Says) (job : Flush) (start table kept : ℕ) (floor : Ts) (old : FamilyFold) (next : ℕ) : Type 0 where
+  pub runs : m.flush ≡ Some job
+  pub told : IsReplyTo m (flush_end job.family start) (Table table kept floor)
+  pub there : slice_get s.fold.families job.family.0 ≡ Some old
+  pub holds : (s.tables table).versions ≡ flush_kept m job
+  pub fits : Fits job.family (record old { floor = floor }) (s.tables table)
+  pub file : IsNextFile m s next
+  pub below : table < next
+
+-- The compaction that runs ends with these tables: the reply is the model's, the files of the tables hold its pieces, and their numbers
+-- ascend, below that of the engine's next file.
+pub record EndsCompaction (m : State) (s : Says) (job : Compaction) (start kept : ℕ) (pieces : List Piece) (old : FamilyFold) (add : List TableAt) (next : ℕ) : Type 0 where
+  pub runs : m.compaction ≡ Some job
+  pub told : IsReplyTo m (compact_end job.family start) (Kept kept pieces)
+  pub there : slice_get s.fold.families job.family.0 ≡ Some old
+  pub holds : map (table_of s.tables) add ≡ tables_from job.level (compaction_kept m job) pieces
+  pub fits : All (λ (t : TableAt). Fits job.family old (s.tables t.number)) add
+  pub ascending : IsStrictlyIncreasing (map number_of add)
+  pub file : IsNextFile m s next
+  pub below : All (λ (t : TableAt). t.number < next) add

@@ -1,21 +1,26 @@
 -- The laws, as this crate's functions state them.
-use Rattle.std.specs.Prelude.{◌≡◌, ◌≢◌, ◌⊎◌, ℕ, ◌+◌, ◌<◌, ◌≤◌, true, false, List, [], ◌∷◌, ◌++◌, length, Bool, Contains, IsTrue, Option, Some, None}
+use Rattle.std.specs.Prelude.{◌≡◌, ◌≢◌, ◌⊎◌, ℕ, ◌+◌, ◌<◌, ◌≤◌, true, false, List, [], ◌∷◌, ◌++◌, length, slice_get, Bool, Contains, IsTrue, Option, Some, None}
 use Rattle.ts_key.specs.declared.batch.WriteOp.{WriteOp}
 use Rattle.ts_key.specs.declared.numbers.Family.{Family}
+use Rattle.ts_key.specs.declared.numbers.Ts.{Ts}
+use Rattle.ts_key.specs.declared.version.Version.{Version}
 use Rattle.udt_disk.specs.Crash.{Image}
 use Rattle.udt_disk.specs.Joint.{Folder}
 use Rattle.udt_disk.specs.declared.name.FileName.{FileName}
+use Rattle.udt_disk.specs.declared.name.FileName.TheVariants.{Log}
+use Rattle.udt_disk.specs.declared.name.FileName.TheVariants as table
 use Rattle.gate_log.specs.Frames.{IsWithOrWithout}
 use Rattle.wal.specs.declared.numbered.Numbered.{Numbered}
 use Rattle.wal.specs.Records.{IsLoggedBatch}
 use Rattle.udt_model.specs.declared.line.FamilyHead.{FamilyHead}
+use Rattle.udt_model.specs.declared.reply.Piece.{Piece}
 use Rattle.udt_model.specs.declared.reply.Reply.{Reply}
-use Rattle.udt_model.specs.declared.reply.Reply.TheVariants.{Done, OkAt}
-use Rattle.udt_model.specs.State.{FamilyState, State, family_at, unflushed}
+use Rattle.udt_model.specs.declared.reply.Reply.TheVariants.{Done, Kept, OkAt, Table}
+use Rattle.udt_model.specs.State.{Compaction, FamilyState, Flush, State, family_at}
 use Rattle.udt_model.specs.Acts.{Act}
-use Rattle.udt_model.specs.Acts.Act.{sync_all, write}
+use Rattle.udt_model.specs.Acts.Act.{compact_end, flush_end, flush_start, raise, sync_all, write}
 use Rattle.udt_model.specs.Steps.{IsReplyTo, IsTold, after, is_running}
-use Rattle.udt_model.specs.Crashes.{Course, IsOutcome, IsOutcomeUnder, course_after, course_start, is_change}
+use Rattle.udt_model.specs.Crashes.{Course, IsOutcome, IsOutcomeUnder, course_after, course_start, ends_after, is_change, syncs}
 use Rattle.manifest.specs.Folders.{chosen}
 use Rattle.manifest_edit.specs.declared.edit.TableAt.{TableAt}
 use Rattle.manifest_edit.specs.declared.edit.FamilyEdit.{FamilyEdit}
@@ -23,12 +28,15 @@ use Rattle.manifest_edit.specs.declared.edit.Edit.{Edit}
 use Rattle.manifest_edit.specs.Edits.{IsEdit}
 use Rattle.manifest_fold.specs.declared.fold.FamilyFold.{FamilyFold}
 use Rattle.manifest_fold.specs.declared.fold.Folded.{Folded}
+use Rattle.manifest_fold.specs.declared.limits.TheConstants.{FILE_LIMIT}
 use Rattle.manifest_fold.specs.Folds.{IsAccepted, fold_with}
 use Rattle.floor_laws.specs.Sound.{IsSoundCourse, IsSoundState}
+use Rattle.engine_laws.specs.Logs.{versions_of}
 use Rattle.engine_laws.specs.Manifests.{HasFold, IsLive, IsManifest, IsWell}
-use Rattle.engine_laws.specs.Standing.{FolderStands, Grammar, Reads, Says, StandsFor, StandsForSome, TableSays, fresh_says, new_state}
-use Rattle.engine_laws.specs.Engine.{AreSameKept, Holds, IsOnCourse, IsOutcomeOr, MayEdit, SameLive, next_batch, with_batches, with_edit, with_log, with_table}
+use Rattle.engine_laws.specs.Standing.{FolderStands, Grammar, Reads, Says, StandsFor, StandsForSome, TableSays, families_said, fresh_says, live_batches, new_state}
+use Rattle.engine_laws.specs.Engine.{AreSameKept, Holds, IsEditTo, IsOutcomeOr, MayEdit, SameLive, next_batch, with_batches, with_edit, with_log, with_table}
 use Rattle.engine_laws.specs.Moves.{IsLiveName}
+use Rattle.engine_laws.specs.Installs.{EndsCompaction, EndsFlush, IsNextFile, LogsMayGo, compact_edit, flush_edit, raise_edit, roll_edit}
 
 -- ---- between calls, and files that aren't live
 
@@ -156,3 +164,71 @@ HoldsOpened = (g : Grammar) (folder : Folder) (m : State) (stands : FolderStands
 -- the files of a new store stand for the state in which nothing was written
 abbrev pub NewStoreStands : Type 0
 NewStoreStands = (heads : List FamilyHead) (tables : ℕ → TableSays) → StandsFor (fresh_says heads tables) (new_state heads)
+
+-- ---- the edits that an engine makes
+
+-- the edit of a raise may be made, and leads to the raised state
+abbrev pub RaiseMayBeMade : Type 0
+RaiseMayBeMade = (m : State) (c : Course) (s : Says) (number : ℕ) (family : Family) (floor : Ts) (old : FamilyFold) (next : ℕ)
+    → Holds m c s [] → IsReplyTo m (raise family floor) Done → slice_get s.fold.families family.0 ≡ Some old → IsNextFile m s next
+    → MayEdit m s (raise_edit m.last next family old floor) (after m number (raise family floor) Done)
+
+-- the edit that adds a log without batches may be made, and leads to any sound state that says the same of what is kept
+abbrev pub RollMayBeMade : Type 0
+RollMayBeMade = (m next : State) (c : Course) (s : Says) (log : ℕ)
+    → Holds m c s [] → s.fold.next_file ≤ log → log + 1 ≤ FILE_LIMIT → s.logs log ≡ [] → AreSameKept m next → IsSoundState next → MayEdit m s (roll_edit m.last log) next
+
+-- the edit of a flush may be made, where the logs that it drops may go, and leads to the flushed state
+abbrev pub FlushMayBeMade : Type 0
+FlushMayBeMade = (m : State) (c : Course) (s : Says) (number start table kept next : ℕ) (floor : Ts) (job : Flush) (old : FamilyFold) (gone : List ℕ)
+    → Holds m c s [] → EndsFlush m s job start table kept floor old next → LogsMayGo s (after m number (flush_end job.family start) (Table table kept floor)) gone
+    → MayEdit m s (flush_edit m.last next gone job.family floor job.through table) (after m number (flush_end job.family start) (Table table kept floor))
+
+-- the edit of a compaction may be made, and leads to the compacted state
+abbrev pub CompactionMayBeMade : Type 0
+CompactionMayBeMade = (m : State) (c : Course) (s : Says) (number start kept next : ℕ) (pieces : List Piece) (job : Compaction) (old : FamilyFold) (add : List TableAt)
+    → Holds m c s [] → EndsCompaction m s job start kept pieces old add next
+    → MayEdit m s (compact_edit m.last next job.family old add job.inputs) (after m number (compact_end job.family start) (Kept kept pieces))
+
+-- behind an act that syncs and makes no version, by a sync and its edit, the engine holds the state that it leads to, on its course
+abbrev pub HoldsBehindAct : Type 0
+HoldsBehindAct = (m : State) (c : Course) (s : Says) (waiting : List Numbered) (number : ℕ) (act : Act) (reply : Reply) (edit : Edit)
+    → Holds m c s waiting → IsReplyTo m act reply → IsTrue (syncs act reply) → ends_after c.ends act reply ≡ c.ends → MayEdit m (with_batches s waiting) edit (after m number act reply)
+    → Holds (after m number act reply) (course_after m number c act reply) (with_edit (with_batches s waiting) edit) []
+
+-- behind a seal, which is a sync and the edit of a new log, it holds the state with the flush that starts
+abbrev pub HoldsSealed : Type 0
+HoldsSealed = (m : State) (c : Course) (s : Says) (waiting : List Numbered) (number : ℕ) (family : Family) (log : ℕ)
+    → Holds m c s waiting → IsReplyTo m (flush_start family) (OkAt m.last.0) → s.fold.next_file ≤ log → log + 1 ≤ FILE_LIMIT → s.logs log ≡ []
+    → Holds (after m number (flush_start family) (OkAt m.last.0)) (course_after m number c (flush_start family) (OkAt m.last.0)) (with_edit (with_batches s waiting) (roll_edit m.last log)) []
+
+-- ---- wrong orders
+
+-- an edit while a version waits that it doesn't flush leaves what stands for no outcome
+abbrev pub NoEditBeforeSync : Type 0
+NoEditBeforeSync = (m : State) (c : Course) (s : Says) (waiting : List Numbered) (edit : Edit) (next : State) → Holds m c s waiting → c.failing ≡ None → IsEditTo m s edit next
+    → (v : Version) (f : FamilyState) (left : State) → Contains (versions_of waiting) v → family_at next v.family ≡ Some f → f.through.0 < v.seq.0
+    → StandsFor (with_edit s edit) left → IsOutcomeOr m c next left → ⊥
+
+-- nor does one that drops a log with a version that isn't flushed
+abbrev pub NoEarlyDrop : Type 0
+NoEarlyDrop = (m : State) (c : Course) (s : Says) (waiting : List Numbered) (edit : Edit) (next : State) → Holds m c s waiting → c.failing ≡ None → IsEditTo m s edit next
+    → (log : ℕ) (v : Version) (f : FamilyState) (left : State) → Contains edit.drop_logs log → Contains (versions_of (s.logs log)) v → family_at next v.family ≡ Some f → f.through.0 < v.seq.0
+    → StandsFor (with_edit s edit) left → IsOutcomeOr m c next left → ⊥
+
+-- where a crash may leave a manifest whose family isn't the state's, as when a floor is told before its edit is synced, it leaves no outcome
+abbrev pub NoEarlyFloor : Type 0
+NoEarlyFloor = (s : Says) (m left : State) (c : Course) (i : Family) (f h : FamilyState) → c.failing ≡ None → family_at m i ≡ Some f → slice_get (families_said s.tables s.fold) i.0 ≡ Some h → f ≢ h
+    → StandsFor s left → IsOutcome m c left → ⊥
+
+-- what is opened has each version that the live logs have above its family's `through`, whatever the floor is
+abbrev pub LoggedIsKept : Type 0
+LoggedIsKept = (s : Says) (m : State) (v : Version) (f : FamilyState)
+    → StandsFor s m → Contains (versions_of (live_batches s)) v → family_at m v.family ≡ Some f → f.through.0 < v.seq.0 → Contains m.versions v
+
+-- a folder without one of the live logs or tables says nothing
+abbrev pub NoMissingLog : Type 0
+NoMissingLog = (g : Grammar) (folder : Folder) (s : Says) (log : ℕ) → Contains s.fold.logs log → folder (Log log) ≡ None → Reads g folder s → ⊥
+
+abbrev pub NoMissingTable : Type 0
+NoMissingTable = (g : Grammar) (folder : Folder) (s : Says) (i : Family) (f : FamilyFold) (t : TableAt) → IsLive s.fold i f t → folder (table.Table t.number) ≡ None → Reads g folder s → ⊥

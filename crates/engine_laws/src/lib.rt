@@ -6,6 +6,9 @@ ghost use Rattle.engine_laws.specs.Laws.{StandsBetweenCalls, OnlyLiveNamesCount,
 ghost use Rattle.engine_laws.specs.Laws.{EditLeavesOutcomes, EditsAreOfActs, EditsMayChangeNothing, HoldsEdited, AppendLeavesFolds, HoldsBesides, HoldsByLiveFiles, TablesMayBeSet, LogsMayBeSet};
 ghost use Rattle.engine_laws.specs.Laws.{FoldsAreWell, DroppedLogsAreDead, RemovedTablesAreDead, HoldsOpened, NewStoreStands};
 
+ghost use Rattle.engine_laws.specs.Laws.{RaiseMayBeMade, RollMayBeMade, FlushMayBeMade, CompactionMayBeMade, HoldsBehindAct, HoldsSealed};
+ghost use Rattle.engine_laws.specs.Laws.{NoEditBeforeSync, NoEarlyDrop, NoEarlyFloor, LoggedIsKept, NoMissingLog, NoMissingTable};
+
 /// Between two calls each folder that a crash may leave stands for an outcome.
 pub fn between_calls()
     ensures { StandsBetweenCalls }
@@ -60,4 +63,27 @@ pub fn folds()
 pub fn openings()
     ensures opened { HoldsOpened }
     ensures made { NewStoreStands }
+{}
+
+/// The edits that an engine makes may be made, and lead to the states of the model: a raise; a new log, which changes nothing; the end
+/// of a flush, where the logs that it drops may go; and the end of a compaction.
+pub fn installs()
+    ensures raised { RaiseMayBeMade }
+    ensures rolled { RollMayBeMade }
+    ensures flushed { FlushMayBeMade }
+    ensures compacted { CompactionMayBeMade }
+    ensures held { HoldsBehindAct }
+    ensures sealed { HoldsSealed }
+{}
+
+/// Wrong orders leave what stands for no outcome: an edit while a version waits that it doesn't flush; a log dropped with a version that
+/// isn't flushed; a floor told before its edit is on the disk. What is opened has each logged version, whatever the floor, and a
+/// folder without a live file says nothing.
+pub fn wrong_orders()
+    ensures sync { NoEditBeforeSync }
+    ensures drop { NoEarlyDrop }
+    ensures floor { NoEarlyFloor }
+    ensures kept { LoggedIsKept }
+    ensures log { NoMissingLog }
+    ensures table { NoMissingTable }
 {}
