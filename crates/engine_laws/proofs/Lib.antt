@@ -12,5 +12,6 @@ pub mod Keeping
 pub mod Opened
 pub mod Appending
 pub mod Installing
+pub mod Joined
 pub mod Acting
 pub mod Refused

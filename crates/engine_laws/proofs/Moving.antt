@@ -22,8 +22,7 @@ use Rattle.engine_laws.specs.Logs.{sizes_of}
 use Rattle.engine_laws.specs.Manifests.{HasFold, IsLive, MeansStore}
 use Rattle.engine_laws.specs.Standing.{FolderStands, Grammar, Reads, Says, TableReads}
 use Rattle.engine_laws.specs.Engine.{Holds, SameLive, newest_of, with_batches, with_edit}
-use Rattle.engine_laws.specs.Moves.{Appending, AreImages, Aside, Chosen, Images, IsLiveName, IsManifestName, IsReady, IsSafe, LogRests, ManifestRests, Rests, Syncing, TouchesOne}
-use Rattle.engine_laws.specs.Moves.Aside.{stays, then_to}
+use Rattle.engine_laws.specs.Moves.{Appending, AreDead, AreImages, Chosen, Images, IsLiveName, IsManifestName, IsReady, IsSafe, LogRests, ManifestRests, Rests, Syncing, TouchesOne, TouchesOnly}
 use Rattle.engine_laws.proofs.Editing.{sizes_stay}
 use Rattle.engine_laws.proofs.Resting.{stands_rest}
 
@@ -70,21 +69,17 @@ rest_safe g images manifest m c s waiting h r folder left = stands_rest g folder
 
 -- ---- a file that isn't live
 
--- a step on a name that isn't live changes nothing of what rests
-pub not_live : (g : Grammar) (old new : Images) (manifest name : FileName) (s : Says) → IsManifestName manifest → ¬ IsLiveName manifest s.fold name → TouchesOne name old new → Rests g old manifest s → Rests g new manifest s
-not_live g old new manifest name s is dead t r = record {
+-- a step on names that aren't live changes nothing of what rests
+pub not_live : (g : Grammar) (old new : Images) (manifest : FileName) (T : FileName → Type 0) (s : Says) → IsManifestName manifest → AreDead manifest s.fold T → TouchesOnly T old new → Rests g old manifest s → Rests g new manifest s
+not_live g old new manifest T s is dead t r = record {
   chosen = record {
-    made = λ c a. r.chosen.made c (t Made (λ q. dead (subst (IsLiveName manifest s.fold) q tt)) c a);
-    chooses = λ c a. r.chosen.chooses c (t Current (λ q. dead (subst (IsLiveName manifest s.fold) q tt)) c a);
+    made = λ c a. r.chosen.made c (t Made (λ q. dead Made q tt) c a);
+    chooses = λ c a. r.chosen.chooses c (t Current (λ q. dead Current q tt) c a);
   };
-  manifests = λ c a. r.manifests c (t manifest (λ q. dead (subst (IsLiveName manifest s.fold) q (own manifest s.fold is))) c a);
-  logs = λ n i c a. r.logs n i c (t (Log n) (λ q. dead (subst (IsLiveName manifest s.fold) q i)) c a);
-  tables = λ i f x l c a. r.tables i f x l c (t (Table x.number) (λ q. dead (subst (IsLiveName manifest s.fold) q (i, f, x, l, refl))) c a);
+  manifests = λ c a. r.manifests c (t manifest (λ q. dead manifest q (own manifest s.fold is)) c a);
+  logs = λ n i c a. r.logs n i c (t (Log n) (λ q. dead (Log n) q i) c a);
+  tables = λ i f x l c a. r.tables i f x l c (t (Table x.number) (λ q. dead (Table x.number) q (i, f, x, l, refl)) c a);
 }
-
-pub aside_rests : (g : Grammar) (manifest : FileName) (s : Says) (old new : Images) → IsManifestName manifest → Aside manifest s old new → Rests g old manifest s → Rests g new manifest s
-aside_rests g manifest s old last is stays r = r
-aside_rests g manifest s old last is (then_to mid new name before dead touches) r = not_live g mid new manifest name s is dead touches (aside_rests g manifest s old mid is before r)
 
 -- ---- a sync of the newest log
 

@@ -4,4 +4,5 @@ pub mod Standing
 pub mod Engine
 pub mod Moves
 pub mod Installs
+pub mod Joints
 pub mod Laws

@@ -76,9 +76,16 @@ pub record Rests (g : Grammar) (images : Images) (manifest : FileName) (s : Says
 
 -- ---- steps
 
--- a step on the file of one name: under every other name a crash leaves nothing new
+-- a step on files of these names: under every other name a crash leaves nothing new
+abbrev pub TouchesOnly : (FileName → Type 0) → Images → Images → Type 0
+TouchesOnly IsTouched old new = (n : FileName) → ¬ IsTouched n → (c : Image) → new n c → old n c
+
 abbrev pub TouchesOne : FileName → Images → Images → Type 0
-TouchesOne name old new = (n : FileName) → n ≢ name → (c : Image) → new n c → old n c
+TouchesOne name old new = TouchesOnly (λ n. n ≡ name) old new
+
+-- none of these names is live
+abbrev pub AreDead : FileName → Folded → (FileName → Type 0) → Type 0
+AreDead manifest fold IsTouched = (n : FileName) → IsTouched n → ¬ IsLiveName manifest fold n
 
 -- while the newest log is synced: what was there, or all that waited behind it
 pub record Syncing (s : Says) (waiting : List Numbered) (old new : Images) : Type 0 where
@@ -94,8 +101,3 @@ pub record Appending (manifest : FileName) (s : Says) (edit : Edit) (old new : I
 pub record IsReady (g : Grammar) (images : Images) (s : Says) (edit : Edit) : Type 0 where
   pub logs : (n : ℕ) → Contains (fold_with s.fold edit).logs n → LogRests images s n
   pub tables : (family : Family) (f : FamilyFold) (t : TableAt) → IsLive (fold_with s.fold edit) family f t → TableRests g images s t.number
-
--- steps on names that aren't live: files are made, written, given back or removed
-pub data Aside (manifest : FileName) (s : Says) (old : Images) : Images → Type 1 where
-  stays : Aside manifest s old old
-  then_to : (mid new : Images) (name : FileName) → Aside manifest s old mid → ¬ IsLiveName manifest s.fold name → TouchesOne name mid new → Aside manifest s old new
