@@ -159,10 +159,14 @@ sizes_equal (x ∷ xs) (y ∷ ys) e = ap (λ z. STAMP_SIZE ∷ z) (sizes_equal x
 pub sizes_stay : (fold : Folded) (edit : Edit) → IsAccepted fold edit → sizes_of (fold_with fold edit) ≡ sizes_of fold
 sizes_stay fold edit a = sizes_equal (fold_with fold edit).families fold.families (families_length fold edit edit.family a.part)
 
+-- the newest log is live
+pub newest_live : (fold : Folded) → IsWell fold → Contains fold.logs (newest_log fold.logs)
+newest_live fold w =
+    let top = newest_of fold.logs w.some (rising_sorted fold.logs w.sorted) in
+    In-contains fold.logs (newest_log fold.logs) (subst (λ z. In (newest_log fold.logs) z) (sym top.is) (In-right (newest_log fold.logs) top.older (newest_log fold.logs ∷ []) (inl refl)))
+
 -- a number from the next one on isn't that of the newest log
 pub newest_not : (fold : Folded) (n : ℕ) → IsWell fold → fold.next_file ≤ n → n ≡ newest_log fold.logs → ⊥
 newest_not fold n w more e =
-    let top = newest_of fold.logs w.some (rising_sorted fold.logs w.sorted) in
-    let newest : In (newest_log fold.logs) fold.logs = subst (λ z. In (newest_log fold.logs) z) (sym top.is) (In-right (newest_log fold.logs) top.older (newest_log fold.logs ∷ []) (inl refl)) in
-    let low = All-In (λ k. k < fold.next_file) fold.logs (newest_log fold.logs) w.logs newest in
+    let low = All-In (λ k. k < fold.next_file) fold.logs (newest_log fold.logs) w.logs (contains_In fold.logs (newest_log fold.logs) (newest_live fold w)) in
     omega (arith, low, more, e)

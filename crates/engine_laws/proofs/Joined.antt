@@ -4,7 +4,7 @@ use Rattle.ts_key.specs.declared.batch.WriteOp.{WriteOp}
 use Rattle.udt_disk.specs.Crash.{Image}
 use Rattle.udt_disk.specs.Joint.{Folder, IsBetween, IsFree, IsHeld, IsImage, Joint, LeavesNow, Ran}
 use Rattle.udt_disk.specs.Joint.Ran.{rests, then_to}
-use Rattle.udt_disk.specs.Moments.{AsAtBut, MayLeave, OnlyTouches, holding}
+use Rattle.udt_disk.specs.Moments.{AsAtBut, MayLeave, holding}
 use Rattle.udt_disk.specs.Runs.{Leaves}
 use Rattle.udt_disk.specs.declared.name.FileName.{FileName}
 use Rattle.udt_disk.specs.declared.name.FileName.TheVariants.{Log}
@@ -24,11 +24,12 @@ use Rattle.udt_model.specs.Crashes.{Course, IsOutcome, IsOutcomeUnder}
 use Rattle.manifest_edit.specs.declared.edit.Edit.{Edit}
 use Rattle.manifest_fold.specs.Folds.{fold_with}
 use Rattle.engine_laws.specs.Logs.{sizes_of}
-use Rattle.engine_laws.specs.Manifests.{HasFold}
+use Rattle.engine_laws.specs.Manifests.{HasFold, IsWell}
 use Rattle.engine_laws.specs.Standing.{Grammar, Reads, Says, StandsForSome}
 use Rattle.engine_laws.specs.Engine.{Holds, IsOutcomeOr, MayEdit, newest_of, next_batch, with_batches, with_edit}
 use Rattle.engine_laws.specs.Moves.{Appending, AreDead, AreImages, Images, IsManifestName, IsReady, Rests, Syncing}
 use Rattle.engine_laws.specs.Joints.{IsNowLast, OneRan}
+use Rattle.engine_laws.proofs.Editing.{newest_live}
 use Rattle.engine_laws.proofs.Moving.{appended_rests, newest_log_is, not_live, rest_reads, rest_safe, synced_rests}
 use Rattle.engine_laws.proofs.Calls.{edit_safe, sync_safe, write_safe}
 
@@ -117,7 +118,7 @@ module _ {D F : Type 0} (d : disk.Ghosts D F) (f : file.Ghosts F) (now_last : Is
 
   -- ---- the manifest
 
-  module _ (g : Grammar) (manifest : FileName) (is : IsManifestName manifest) (m next : State) (c : Course) (s : Says) (edit : Edit) (x : D) (before after : List F) (file ran : F) (one : OneRan f before after file ran) (named : f.name file ≡ manifest) (h : Holds m c s []) (may : MayEdit m s edit next)
+  module _ (g : Grammar) (manifest : FileName) (is : IsManifestName manifest) (m next : State) (c : Course) (s : Says) (edit : Edit) (x : D) (before after : List F) (file ran : F) (one : OneRan f before after file ran) (named : f.name file ≡ manifest) (may : MayEdit m s edit next)
       (r : Rests g (MayLeave d f (holding x before)) manifest s) (ready : IsReady g (MayLeave d f (holding x before)) s edit) where
     abbrev EditImage : Image → Type 0
     EditImage i = HasFold i s.fold ⊎ HasFold i (fold_with s.fold edit)
@@ -129,8 +130,8 @@ module _ {D F : Type 0} (d : disk.Ghosts D F) (f : file.Ghosts F) (now_last : Is
         appended_rests g (MayLeave d f (holding x before)) (MayLeave d f (holding x after)) manifest is s edit may.leads.accepted r ready a read
 
     -- an append of an edit
-    pub ran_edit : Leaves f file ran EditImage → Ran d f (λ folder. StandsForSome g folder (IsOutcomeOr m c next)) (holding x before) (holding x after)
-    ran_edit run =
+    pub ran_edit : Holds m c s [] → Leaves f file ran EditImage → Ran d f (λ folder. StandsForSome g folder (IsOutcomeOr m c next)) (holding x before) (holding x after)
+    ran_edit h run =
         let now = MayLeave d f (holding x before) in
         let a : Appending manifest s edit now (While (f.name file) EditImage now) = record { touches = λ n ne i w. w.1 (λ e. ne (e ∙ named)); either = λ i w. w.0 (sym named) } in
         one_ran x before after file ran EditImage one (λ folder. StandsForSome g folder (IsOutcomeOr m c next)) run
@@ -145,5 +146,14 @@ module _ {D F : Type 0} (d : disk.Ghosts D F) (f : file.Ghosts F) (now_last : Is
       (λ folder each. let images : Images = λ n c. ¬ T n → MayLeave d f old n c in rest_reads g images manifest s folder (not_live g (MayLeave d f old) images manifest T s is dead (λ n ne c left. left ne) r) each)
       old new run
 
-  pub dead_rests : (g : Grammar) (manifest : FileName) (is : IsManifestName manifest) (s : Says) (T : FileName → Type 0) (old new : Joint D F) → Rests g (MayLeave d f old) manifest s → AreDead manifest s.fold T → OnlyTouches d f T old new → Rests g (MayLeave d f new) manifest s
-  dead_rests g manifest is s T old new r dead only = not_live g (MayLeave d f old) (MayLeave d f new) manifest T s is dead (λ n ne c left. only.no_more n c ne left) r
+  pub dead_rests : (g : Grammar) (manifest : FileName) (is : IsManifestName manifest) (s : Says) (T : FileName → Type 0) (old new : Joint D F) → Rests g (MayLeave d f old) manifest s → AreDead manifest s.fold T
+      → ((n : FileName) (c : Image) → ¬ T n → MayLeave d f new n c → MayLeave d f old n c) → Rests g (MayLeave d f new) manifest s
+  dead_rests g manifest is s T old new r dead no_more = not_live g (MayLeave d f old) (MayLeave d f new) manifest T s is dead (λ n ne c left. no_more n c ne left) r
+
+  -- between two calls
+  pub now_leaves : (g : Grammar) (manifest : FileName) (m : State) (c : Course) (s : Says) (waiting : List Numbered) (j : Joint D F) → Holds m c s waiting → Rests g (MayLeave d f j) manifest s → LeavesNow d f (λ folder. StandsForSome g folder (IsOutcome m c)) j
+  now_leaves g manifest m c s waiting j h r folder image = rest_safe g (MayLeave d f j) manifest m c s waiting h r folder (image_leaves d f j folder image)
+
+  -- what rests of the newest log
+  pub newest_rests : (g : Grammar) (manifest : FileName) (s : Says) (j : Joint D F) → IsWell s.fold → Rests g (MayLeave d f j) manifest s → (c : Image) → MayLeave d f j (Log (newest_of s)) c → ReadsAs (sizes_of s.fold) (s.logs (newest_of s)) c
+  newest_rests g manifest s j w r c left = r.logs (newest_of s) (newest_live s.fold w) c left

@@ -6,3 +6,4 @@ pub mod Moves
 pub mod Installs
 pub mod Joints
 pub mod Laws
+pub mod JointLaws

@@ -9,6 +9,10 @@ ghost use Rattle.engine_laws.specs.Laws.{FoldsAreWell, DroppedLogsAreDead, Remov
 ghost use Rattle.engine_laws.specs.Laws.{RaiseMayBeMade, RollMayBeMade, FlushMayBeMade, CompactionMayBeMade, HoldsBehindAct, HoldsSealed};
 ghost use Rattle.engine_laws.specs.Laws.{NoEditBeforeSync, NoEarlyDrop, NoEarlyFloor, LoggedIsKept, NoMissingLog, NoMissingTable};
 
+ghost use Rattle.engine_laws.specs.JointLaws.{LeavesOutcomesNow, SyncRunLeavesOutcomes, WriteRunLeavesOutcomes, RestsSynced, EditRunLeavesOutcomes, RestsEdited, DeadRunSaysTheSame, RestsBesideDead};
+
+use udt_disk::{Disk, DiskFile};
+
 /// Between two calls each folder that a crash may leave stands for an outcome.
 pub fn between_calls()
     ensures { StandsBetweenCalls }
@@ -86,4 +90,17 @@ pub fn wrong_orders()
     ensures kept { LoggedIsKept }
     ensures log { NoMissingLog }
     ensures table { NoMissingTable }
+{}
+
+/// The same over a disk and the files of it that are held: runs of calls on the newest log and on the manifest, and on names that aren't
+/// live, and what rests behind them. A call of an engine is composed of them.
+pub fn joint_runs<F: DiskFile, D: Disk<File = F>>()
+    ensures now { LeavesOutcomesNow D.Disk F.DiskFile }
+    ensures sync { SyncRunLeavesOutcomes D.Disk F.DiskFile }
+    ensures write { WriteRunLeavesOutcomes D.Disk F.DiskFile }
+    ensures synced { RestsSynced D.Disk F.DiskFile }
+    ensures edit { EditRunLeavesOutcomes D.Disk F.DiskFile }
+    ensures edited { RestsEdited D.Disk F.DiskFile }
+    ensures dead { DeadRunSaysTheSame D.Disk F.DiskFile }
+    ensures besides { RestsBesideDead D.Disk F.DiskFile }
 {}

@@ -1,0 +1,27 @@
+use Rattle.udt_disk.specs.Crash.{Image}
+use Rattle.udt_disk.specs.declared.name.FileName.{FileName}
+use Rattle.std.specs.Prelude.{Contains}
+use Rattle.udt_disk.specs.Moments.{holding}
+use Rattle.udt_model.specs.Crashes.{course_start}
+use Rattle.engine_laws.specs.Joints.{IsNowLast}
+use Rattle.engine_laws.proofs.Joined.{dead_reads, dead_rests, edit_rests, newest_rests, now_leaves, ran_edit, ran_sync, ran_write, sync_rests}
+use Rattle.engine_laws.proofs.joint_runs.Goals as goal
+
+pub returns : goal.returns
+returns g c =
+    let d = g.D.Disk in
+    let f = g.F.DiskFile in
+    let last : IsNowLast d f = record {
+      disk = λ x n image left. (g.met.D.Disk g.world.𝓛 g.world.𝓜 g.world.𝓡 ((λ s x. x), (λ x. x), (λ x. x), λ x. x)).only_now x n image left;
+      file = λ x image left. (g.met.F.DiskFile g.world.𝓛 g.world.𝓜 g.world.𝓡 ((λ s x. x), (λ x. x), (λ x. x), λ x. x)).only_now x image left;
+    } in
+    record {
+      now = λ gr manifest m co s waiting j h r. now_leaves d f last gr manifest m co s waiting j h r;
+      sync = λ gr manifest m co s waiting x before after wal ran is h r log run. ran_sync d f last gr manifest is s waiting x before after wal ran log.one log.name (newest_rests d f last gr manifest s (holding x before) h.well r) m co h r run;
+      write = λ gr manifest m co s waiting number ops sync x before after wal ran is h next r log run. ran_write d f last gr manifest is m co s waiting number ops sync x before after wal ran h next.accepted next.fits r log.one log.name (newest_rests d f last gr manifest s (holding x before) h.well r) run;
+      synced = λ gr manifest m co s waiting x before after wal ran is h r log done. sync_rests d f last gr manifest is s waiting x before after wal ran log.one log.name (newest_rests d f last gr manifest s (holding x before) h.well r) r done;
+      edit = λ gr manifest m next co s edit x before after old ran is h may r ready file run. ran_edit d f last gr manifest is m next co s edit x before after old ran file.one file.name may r ready h run;
+      edited = λ gr manifest m next s edit x before after old ran is may r ready file done. edit_rests d f last gr manifest is m next (course_start m) s edit x before after old ran file.one file.name may r ready done;
+      dead = λ gr manifest s names old new is r dead run. dead_reads d f last gr manifest is s (Contains names) old new r dead run;
+      besides = λ gr manifest s names old new is r dead no_more. dead_rests d f last gr manifest is s (Contains names) old new r dead no_more;
+    }

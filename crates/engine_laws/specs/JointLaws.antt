@@ -1,0 +1,99 @@
+-- The laws of runs of calls on a disk and on the files of it that an engine holds.
+use Rattle.std.specs.Prelude.{◌≡◌, ◌⊎◌, ℕ, Bool, List, [], ◌∷◌, ◌++◌, Contains}
+use Rattle.ts_key.specs.declared.batch.WriteOp.{WriteOp}
+use Rattle.udt_disk.specs.Crash.{Image}
+use Rattle.udt_disk.specs.Joint.{Folder, Joint, LeavesNow, Ran}
+use Rattle.udt_disk.specs.Moments.{AsAtBut, MayLeave, holding}
+use Rattle.udt_disk.specs.Runs.{Leaves}
+use Rattle.udt_disk.specs.declared.name.FileName.{FileName}
+use Rattle.udt_disk.specs.declared.name.FileName.TheVariants.{Log}
+use Rattle.udt_disk.specs.declared.file.DiskFile as file
+use Rattle.udt_disk.specs.declared.disk.Disk as disk
+use Rattle.wal.specs.declared.numbered.Numbered.{Numbered}
+use Rattle.wal.specs.Replays.{IsBeforeOrAfter, ReadsAs}
+use Rattle.udt_model.specs.State.{State}
+use Rattle.udt_model.specs.Acts.Act.{write}
+use Rattle.udt_model.specs.Crashes.{Course, IsOutcome, IsOutcomeUnder}
+use Rattle.manifest_edit.specs.declared.edit.Edit.{Edit}
+use Rattle.manifest_fold.specs.Folds.{fold_with}
+use Rattle.engine_laws.specs.Logs.{sizes_of}
+use Rattle.engine_laws.specs.Manifests.{HasFold}
+use Rattle.engine_laws.specs.Standing.{Grammar, Reads, Says, StandsForSome}
+use Rattle.engine_laws.specs.Engine.{Holds, IsOutcomeOr, MayEdit, newest_of, next_batch, with_batches, with_edit}
+use Rattle.engine_laws.specs.Moves.{AreDead, IsManifestName, IsReady, Rests}
+use Rattle.engine_laws.specs.Joints.{OneRan}
+use Rattle.engine_laws.specs.Laws.{IsNextWrite}
+
+-- what a sync leaves of the newest log: what was there, or all that waited behind it
+abbrev pub IsSyncImage : Says → List Numbered → Image → Type 0
+IsSyncImage s waiting = IsBeforeOrAfter (sizes_of s.fold) (s.logs (newest_of s)) waiting
+
+-- what an append of an edit leaves of the manifest
+abbrev pub IsEditImage : Says → Edit → Image → Type 0
+IsEditImage s edit image = HasFold image s.fold ⊎ HasFold image (fold_with s.fold edit)
+
+module _ {D F : Type 0} (d : disk.Ghosts D F) (f : file.Ghosts F) where
+  -- what the engine's files say rests on the disk and in the files that are held
+  abbrev pub RestIn : Grammar → Joint D F → FileName → Says → Type 0
+  RestIn g j manifest s = Rests g (MayLeave d f j) manifest s
+
+  -- the held file of the newest log ran on, which rested
+  pub record LogRan (s : Says) (x : D) (before after : List F) (wal ran : F) : Type 0 where
+    pub one : OneRan f before after wal ran
+    pub name : f.name wal ≡ Log (newest_of s)
+
+  -- the held file of the manifest ran on
+  pub record ManifestRan (manifest : FileName) (before after : List F) (old ran : F) : Type 0 where
+    pub one : OneRan f before after old ran
+    pub name : f.name old ≡ manifest
+
+  -- ---- the newest log
+
+  -- while it is synced a crash leaves only folders that stand for outcomes
+  abbrev pub SyncRunLeavesOutcomes : Type 0
+  SyncRunLeavesOutcomes = (g : Grammar) (manifest : FileName) (m : State) (c : Course) (s : Says) (waiting : List Numbered) (x : D) (before after : List F) (wal ran : F)
+      → IsManifestName manifest → Holds m c s waiting → RestIn g (holding x before) manifest s → LogRan s x before after wal ran → Leaves f wal ran (IsSyncImage s waiting)
+      → Ran d f (λ folder. StandsForSome g folder (IsOutcome m c)) (holding x before) (holding x after)
+
+  -- and while it is synced under a write
+  abbrev pub WriteRunLeavesOutcomes : Type 0
+  WriteRunLeavesOutcomes = (g : Grammar) (manifest : FileName) (m : State) (c : Course) (s : Says) (waiting : List Numbered) (number : ℕ) (ops : List WriteOp) (sync : Bool) (x : D) (before after : List F) (wal ran : F)
+      → IsManifestName manifest → Holds m c s waiting → IsNextWrite m s ops sync → RestIn g (holding x before) manifest s → LogRan s x before after wal ran → Leaves f wal ran (IsSyncImage s (waiting ++ next_batch m ops ∷ []))
+      → Ran d f (λ folder. StandsForSome g folder (IsOutcomeUnder m c number (write ops sync))) (holding x before) (holding x after)
+
+  -- where afterwards it may leave only a log with all that waited, all rests
+  abbrev pub RestsSynced : Type 0
+  RestsSynced = (g : Grammar) (manifest : FileName) (m : State) (c : Course) (s : Says) (waiting : List Numbered) (x : D) (before after : List F) (wal ran : F)
+      → IsManifestName manifest → Holds m c s waiting → RestIn g (holding x before) manifest s → LogRan s x before after wal ran
+      → ((image : Image) → f.may_leave ran image → ReadsAs (sizes_of s.fold) (s.logs (newest_of s) ++ waiting) image) → RestIn g (holding x after) manifest (with_batches s waiting)
+
+  -- ---- the manifest
+
+  -- while an edit is appended a crash leaves only folders that stand for outcomes, or for the next state
+  abbrev pub EditRunLeavesOutcomes : Type 0
+  EditRunLeavesOutcomes = (g : Grammar) (manifest : FileName) (m next : State) (c : Course) (s : Says) (edit : Edit) (x : D) (before after : List F) (old ran : F)
+      → IsManifestName manifest → Holds m c s [] → MayEdit m s edit next → RestIn g (holding x before) manifest s → IsReady g (MayLeave d f (holding x before)) s edit
+      → ManifestRan manifest before after old ran → Leaves f old ran (IsEditImage s edit) → Ran d f (λ folder. StandsForSome g folder (IsOutcomeOr m c next)) (holding x before) (holding x after)
+
+  -- where afterwards it may leave only the fold with the edit, all rests
+  abbrev pub RestsEdited : Type 0
+  RestsEdited = (g : Grammar) (manifest : FileName) (m next : State) (s : Says) (edit : Edit) (x : D) (before after : List F) (old ran : F)
+      → IsManifestName manifest → MayEdit m s edit next → RestIn g (holding x before) manifest s → IsReady g (MayLeave d f (holding x before)) s edit
+      → ManifestRan manifest before after old ran → ((image : Image) → f.may_leave ran image → HasFold image (fold_with s.fold edit)) → RestIn g (holding x after) manifest (with_edit s edit)
+
+  -- ---- names that aren't live
+
+  -- at each moment of calls that touch only names that aren't live, whatever files are held, a crash leaves only folders that say the same
+  abbrev pub DeadRunSaysTheSame : Type 0
+  DeadRunSaysTheSame = (g : Grammar) (manifest : FileName) (s : Says) (names : List FileName) (old new : Joint D F)
+      → IsManifestName manifest → RestIn g old manifest s → AreDead manifest s.fold (Contains names) → Ran d f (AsAtBut d f (Contains names) old) old new → Ran d f (λ folder. Reads g folder s) old new
+
+  -- and where under every other name it leaves nothing new, all rests afterwards
+  abbrev pub RestsBesideDead : Type 0
+  RestsBesideDead = (g : Grammar) (manifest : FileName) (s : Says) (names : List FileName) (old new : Joint D F)
+      → IsManifestName manifest → RestIn g old manifest s → AreDead manifest s.fold (Contains names) → ((n : FileName) (image : Image) → ¬ Contains names n → MayLeave d f new n image → MayLeave d f old n image) → RestIn g new manifest s
+
+  -- between two calls
+  abbrev pub LeavesOutcomesNow : Type 0
+  LeavesOutcomesNow = (g : Grammar) (manifest : FileName) (m : State) (c : Course) (s : Says) (waiting : List Numbered) (j : Joint D F)
+      → Holds m c s waiting → RestIn g j manifest s → LeavesNow d f (λ folder. StandsForSome g folder (IsOutcome m c)) j
