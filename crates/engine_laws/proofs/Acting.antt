@@ -32,9 +32,9 @@ act_holds m c s waiting number act reply edit h r is_sync ends may =
     let d = course_after m number c act reply in
     let k = sync_unasked m c s waiting h in
     let low : d.synced ≤ m.last.0 =
-        let e : d.synced ≡ next.last.0 = subst (λ b. (if b then next.last.0 else c.synced) ≡ next.last.0) (sym is_sync) refl in
-        let l : next.last.0 ≡ m.last.0 = ap (λ (z : Seq). z.0) may.leads.same_last in
-        omega (arith, e, l) in
+    let e : d.synced ≡ next.last.0 = subst (λ b. (if b then next.last.0 else c.synced) ≡ next.last.0) (sym is_sync) refl in
+    let l : next.last.0 ≡ m.last.0 = ap (λ (z : Seq). z.0) may.leads.same_last in
+    omega (arith, e, l) in
     edit_holds_on m c (with_batches s waiting) edit next k may d (edit_course m c (with_batches s waiting) edit next k may d ends low (course_sound m c number act reply h.sound h.course.sound r))
 
 pub seal_holds : (m : State) (c : Course) (s : Says) (waiting : List Numbered) (number : ℕ) (family : Family) (log : ℕ)

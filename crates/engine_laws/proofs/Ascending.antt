@@ -13,8 +13,8 @@ rising_sorted (n ∷ []) h = ((λ m i. absurd i), tt)
 rising_sorted (n ∷ k ∷ ns) h =
     let up : n < k = h 0 (omega arith) in
     let rest : IsStrictlyIncreasing (k ∷ ns) = λ j l.
-        let e : suc j + 1 ≡ suc (j + 1) = omega arith in
-        subst (λ z. slice_index (k ∷ ns) j < slice_index (n ∷ k ∷ ns) z) e (h (suc j) (omega (arith, l))) in
+    let e : suc j + 1 ≡ suc (j + 1) = omega arith in
+    subst (λ z. slice_index (k ∷ ns) j < slice_index (n ∷ k ∷ ns) z) e (h (suc j) (omega (arith, l))) in
     let r = rising_sorted (k ∷ ns) rest in
     ((λ m i. elim i [ inl q ↦ omega (arith, up, q) | inr j ↦ let u = r.0 m j in omega (arith, up, u) ]), r)
 

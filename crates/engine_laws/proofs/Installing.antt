@@ -117,9 +117,9 @@ module _ (m : State) (c : Course) (s : Says) (h : Holds m c s []) where
   fresh_free : (edit : Edit) (removed : List ℕ) (n : ℕ) → (In n m.used → ⊥) → IsFree s.fold.families removed n
   fresh_free edit removed n fresh =
       let dead : is_live s.fold.families n ≡ false = false_from_ne_true (is_live s.fold.families n) (λ y.
-          let r = live_known s.fold edit s.fold.families n y in
-          let k = In-get s.fold.families r.0 r.1 in
-          fresh_dead n fresh (record { 0 = k.0 }) r.0 r.2.0 (record { family = k.1; table = In-contains r.0.tables r.2.0 r.2.1 }) r.2.2) in
+      let r = live_known s.fold edit s.fold.families n y in
+      let k = In-get s.fold.families r.0 r.1 in
+      fresh_dead n fresh (record { 0 = k.0 }) r.0 r.2.0 (record { family = k.1; table = In-contains r.0.tables r.2.0 r.2.1 }) r.2.2) in
       or_right (list_any (λ m. m == n) removed) (not (is_live s.fold.families n)) (ap not dead)
 
 -- ---- a raise
@@ -138,19 +138,23 @@ raise_may m c s number i floor old next h r there file =
     let fam = family_is m c s h i old there in
     let told = told_of m (raise i floor) Done r (λ q. absurd (cc)) (λ b. b) in
     let up : old.floor.0 ≤ floor.0 = raise_rises m i floor (family_said s.tables old) told fam in
-    let part : IsPart s.fold.families edit (Some e) = (old, there, record {
-      floor = up;
-      through = omega arith;
-      within = (h.sound.families i (family_said s.tables old) fam).tables.through;
-      tables = record {
-        added = λ k l. absurd (omega (arith, l));
-        removed = λ k l. absurd (omega (arith, l));
-        levels = All-nil (λ (t : TableAt). t.level ≤ LOWEST_LEVEL);
-        below = All-nil (λ (t : TableAt). t.number < next);
-        live = All-nil (λ n. IsTrue (has_table_number old.tables n));
-        free = All-nil (λ (t : TableAt). IsFree s.fold.families [] t.number);
-      };
-    }) in
+    let part : IsPart s.fold.families edit (Some e) = (
+      old,
+      there,
+      record {
+        floor = up;
+        through = omega arith;
+        within = (h.sound.families i (family_said s.tables old) fam).tables.through;
+        tables = record {
+          added = λ k l. absurd (omega (arith, l));
+          removed = λ k l. absurd (omega (arith, l));
+          levels = All-nil (λ (t : TableAt). t.level ≤ LOWEST_LEVEL);
+          below = All-nil (λ (t : TableAt). t.number < next);
+          live = All-nil (λ n. IsTrue (has_table_number old.tables n));
+          free = All-nil (λ (t : TableAt). IsFree s.fold.families [] t.number);
+        };
+      },
+    ) in
     let kept : without_tables [] old.tables ≡ old.tables = filter_every (λ (t : TableAt). not (list_any (λ n. t.number == n) [])) old.tables (λ t j. refl) in
     let is : family_said s.tables (family_with old e) ≡ with_floor floor (family_said s.tables old) = ap (λ ts. let f : FamilyState = record { head = head_with_floor floor (head_of old); through = old.through; tables = map (table_of s.tables) ts } in f) kept in
     record {
@@ -295,19 +299,23 @@ module _ (m : State) (c : Course) (s : Says) (number start table kept next : ℕ
       let edit = flush_edit m.last next gone job.family floor job.through table in
       let e = flush_part in
       let rest_is : drop (length gone) s.fold.logs ≡ rest = ap (drop (length gone)) logs ∙ drop-append_seam gone rest in
-      let part : IsPart s.fold.families edit (Some e) = (old, there, record {
-        floor = flush_up;
-        through = flush_through;
-        within = flush_right.3;
-        tables = record {
-          added = λ k l. absurd (omega (arith, l));
-          removed = λ k l. absurd (omega (arith, l));
-          levels = All-from (λ (t : TableAt). t.level ≤ LOWEST_LEVEL) e.add (λ t i. elim i [ inl q ↦ let l : 0 ≡ t.level = ap (λ (z : TableAt). z.level) q in omega (arith, l) | inr b ↦ absurd b ]);
-          below = All-from (λ (t : TableAt). t.number < next) e.add (λ t i. elim i [ inl q ↦ let l : table ≡ t.number = ap number_of q in omega (arith, l, below) | inr b ↦ absurd b ]);
-          live = All-nil (λ n. IsTrue (has_table_number old.tables n));
-          free = All-from (λ (t : TableAt). IsFree s.fold.families [] t.number) e.add (λ t i. elim i [ inl q ↦ subst (IsFree s.fold.families []) (ap number_of q) (fresh_free m c s h edit [] table flush_fresh) | inr b ↦ absurd b ]);
-        };
-      }) in
+      let part : IsPart s.fold.families edit (Some e) = (
+        old,
+        there,
+        record {
+          floor = flush_up;
+          through = flush_through;
+          within = flush_right.3;
+          tables = record {
+            added = λ k l. absurd (omega (arith, l));
+            removed = λ k l. absurd (omega (arith, l));
+            levels = All-from (λ (t : TableAt). t.level ≤ LOWEST_LEVEL) e.add (λ t i. elim i [ inl q ↦ let l : 0 ≡ t.level = ap (λ (z : TableAt). z.level) q in omega (arith, l) | inr b ↦ absurd b ]);
+            below = All-from (λ (t : TableAt). t.number < next) e.add (λ t i. elim i [ inl q ↦ let l : table ≡ t.number = ap number_of q in omega (arith, l, below) | inr b ↦ absurd b ]);
+            live = All-nil (λ n. IsTrue (has_table_number old.tables n));
+            free = All-from (λ (t : TableAt). IsFree s.fold.families [] t.number) e.add (λ t i. elim i [ inl q ↦ subst (IsFree s.fold.families []) (ap number_of q) (fresh_free m c s h edit [] table flush_fresh) | inr b ↦ absurd b ]);
+          };
+        },
+      ) in
       record {
         leads = record {
           accepted = record {
@@ -332,9 +340,9 @@ module _ (m : State) (c : Course) (s : Says) (number start table kept next : ℕ
         };
         flushed = drops_flushed m c s h flushed_next edit upto flush_versions
             (λ i x q.
-                let a = get-map (family_said s.tables) (families_with s.fold.families (Some e)) i.0 x (subst (λ z. slice_get z i.0 ≡ Some x) flush_families q) in
-                let b = family_back s.fold edit (Some e) i.0 a.0 part a.1 in
-                (family_said s.tables b.0, family_is m c s h i b.0 b.1, subst (λ (z : FamilyState). b.0.through.0 ≤ z.through.0) a.2 b.2.through))
+            let a = get-map (family_said s.tables) (families_with s.fold.families (Some e)) i.0 x (subst (λ z. slice_get z i.0 ≡ Some x) flush_families q) in
+            let b = family_back s.fold edit (Some e) i.0 a.0 part a.1 in
+            (family_said s.tables b.0, family_is m c s h i b.0 b.1, subst (λ (z : FamilyState). b.0.through.0 ≤ z.through.0) a.2 b.2.through))
             covers drops (λ n i. subst (λ z. In n z) (sym logs) (In-left n gone rest i));
         fits = fits_with m c s h edit e old refl part there (λ t i. elim i [ inl q ↦ subst (λ (z : TableAt). Fits job.family (family_with old e) (s.tables z.number)) q (record { family = fits.family; form = fits.form; collected = fits.collected }) | inr b ↦ absurd b ]);
         sound = sound_after m number (flush_end job.family start) (Table table kept floor) h.sound r;
@@ -395,25 +403,29 @@ module _ (m : State) (c : Course) (s : Says) (number start kept next : ℕ) (pie
       let edit = compact_edit m.last next job.family old add job.inputs in
       let e = compact_part in
       let k = compact_right in
-      let part : IsPart s.fold.families edit (Some e) = (old, there, record {
-        floor = omega arith;
-        through = omega arith;
-        within = (h.sound.families job.family (family_said s.tables old) compact_fam).tables.through;
-        tables = record {
-          added = ascends;
-          removed = sorted_rising job.inputs (sorted_of job.inputs k.ascending);
-          levels = All-from (λ (t : TableAt). t.level ≤ LOWEST_LEVEL) add (λ t i.
-              let l = from_level job.level (compaction_kept m job) pieces (table_of s.tables t) (subst (λ z. In (table_of s.tables t) z) says (In-map (table_of s.tables) t add i)) in
-              let u = k.below in
-              omega (arith, l, u));
-          below = below;
-          live = All-from (λ n. IsTrue (has_table_number old.tables n)) job.inputs (λ n i.
-              let x = numbers-In n (map (table_of s.tables) old.tables) (k.live n i) in
-              let y = map-In (table_of s.tables) x.0 old.tables x.1 in
-              any-In (λ (t : TableAt). t.number == n) y.0 old.tables y.1 (eq-eqb y.0.number n (ap (λ (z : LiveTable). z.number) y.2 ∙ x.2)));
-          free = All-from (λ (t : TableAt). IsFree s.fold.families job.inputs t.number) add (λ t i. fresh_free m c s h edit job.inputs t.number (compact_fresh t i));
-        };
-      }) in
+      let part : IsPart s.fold.families edit (Some e) = (
+        old,
+        there,
+        record {
+          floor = omega arith;
+          through = omega arith;
+          within = (h.sound.families job.family (family_said s.tables old) compact_fam).tables.through;
+          tables = record {
+            added = ascends;
+            removed = sorted_rising job.inputs (sorted_of job.inputs k.ascending);
+            levels = All-from (λ (t : TableAt). t.level ≤ LOWEST_LEVEL) add (λ t i.
+                let l = from_level job.level (compaction_kept m job) pieces (table_of s.tables t) (subst (λ z. In (table_of s.tables t) z) says (In-map (table_of s.tables) t add i)) in
+                let u = k.below in
+                omega (arith, l, u));
+            below = below;
+            live = All-from (λ n. IsTrue (has_table_number old.tables n)) job.inputs (λ n i.
+                let x = numbers-In n (map (table_of s.tables) old.tables) (k.live n i) in
+                let y = map-In (table_of s.tables) x.0 old.tables x.1 in
+                any-In (λ (t : TableAt). t.number == n) y.0 old.tables y.1 (eq-eqb y.0.number n (ap (λ (z : LiveTable). z.number) y.2 ∙ x.2)));
+            free = All-from (λ (t : TableAt). IsFree s.fold.families job.inputs t.number) add (λ t i. fresh_free m c s h edit job.inputs t.number (compact_fresh t i));
+          };
+        },
+      ) in
       record {
         leads = record {
           accepted = record { next = file.more; most = file.most; last = fold_last m c s h; within = h.within; logs = same_logs m c s h edit refl refl; part = part };

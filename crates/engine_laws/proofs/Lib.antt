@@ -15,3 +15,4 @@ pub mod Installing
 pub mod Joined
 pub mod Acting
 pub mod Refused
+pub mod Rows

@@ -64,13 +64,16 @@ sorted_place t (u ∷ us) h =
         | inr b ↦
             let l = behind_of t.number u.number a b in
             let r = sorted_place t us h.1 in
-            rw (a, b) ((λ m i.
-                let w = map-In number_of m (place_table t us) i in
-                let e = w.2 in
-                elim (place-In t w.0 us w.1) [
-                  | inl q ↦ let d : t.number ≡ w.0.number = ap number_of q in omega (arith, l, d, e)
-                  | inr j ↦ let k = h.0 w.0.number (In-map number_of w.0 us j) in omega (arith, k, e)
-                ]), r)
+            rw (a, b) (
+              (λ m i.
+                  let w = map-In number_of m (place_table t us) i in
+                  let e = w.2 in
+                  elim (place-In t w.0 us w.1) [
+                    | inl q ↦ let d : t.number ≡ w.0.number = ap number_of q in omega (arith, l, d, e)
+                    | inr j ↦ let k = h.0 w.0.number (In-map number_of w.0 us j) in omega (arith, k, e)
+                  ]),
+              r,
+            )
       ]
     ]
 

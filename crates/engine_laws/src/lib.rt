@@ -5,10 +5,8 @@
 ghost use Rattle.engine_laws.specs.Laws.{StandsBetweenCalls, OnlyLiveNamesCount, SyncLeavesOutcomes, HoldsSynced, HoldsAllSynced, WriteLeavesOutcomes, HoldsWriteThatWaits, HoldsSyncedWrite};
 ghost use Rattle.engine_laws.specs.Laws.{EditLeavesOutcomes, EditsAreOfActs, EditsMayChangeNothing, HoldsEdited, AppendLeavesFolds, HoldsBesides, HoldsByLiveFiles, TablesMayBeSet, LogsMayBeSet};
 ghost use Rattle.engine_laws.specs.Laws.{FoldsAreWell, DroppedLogsAreDead, RemovedTablesAreDead, HoldsOpened, NewStoreStands};
-
 ghost use Rattle.engine_laws.specs.Laws.{RaiseMayBeMade, RollMayBeMade, FlushMayBeMade, CompactionMayBeMade, HoldsBehindAct, HoldsSealed};
 ghost use Rattle.engine_laws.specs.Laws.{NoEditBeforeSync, NoEarlyDrop, NoEarlyFloor, LoggedIsKept, NoMissingLog, NoMissingTable};
-
 ghost use Rattle.engine_laws.specs.JointLaws.{LeavesOutcomesNow, SyncRunLeavesOutcomes, WriteRunLeavesOutcomes, RestsSynced, EditRunLeavesOutcomes, RestsEdited, DeadRunSaysTheSame, RestsBesideDead};
 
 use udt_disk::{Disk, DiskFile};
