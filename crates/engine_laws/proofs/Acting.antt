@@ -1,5 +1,5 @@
 -- What the engine holds behind an act that makes an edit.
-use Rattle.std.proofs.Common.{◌≡◌, ℕ, ◌+◌, ◌≤◌, true, List, [], refl, sym, ap, ◌∙◌, subst, arith}
+use Rattle.std.proofs.Common.{◌≡◌, ℕ, ◌+◌, ◌≤◌, List, [], refl, sym, ap, ◌∙◌, subst, arith}
 use Rattle.std.specs.Prelude.{IsTrue, if◌then◌else◌}
 use Rattle.ts_key.specs.declared.numbers.Family.{Family}
 use Rattle.ts_key.specs.declared.numbers.Seq.{Seq}
@@ -16,7 +16,7 @@ use Rattle.manifest_fold.specs.declared.limits.TheConstants.{FILE_LIMIT}
 use Rattle.floor_laws.proofs.Courses.{course_sound}
 use Rattle.floor_laws.proofs.Told.{sound_after}
 use Rattle.engine_laws.specs.Standing.{Says}
-use Rattle.engine_laws.specs.Engine.{AreSameKept, Holds, MayEdit, newest_of, with_batches, with_edit}
+use Rattle.engine_laws.specs.Engine.{AreSameKept, Holds, MayEdit, with_batches, with_edit}
 use Rattle.engine_laws.specs.Installs.{roll_edit}
 use Rattle.engine_laws.proofs.Resting.{synced_low}
 use Rattle.engine_laws.proofs.Syncing.{sync_unasked}

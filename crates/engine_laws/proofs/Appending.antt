@@ -1,7 +1,7 @@
 -- An edit's body behind those of a manifest.
-use Rattle.std.proofs.Common.{◌≡◌, ◌⊎◌, ℕ, List, [], ◌∷◌, ◌++◌, Some, None, refl, sym, subst, inl, inr}
+use Rattle.std.proofs.Common.{◌≡◌, ◌⊎◌, ℕ, List, [], ◌∷◌, ◌++◌, Some, None, refl, subst, inl, inr}
 use Rattle.udt_disk.specs.Crash.{Image}
-use Rattle.gate_log.specs.Frames.{IsLog, IsLogImage, IsWithOrWithout}
+use Rattle.gate_log.specs.Frames.{IsLogImage, IsWithOrWithout}
 use Rattle.manifest_edit.specs.declared.edit.Edit.{Edit}
 use Rattle.manifest_edit.specs.Edits.{IsEdit}
 use Rattle.manifest_fold.specs.declared.fold.Folded.{Folded}

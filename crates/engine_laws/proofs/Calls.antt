@@ -1,5 +1,5 @@
 -- The calls of the engine: at each moment each folder that a crash may leave stands for an outcome.
-use Rattle.std.proofs.Common.{◌≡◌, ◌⊎◌, ℕ, ◌+◌, ◌≤◌, Bool, true, List, [], ◌∷◌, ◌++◌, length, refl, sym, ap, ◌∙◌, subst, arith, inl, inr}
+use Rattle.std.proofs.Common.{◌≡◌, ◌⊎◌, ℕ, ◌+◌, Bool, List, [], ◌∷◌, ◌++◌, length, refl, sym, ap, ◌∙◌, subst, inl, inr}
 use Rattle.std.specs.Prelude.{IsTrue}
 use Rattle.std.proofs.lemmas.List.Elements.{Contains-append_left, Contains-push}
 use Rattle.ts_key.specs.declared.batch.WriteOp.{WriteOp}
@@ -19,7 +19,7 @@ use Rattle.floor_laws.proofs.Told.{told_of}
 use Rattle.engine_laws.specs.Standing.{Grammar, Reads, Says, StandsForSome}
 use Rattle.engine_laws.specs.Engine.{AreSameKept, Holds, IsOnCourse, IsOutcomeOr, MayEdit, durable_last, next_batch, with_batches, with_edit}
 use Rattle.engine_laws.specs.Moves.{Appending, Images, IsManifestName, IsReady, IsSafe, Rests, Syncing}
-use Rattle.engine_laws.proofs.Resting.{rest_outcome, rest_stands, stands_rest, whole_outcome, whole_stands}
+use Rattle.engine_laws.proofs.Resting.{stands_rest, whole_outcome, whole_stands}
 use Rattle.engine_laws.proofs.Syncing.{sync_stands, write_holds_on}
 use Rattle.engine_laws.proofs.Editing.{edit_stands}
 use Rattle.engine_laws.proofs.Moving.{appending_reads, syncing_reads}

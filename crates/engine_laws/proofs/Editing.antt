@@ -1,7 +1,6 @@
 -- An edit of the manifest, where nothing waits.
-use Rattle.std.proofs.Common.{◌≡◌, ◌⊎◌, ℕ, ◌<◌, ◌≤◌, ◌==◌, Bool, true, List, [], ◌∷◌, ◌++◌, map, take, drop, length, Option, Some, None, refl, sym, ap, ◌∙◌, subst, arith, inl, inr}
+use Rattle.std.proofs.Common.{◌≡◌, ℕ, ◌<◌, ◌≤◌, ◌==◌, true, List, [], ◌∷◌, ◌++◌, map, take, drop, length, Some, None, refl, sym, ap, ◌∙◌, subst, arith, inl}
 use Rattle.std.specs.Prelude.{nat_lt, All, Contains, slice_get}
-use Rattle.std.specs.List.{filter}
 use Rattle.std.proofs.lemmas.Bool.{eqb-true, eq-eqb, ltb-true, lt-ltb, and_parts, and_from, false_from_ne_true}
 use Rattle.std.proofs.lemmas.List.{append-nil, take-append-drop}
 use Rattle.std.proofs.lemmas.List.Elements.{filter-append}
@@ -23,7 +22,7 @@ use Rattle.floor_laws.proofs.Members.{In, In-contains, In-right, contains_In, Al
 use Rattle.floor_laws.proofs.Kept.{same_number}
 use Rattle.engine_laws.specs.Logs.{sizes_of, above, is_above, versions_of, last_of, last_over, batches_of}
 use Rattle.engine_laws.specs.Manifests.{IsWell}
-use Rattle.engine_laws.specs.Standing.{Says, StandsFor, families_said, family_said, live_batches}
+use Rattle.engine_laws.specs.Standing.{Says, StandsFor, family_said, live_batches}
 use Rattle.engine_laws.specs.Engine.{durable_last, with_edit, Holds, IsOnCourse, MayEdit}
 use Rattle.engine_laws.proofs.Places.{get-map, map-get}
 use Rattle.engine_laws.proofs.Ascending.{newest_of, rising_sorted}

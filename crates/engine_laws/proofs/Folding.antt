@@ -1,9 +1,9 @@
 -- What every fold of a manifest keeps, and what leaves it.
-use Rattle.std.proofs.Common.{◌≡◌, ◌⊎◌, ℕ, zero, suc, ◌<◌, ◌≤◌, ◌==◌, Bool, true, false, List, [], ◌∷◌, ◌++◌, map, take, drop, length, Option, Some, None, refl, sym, ap, ◌∙◌, subst, arith, inl, inr}
-use Rattle.std.specs.Prelude.{All, Contains, IsTrue, not, ◌||◌, slice_get, slice_set}
-use Rattle.std.specs.List.{filter, list_any}
+use Rattle.std.proofs.Common.{◌≡◌, ◌⊎◌, ℕ, ◌<◌, ◌≤◌, ◌==◌, true, false, List, [], ◌∷◌, ◌++◌, map, take, drop, length, Option, Some, None, refl, sym, ap, ◌∙◌, subst, arith, inl, inr}
+use Rattle.std.specs.Prelude.{IsTrue, not, ◌||◌, slice_get, slice_set}
+use Rattle.std.specs.List.{list_any}
 use Rattle.std.specs.List.Sorted.{IsStrictlyIncreasing}
-use Rattle.std.proofs.lemmas.Bool.{cases_Bool, eqb-true, eq-eqb, not-true, or_cases, false≢true}
+use Rattle.std.proofs.lemmas.Bool.{eqb-true, eq-eqb, not-true, or_cases, false≢true}
 use Rattle.std.proofs.lemmas.List.{take-append-drop}
 use Rattle.ts_key.specs.declared.numbers.Family.{Family}
 use Rattle.udt_model.specs.declared.line.FamilyHead.{FamilyHead}
@@ -16,12 +16,12 @@ use Rattle.manifest_fold.specs.declared.fold.Folded.{Folded}
 use Rattle.manifest_fold.specs.declared.limits.TheConstants.{LOWEST_LEVEL}
 use Rattle.manifest_fold.specs.Folds.{IsAccepted, IsFree, IsFamilyEdit, IsPart, family_with, families_with, fold_with, is_live, newest_log, put_over}
 use Rattle.manifest_fold.specs.Bodies.{LeadAll}
-use Rattle.floor_laws.proofs.Members.{In, In-contains, contains_In, All-In, All-from, In-append, In-left, In-right, filter-In, any-In, In-any}
+use Rattle.floor_laws.proofs.Members.{In, In-contains, contains_In, All-In, All-from, In-append, In-left, filter-In, any-In, In-any}
 use Rattle.floor_laws.proofs.Kept.{same_number}
 use Rattle.floor_laws.proofs.Tables.{Sorted}
 use Rattle.engine_laws.specs.Manifests.{IsLive, IsWell, family_fold, fold_of, number_of}
 use Rattle.engine_laws.proofs.Places.{get-map, get-set, get-In, length-set}
-use Rattle.engine_laws.proofs.Ascending.{Newest, newest_of, rising_sorted, sorted_rising, sorted_append, sorted_drop, sorted_apart, drop-In}
+use Rattle.engine_laws.proofs.Ascending.{newest_of, rising_sorted, sorted_rising, sorted_append, sorted_drop, sorted_apart, drop-In}
 use Rattle.engine_laws.proofs.Placing.{placed-In, sorted_filter, sorted_placed}
 
 -- ---- live tables, by what is in a list
@@ -166,7 +166,7 @@ module _ (fold : Folded) (edit : Edit) where
   some_In [] h = absurd (omega (arith, h))
   some_In (n ∷ ns) h = (n, inl refl)
 
-  logs_In : (n : ℕ) → In n (fold_with fold edit).logs → In n fold.logs ⊎ In n edit.add_logs
+  pub logs_In : (n : ℕ) → In n (fold_with fold edit).logs → In n fold.logs ⊎ In n edit.add_logs
   logs_In n i = elim (In-append n (drop (length edit.drop_logs) fold.logs) edit.add_logs i) [ inl j ↦ inl (drop-In (length edit.drop_logs) fold.logs n j) | inr j ↦ inr j ]
 
   -- a fold goes on to be well

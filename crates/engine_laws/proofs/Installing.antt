@@ -1,24 +1,21 @@
 -- The edits of the engine may be made, and lead to the states of the model.
-use Rattle.std.proofs.Common.{◌≡◌, ◌⊎◌, ℕ, zero, suc, ◌+◌, ◌<◌, ◌≤◌, ◌==◌, Bool, true, false, List, [], ◌∷◌, ◌++◌, map, take, drop, length, Option, Some, None, refl, sym, ap, ◌∙◌, subst, arith, inl, inr}
-use Rattle.std.specs.Prelude.{All, Contains, IsTrue, not, ◌||◌, option_map, slice_get, slice_set}
-use Rattle.std.specs.List.{filter, list_any}
+use Rattle.std.proofs.Common.{◌≡◌, ℕ, zero, suc, ◌+◌, ◌<◌, ◌≤◌, ◌==◌, false, List, [], ◌∷◌, ◌++◌, map, take, drop, length, Some, None, refl, sym, ap, ◌∙◌, subst, arith, inl, inr}
+use Rattle.std.specs.Prelude.{All, Contains, IsTrue, not, option_map, slice_get, slice_set}
+use Rattle.std.specs.List.{list_any}
 use Rattle.std.specs.List.Sorted.{IsStrictlyIncreasing}
-use Rattle.std.proofs.lemmas.Bool.{cases_Bool, cases_lt, eq-eqb, eqb-true, false_from_ne_true, or_right}
+use Rattle.std.proofs.lemmas.Bool.{cases_lt, eq-eqb, false_from_ne_true, or_right}
 use Rattle.std.proofs.lemmas.List.{append-nil, length-append}
 use Rattle.std.proofs.lemmas.List.Elements.{All-nil}
 use Rattle.std.proofs.Math.Seq.{drop-append_seam, take-append_seam}
 use Rattle.ts_key.specs.declared.numbers.Family.{Family}
-use Rattle.ts_key.specs.declared.numbers.Seq.{Seq}
 use Rattle.ts_key.specs.declared.numbers.Ts.{Ts}
 use Rattle.ts_key.specs.declared.version.Version.{Version}
-use Rattle.wal.specs.declared.numbered.Numbered.{Numbered}
 use Rattle.udt_model.specs.declared.reply.Piece.{Piece}
-use Rattle.udt_model.specs.declared.reply.Reply.{Reply}
 use Rattle.udt_model.specs.declared.reply.Reply.TheVariants.{Done, Kept, Table}
-use Rattle.udt_model.specs.State.{Compaction, FamilyState, Flush, LiveTable, State, changed_at, family_at, floor_of, form_at, head_with_floor, numbers_of, place_at, place_of_family, with_family, with_floor, with_tables}
+use Rattle.udt_model.specs.State.{Compaction, FamilyState, Flush, LiveTable, State, changed_at, family_at, floor_of, form_at, head_with_floor, numbers_of, place_at, place_of_family, with_floor, with_tables}
 use Rattle.udt_model.specs.Acts.Act.{compact_end, flush_end, raise}
 use Rattle.udt_model.specs.Refusals.{floor_fell, halt, refusal, unknown_family, ◌or_else◌}
-use Rattle.udt_model.specs.Jobs.{compaction_kept, flush_kept, flush_taken, is_input, numbers_of_pieces, tables_from}
+use Rattle.udt_model.specs.Jobs.{compaction_kept, flush_kept, flush_taken, numbers_of_pieces, tables_from}
 use Rattle.udt_model.specs.Running.{IsCompactionRight, IsFlushRight}
 use Rattle.udt_model.specs.Steps.{IsCompacted, IsFlushed, IsReplyTo, IsTold, after, compacted, flushed, with_compaction, with_flush}
 use Rattle.udt_model.specs.Crashes.{Course}
@@ -28,26 +25,26 @@ use Rattle.manifest_edit.specs.declared.edit.Edit.{Edit}
 use Rattle.manifest_edit.specs.LiveTables.{has_table_number, place_tables, without_tables}
 use Rattle.manifest_fold.specs.declared.fold.FamilyFold.{FamilyFold}
 use Rattle.manifest_fold.specs.declared.limits.TheConstants.{FILE_LIMIT, LOWEST_LEVEL}
-use Rattle.manifest_fold.specs.Folds.{IsFree, IsLogsEdit, IsPart, family_with, families_with, fold_with, is_live, newest_log}
+use Rattle.manifest_fold.specs.Folds.{IsFree, IsLogsEdit, IsPart, family_with, families_with, is_live, newest_log}
 use Rattle.floor_laws.specs.Sound.{IsSoundState}
-use Rattle.floor_laws.proofs.Members.{In, In-contains, contains_In, All-In, All-from, In-append, In-left, In-right, In-filter, filter-In, filter_every, In-map, map-In, any-In, In-any}
+use Rattle.floor_laws.proofs.Members.{In, In-contains, contains_In, All-In, All-from, In-left, In-right, In-filter, filter-In, filter_every, In-map, map-In, any-In}
 use Rattle.floor_laws.proofs.Kept.{same_number}
 use Rattle.floor_laws.proofs.Families.{floor_rises}
-use Rattle.floor_laws.proofs.Tables.{Sorted, numbers-In, sorted_of}
-use Rattle.floor_laws.proofs.States.{CompactionHolds, at_changed, compaction_of, some_same}
-use Rattle.floor_laws.proofs.Stepping.{New, floor_none, new_of}
+use Rattle.floor_laws.proofs.Tables.{numbers-In, sorted_of}
+use Rattle.floor_laws.proofs.States.{CompactionHolds, compaction_of, some_same}
+use Rattle.floor_laws.proofs.Stepping.{floor_none, new_of}
 use Rattle.floor_laws.proofs.Told.{sound_after, told_of}
 use Rattle.floor_laws.proofs.Writing.{or_none, refuses_raise, told_other}
 use Rattle.engine_laws.specs.Logs.{above, is_above, versions_of}
 use Rattle.engine_laws.specs.Manifests.{IsLive, number_of}
-use Rattle.engine_laws.specs.Standing.{Fits, Says, TableSays, TablesFit, families_said, family_said, head_of, live_batches, table_of}
+use Rattle.engine_laws.specs.Standing.{Fits, Says, TableSays, TablesFit, family_said, head_of, live_batches, table_of}
 use Rattle.engine_laws.specs.Engine.{AreSameKept, DropsFlushed, Holds, MayEdit, with_edit}
 use Rattle.engine_laws.specs.Installs.{Covers, IsNextFile, MayDrop, compact_edit, flush_edit, raise_edit, roll_edit}
 use Rattle.engine_laws.proofs.Places.{In-get, get-map, map-get}
 use Rattle.engine_laws.proofs.Ascending.{newest_of, rising_sorted, sorted_rising}
 use Rattle.engine_laws.proofs.Placing.{map-placed, map-without}
 use Rattle.engine_laws.proofs.Batches.{batches_from}
-use Rattle.engine_laws.proofs.Folding.{In_live, families_part, family_back, family_from, live_In, live_known, table_from}
+use Rattle.engine_laws.proofs.Folding.{families_part, family_back, family_from, live_known, table_from}
 use Rattle.engine_laws.proofs.Resting.{durable_is, whole_last}
 use Rattle.engine_laws.proofs.Editing.{above_from, above_higher}
 

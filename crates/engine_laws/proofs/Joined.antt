@@ -1,16 +1,17 @@
 -- The laws over a disk and the files of it that an engine holds: its manifest, its newest log, and whatever else.
 use Rattle.std.proofs.Common.{◌≡◌, ◌≢◌, ◌⊎◌, ℕ, ◌+◌, List, [], ◌∷◌, ◌++◌, length, Bool, refl, sym, ap, ◌∙◌, subst, inl, inr}
 use Rattle.ts_key.specs.declared.batch.WriteOp.{WriteOp}
-use Rattle.udt_disk.specs.Crash.{Image}
-use Rattle.udt_disk.specs.Joint.{Folder, IsBetween, IsFree, IsHeld, IsImage, Joint, LeavesNow, Ran}
+use Rattle.udt_disk.specs.Crash.{Image, NoMore}
+use Rattle.udt_disk.specs.Joint.{Folder, IsBetween, IsFree, IsImage, Joint, LeavesNow, Ran}
 use Rattle.udt_disk.specs.Joint.Ran.{rests, then_to}
 use Rattle.udt_disk.specs.Moments.{AsAtBut, MayLeave, holding}
 use Rattle.udt_disk.specs.Runs.{Leaves}
+use Rattle.udt_disk.specs.Touches.{Touches}
 use Rattle.udt_disk.specs.declared.name.FileName.{FileName}
 use Rattle.udt_disk.specs.declared.name.FileName.TheVariants.{Log}
 use Rattle.udt_disk.specs.declared.file.DiskFile as file
 use Rattle.udt_disk.specs.declared.disk.Disk as disk
-use Rattle.udt_disk.proofs.Joints.{ran_more, ran_on}
+use Rattle.udt_disk.proofs.Joints.{ran_more}
 use Rattle.udt_disk.proofs.Moments.{image_leaves}
 use Rattle.udt_disk.proofs.Names.{same_or_other}
 use Rattle.wal.specs.declared.numbered.Numbered.{Numbered}
@@ -157,3 +158,22 @@ module _ {D F : Type 0} (d : disk.Ghosts D F) (f : file.Ghosts F) (now_last : Is
   -- what rests of the newest log
   pub newest_rests : (g : Grammar) (manifest : FileName) (s : Says) (j : Joint D F) → IsWell s.fold → Rests g (MayLeave d f j) manifest s → (c : Image) → MayLeave d f j (Log (newest_of s)) c → ReadsAs (sizes_of s.fold) (s.logs (newest_of s)) c
   newest_rests g manifest s j w r c left = r.logs (newest_of s) (newest_live s.fold w) c left
+
+  -- a roll leaves nothing new but under the name of the new log
+  pub roll_leaves : (x y : D) (files : List F) (old new : F) (number : ℕ) → f.name new ≡ Log number → IsFree d f (holding x files) (f.name old) → Touches d (λ n. (n ≡ Log number) ⊎ (n ≡ f.name old)) x y → NoMore (f.may_leave old) (d.may_leave y (f.name old))
+      → (n : FileName) (c : Image) → (n ≡ Log number → ⊥) → MayLeave d f (holding y (new ∷ files)) n c → MayLeave d f (holding x (old ∷ files)) n c
+  roll_leaves x y files old new number name apart touches given n c ne left =
+      let other : n ≢ f.name new = λ e. ne (e ∙ name) in
+      elim (same_or_other (f.name old) n) [
+        | inl e ↦
+            let out : IsFree d f (holding y (new ∷ files)) n = λ z held is. elim held [ inl q ↦ other (is ∙ ap f.name (sym q)) | inr k ↦ apart z k (sym e ∙ is) ] in
+            let here : f.may_leave old c = given c (subst (λ z. d.may_leave y z c) e (left.free out)) in
+            record {
+              held = λ z held is. elim held [ inl q ↦ subst (λ w. f.may_leave w c) q here | inr k ↦ absurd (apart z k (sym (is ∙ e))) ];
+              free = λ none. absurd (none old (inl refl) e);
+            }
+        | inr b ↦ record {
+          held = λ z held is. elim held [ inl q ↦ absurd (b (sym is ∙ ap f.name (sym q))) | inr k ↦ left.held z (inr k) is ];
+          free = λ out. touches.no_more n c (λ t. elim t [ inl a ↦ ne a | inr a ↦ b a ]) (left.free (λ z held is. elim held [ inl q ↦ other (is ∙ ap f.name (sym q)) | inr k ↦ out z (inr k) is ]));
+        }
+      ]

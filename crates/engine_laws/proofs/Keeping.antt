@@ -1,23 +1,22 @@
 -- What an act that changes nothing on the disk leaves of what the engine holds, and accounts that agree on what is live.
-use Rattle.std.proofs.Common.{◌≡◌, ℕ, ◌+◌, ◌==◌, ◌≤◌, false, List, ◌++◌, length, map, Some, refl, sym, ap, ◌∙◌, subst, arith, [], ◌∷◌}
+use Rattle.std.proofs.Common.{◌≡◌, ℕ, ◌+◌, ◌==◌, ◌≤◌, false, List, ◌++◌, length, Some, refl, sym, ap, ◌∙◌, subst, arith}
 use Rattle.std.specs.Prelude.{All, Contains, slice_get}
 use Rattle.std.proofs.lemmas.Bool.{eqb-true, false_from_ne_true}
 use Rattle.ts_key.specs.declared.numbers.Family.{Family}
 use Rattle.ts_key.specs.declared.numbers.Seq.{Seq}
-use Rattle.ts_key.specs.declared.version.Version.{Version}
 use Rattle.wal.specs.declared.numbered.Numbered.{Numbered}
 use Rattle.wal.specs.Records.{IsLoggedBatch}
 use Rattle.wal.specs.Sequences.{GoesOn, IsInSequence}
-use Rattle.udt_model.specs.State.{FamilyState, LiveTable, State, family_at}
+use Rattle.udt_model.specs.State.{FamilyState, LiveTable, State}
 use Rattle.udt_model.specs.Crashes.{Course}
 use Rattle.manifest_edit.specs.declared.edit.TableAt.{TableAt}
 use Rattle.manifest_fold.specs.declared.fold.FamilyFold.{FamilyFold}
 use Rattle.manifest_fold.specs.declared.fold.Folded.{Folded}
 use Rattle.floor_laws.specs.Sound.{IsSoundCourse, IsSoundState}
-use Rattle.floor_laws.proofs.Members.{In, In-contains, contains_In}
+use Rattle.floor_laws.proofs.Members.{In-contains}
 use Rattle.engine_laws.specs.Logs.{above, last_of, last_over, versions_of}
 use Rattle.engine_laws.specs.Manifests.{IsLive, IsWell}
-use Rattle.engine_laws.specs.Standing.{Fits, Says, TableSays, TablesFit, families_said, family_said, head_of, live_batches, table_of}
+use Rattle.engine_laws.specs.Standing.{Fits, Says, TableSays, families_said, family_said, head_of, live_batches, table_of}
 use Rattle.engine_laws.specs.Engine.{AreSameKept, Holds, IsOnCourse, SameLive, durable_last, with_log, with_table}
 use Rattle.engine_laws.proofs.Places.{In-get, map_same}
 use Rattle.engine_laws.proofs.Batches.{batches_same}

@@ -1,6 +1,6 @@
 -- The steps of the engine, name by name.
-use Rattle.std.proofs.Common.{◌≡◌, ◌≢◌, ◌⊎◌, ℕ, ◌==◌, true, false, List, [], ◌∷◌, ◌++◌, Some, None, refl, sym, ap, ◌∙◌, subst, inl, inr}
-use Rattle.std.specs.Prelude.{Contains}
+use Rattle.std.proofs.Common.{◌≡◌, ◌≢◌, ◌⊎◌, ℕ, ◌==◌, true, false, List, [], ◌∷◌, ◌++◌, Option, Some, None, refl, sym, ap, ◌∙◌, subst, inl, inr}
+use Rattle.std.specs.Prelude.{Contains, slice_get}
 use Rattle.std.proofs.lemmas.Bool.{cases_Bool, eqb-true, eq-eqb, false_from_ne_true, false≢true}
 use Rattle.ts_key.specs.declared.numbers.Family.{Family}
 use Rattle.udt_disk.specs.Crash.{Image}
@@ -13,16 +13,18 @@ use Rattle.udt_model.specs.State.{State}
 use Rattle.udt_model.specs.Crashes.{Course, IsOutcome}
 use Rattle.manifest.specs.Folders.{chosen, chosen_by}
 use Rattle.manifest_edit.specs.declared.edit.TableAt.{TableAt}
+use Rattle.manifest_edit.specs.declared.edit.FamilyEdit.{FamilyEdit}
 use Rattle.manifest_edit.specs.declared.edit.Edit.{Edit}
 use Rattle.manifest_fold.specs.declared.fold.FamilyFold.{FamilyFold}
 use Rattle.manifest_fold.specs.declared.fold.Folded.{Folded}
-use Rattle.manifest_fold.specs.Folds.{IsAccepted, fold_with}
-use Rattle.floor_laws.proofs.Members.{In, In-contains, contains_In, In-right}
+use Rattle.manifest_fold.specs.Folds.{IsAccepted, IsPart, families_with, fold_with}
+use Rattle.floor_laws.proofs.Members.{In, In-contains, contains_In}
 use Rattle.engine_laws.specs.Logs.{sizes_of}
 use Rattle.engine_laws.specs.Manifests.{HasFold, IsLive, MeansStore}
 use Rattle.engine_laws.specs.Standing.{FolderStands, Grammar, Reads, Says, TableReads}
 use Rattle.engine_laws.specs.Engine.{Holds, SameLive, newest_of, with_batches, with_edit}
-use Rattle.engine_laws.specs.Moves.{Appending, AreDead, AreImages, Chosen, Images, IsLiveName, IsManifestName, IsReady, IsSafe, LogRests, ManifestRests, Rests, Syncing, TouchesOne, TouchesOnly}
+use Rattle.engine_laws.specs.Moves.{Appending, AreDead, AreImages, Chosen, Images, IsLiveName, IsManifestName, IsReady, IsSafe, LogRests, ManifestRests, Rests, TableRests, Syncing, TouchesOne, TouchesOnly, added_tables}
+use Rattle.engine_laws.proofs.Folding.{In_live, logs_In, table_from}
 use Rattle.engine_laws.proofs.Editing.{sizes_stay}
 use Rattle.engine_laws.proofs.Resting.{stands_rest}
 
@@ -212,15 +214,22 @@ other_reads g folder other s same r =
 pub other_stands : (g : Grammar) (folder other : Folder) (m : State) (h : FolderStands g folder m) → ((n : FileName) → IsLiveName (chosen folder) h.says.fold n → other n ≡ folder n) → FolderStands g other m
 other_stands g folder other m h same = record { says = h.says; reads = other_reads g folder other h.says same h.reads; stands = h.stands }
 
--- ---- a file that is given back, and a folder that is closed: a crash leaves no more than before
+-- ---- what is live with an edit
 
-pub fewer_rests : (g : Grammar) (old new : Images) (manifest : FileName) (s : Says) → ((n : FileName) (c : Image) → new n c → old n c) → Rests g old manifest s → Rests g new manifest s
-fewer_rests g old new manifest s fewer r = record {
-  chosen = record { made = λ c a. r.chosen.made c (fewer Made c a); chooses = λ c a. r.chosen.chooses c (fewer Current c a) };
-  manifests = λ c a. r.manifests c (fewer manifest c a);
-  logs = λ n i c a. r.logs n i c (fewer (Log n) c a);
-  tables = λ i f t l c a. r.tables i f t l c (fewer (Table t.number) c a);
+-- a table that is live with an edit was live, or the edit adds it
+edit_tables : (fold : Folded) (edit : Edit) (o : Option FamilyEdit) (i : Family) (f : FamilyFold) (t : TableAt) → IsPart fold.families edit o → slice_get (families_with fold.families o) i.0 ≡ Some f → In t f.tables → ((x : FamilyFold) × IsLive fold i x t) ⊎ In t (added_tables o)
+edit_tables fold edit None i f t p q j = inl (f, In_live fold i f t q j)
+edit_tables fold edit (Some e) i f t p q j = elim (table_from fold edit e p.0 i f t p.1 q j) [ inl x ↦ inl (x.0, x.1) | inr x ↦ inr x.1 ]
+
+pub edit_ready : (g : Grammar) (images : Images) (manifest : FileName) (s : Says) (edit : Edit) → IsAccepted s.fold edit → Rests g images manifest s
+    → ((n : ℕ) → Contains edit.add_logs n → LogRests images s n) → ((t : TableAt) → Contains (added_tables edit.family) t → TableRests g images s t.number) → IsReady g images s edit
+edit_ready g images manifest s edit a r logs tables = record {
+  logs = λ n i. elim (logs_In s.fold edit n (contains_In (fold_with s.fold edit).logs n i)) [
+    | inl j ↦ r.logs n (In-contains s.fold.logs n j)
+    | inr j ↦ logs n (In-contains edit.add_logs n j)
+  ];
+  tables = λ i f t l. elim (edit_tables s.fold edit edit.family i f t a.part l.family (contains_In f.tables t l.table)) [
+    | inl x ↦ r.tables i x.0 t x.1
+    | inr x ↦ tables t (In-contains (added_tables edit.family) t x)
+  ];
 }
-
-pub fewer_safe : (g : Grammar) (old new : Images) (Is : State → Type 0) → ((n : FileName) (i : Image) → new n i → old n i) → IsSafe g old Is → IsSafe g new Is
-fewer_safe g old new Is fewer safe folder left = safe folder (λ n. fewer n (folder n) (left n))

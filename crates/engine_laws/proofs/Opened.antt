@@ -1,32 +1,30 @@
 -- A folder that stands for a state gives an engine that holds it; and a new store stands for nothing written.
-use Rattle.std.proofs.Common.{◌≡◌, ℕ, ◌+◌, ◌-◌, ◌<◌, ◌≤◌, true, false, Bool, List, [], ◌∷◌, ◌++◌, map, length, Some, None, refl, sym, ap, ◌∙◌, subst, arith, inl, inr}
+use Rattle.std.proofs.Common.{◌≡◌, ℕ, ◌+◌, ◌-◌, ◌<◌, ◌≤◌, true, false, Bool, List, [], ◌∷◌, map, length, Some, None, refl, sym, ap, ◌∙◌, subst, arith, inl, inr}
 use Rattle.std.specs.Prelude.{All, Contains}
 use Rattle.std.proofs.lemmas.List.{append-nil, length-map}
 use Rattle.std.proofs.lemmas.List.Elements.{All-nil, All-append, All-head, All-tail, Contains-push}
-use Rattle.ts_key.specs.declared.limits.TheConstants.{SEQUENCE_LIMIT, STAMP_SIZE}
+use Rattle.ts_key.specs.declared.limits.TheConstants.{SEQUENCE_LIMIT}
 use Rattle.ts_key.specs.declared.version.Version.{Version}
 use Rattle.udt_disk.specs.Crash.{Image}
 use Rattle.udt_disk.specs.Joint.{Folder}
 use Rattle.udt_disk.specs.declared.name.FileName.TheVariants.{Log}
 use Rattle.udt_model.specs.declared.line.FamilyHead.{FamilyHead}
 use Rattle.udt_model.specs.Versions.{AreWritten}
-use Rattle.udt_model.specs.State.{FamilyState, State, head_with_floor, live_numbers, unflushed_family}
-use Rattle.udt_model.specs.Crashes.{Course, course_start}
+use Rattle.udt_model.specs.State.{State, head_with_floor, live_numbers, unflushed_family}
+use Rattle.udt_model.specs.Crashes.{course_start}
 use Rattle.wal.specs.declared.numbered.Numbered.{Numbered}
 use Rattle.wal.specs.Records.{IsLoggedBatch}
 use Rattle.wal.specs.Bodies.{AreBodiesOf}
 use Rattle.wal.specs.Replays.{ReadsAs}
 use Rattle.manifest.specs.Folders.{chosen}
-use Rattle.manifest_fold.specs.declared.fold.FamilyFold.{FamilyFold}
 use Rattle.manifest_fold.specs.declared.fold.Folded.{Folded}
-use Rattle.floor_laws.specs.Sound.{IsSoundState}
-use Rattle.floor_laws.proofs.Members.{In, In-contains, contains_In, All-from}
+use Rattle.floor_laws.proofs.Members.{In, In-contains, contains_In}
 use Rattle.floor_laws.proofs.Courses.{course_begins}
 use Rattle.floor_laws.proofs.Reopening.{sound_fresh}
 use Rattle.engine_laws.specs.Logs.{above, batches_of, last_of, last_over, sizes_of, versions_of}
 use Rattle.engine_laws.specs.Manifests.{HasFold, IsManifest, IsWell, family_fold, fold_of}
 use Rattle.engine_laws.specs.Standing.{FolderStands, Grammar, Reads, Says, StandsFor, TableSays, family_said, fresh_says, live_batches, new_state}
-use Rattle.engine_laws.specs.Engine.{Holds, durable_last}
+use Rattle.engine_laws.specs.Engine.{Holds}
 use Rattle.engine_laws.proofs.Batches.{last_over_is}
 use Rattle.engine_laws.proofs.Folding.{all_well, head_dead, head_well}
 

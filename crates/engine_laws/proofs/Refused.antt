@@ -1,5 +1,5 @@
 -- Wrong orders: what a crash leaves then stands for no outcome.
-use Rattle.std.proofs.Common.{◌≡◌, ◌≢◌, ◌⊎◌, ℕ, ◌+◌, ◌-◌, ◌<◌, ◌≤◌, List, [], ◌∷◌, ◌++◌, map, take, drop, length, Option, Some, None, refl, sym, ap, ◌∙◌, subst, arith, inl, inr}
+use Rattle.std.proofs.Common.{◌≡◌, ◌≢◌, ℕ, ◌+◌, ◌-◌, ◌<◌, ◌≤◌, List, [], ◌∷◌, ◌++◌, take, drop, length, Option, Some, None, refl, sym, ap, ◌∙◌, subst, arith, inl, inr}
 use Rattle.std.specs.Prelude.{Contains, nat_le, slice_get}
 use Rattle.std.proofs.lemmas.Bool.{le-leb}
 use Rattle.std.proofs.lemmas.List.{take-append-drop}
@@ -11,14 +11,14 @@ use Rattle.udt_disk.specs.declared.name.FileName.TheVariants.{Log, Table}
 use Rattle.wal.specs.Replays.{ReadsAs}
 use Rattle.wal.specs.declared.numbered.Numbered.{Numbered}
 use Rattle.udt_model.specs.State.{FamilyState, State, family_at}
-use Rattle.udt_model.specs.Crashes.{Course, Failing, IsFailed, IsOutcome, cut_at, settled}
+use Rattle.udt_model.specs.Crashes.{Course, Failing, IsFailed, IsOutcome}
 use Rattle.manifest_edit.specs.declared.edit.TableAt.{TableAt}
 use Rattle.manifest_edit.specs.declared.edit.Edit.{Edit}
 use Rattle.manifest_fold.specs.declared.fold.FamilyFold.{FamilyFold}
 use Rattle.manifest_fold.specs.Folds.{fold_with}
-use Rattle.floor_laws.proofs.Members.{In, In-contains, contains_In, All-In, In-append, In-left, In-right, In-filter, filter-In}
+use Rattle.floor_laws.proofs.Members.{In, contains_In, All-In, In-append, In-left, In-right, In-filter, filter-In}
 use Rattle.floor_laws.proofs.States.{some_same, written_of}
-use Rattle.engine_laws.specs.Logs.{above, batches_of, is_above, last_of, sizes_of, versions_of}
+use Rattle.engine_laws.specs.Logs.{batches_of, is_above, last_of, sizes_of, versions_of}
 use Rattle.engine_laws.specs.Manifests.{IsLive}
 use Rattle.engine_laws.specs.Standing.{Grammar, Reads, Says, StandsFor, TableReads, families_said, family_said, live_batches}
 use Rattle.engine_laws.specs.Engine.{Holds, IsEditTo, IsOutcomeOr, durable_last, with_edit}

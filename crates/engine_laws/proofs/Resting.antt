@@ -1,7 +1,6 @@
 -- What the files say stands for an outcome, while they rest.
-use Rattle.std.proofs.Common.{◌≡◌, ℕ, ◌≤◌, List, [], ◌∷◌, ◌++◌, length, refl, sym, ap, ◌∙◌, subst, arith, inl}
+use Rattle.std.proofs.Common.{◌≡◌, ℕ, ◌≤◌, List, [], ◌++◌, length, refl, sym, ap, ◌∙◌, subst, arith, inl}
 use Rattle.std.specs.Prelude.{All, nat_le}
-use Rattle.std.specs.List.{filter}
 use Rattle.std.proofs.lemmas.Bool.{le-leb, lt-leb}
 use Rattle.std.proofs.lemmas.List.{append-nil}
 use Rattle.std.proofs.lemmas.List.Elements.{filter-append}
@@ -12,11 +11,10 @@ use Rattle.udt_model.specs.Versions.{up_to}
 use Rattle.udt_model.specs.State.{State}
 use Rattle.udt_model.specs.Crashes.{Course, IsOutcome, cut_at, settled}
 use Rattle.udt_disk.specs.Joint.{Folder}
-use Rattle.floor_laws.specs.Sound.{IsSoundState}
 use Rattle.floor_laws.proofs.Members.{filter_every, filter_none}
 use Rattle.floor_laws.proofs.Reopening.{sound_cut, cut_whole}
 use Rattle.engine_laws.specs.Logs.{above, is_above, versions_of, last_of, last_over}
-use Rattle.engine_laws.specs.Standing.{Grammar, Says, Reads, StandsFor, FolderStands, StandsForSome, live_batches}
+use Rattle.engine_laws.specs.Standing.{Grammar, Says, Reads, StandsFor, StandsForSome, live_batches}
 use Rattle.engine_laws.specs.Engine.{durable_last, Holds}
 use Rattle.engine_laws.proofs.Places.{filter_swap}
 use Rattle.engine_laws.proofs.Batches.{Above, last_over_is, last_append, last_up, above_goes, above_sequence, versions_append, versions-In, versions_upto, all_left, all_right}

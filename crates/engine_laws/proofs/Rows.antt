@@ -1,6 +1,6 @@
 -- Worked rows: two families, a write into both, and a flush of one of them, from a new store on, by the laws.
-use Rattle.std.proofs.Common.{◌≡◌, ◌⊎◌, ℕ, ◌+◌, ◌<◌, ◌≤◌, false, List, [], ◌∷◌, ◌++◌, length, Some, None, codes, refl, sym, ap, ◌∙◌, subst, inl, inr, arith}
-use Rattle.std.specs.Prelude.{All, Contains, slice_get}
+use Rattle.std.proofs.Common.{◌≡◌, ℕ, ◌<◌, ◌≤◌, false, List, [], ◌∷◌, Some, codes, refl, subst, inl, inr, arith}
+use Rattle.std.specs.Prelude.{slice_get}
 use Rattle.std.proofs.lemmas.List.Elements.{All-nil}
 use Rattle.ts_key.specs.declared.batch.WriteOp.{WriteOp}
 use Rattle.ts_key.specs.declared.numbers.Family.{Family}
@@ -13,18 +13,18 @@ use Rattle.udt_model.specs.declared.line.FamilyHead.{FamilyHead}
 use Rattle.udt_model.specs.declared.reply.Reply.TheVariants.{OkAt, Table}
 use Rattle.udt_model.specs.State.{Flush, State}
 use Rattle.udt_model.specs.Acts.Act.{flush_end, flush_start, write}
-use Rattle.udt_model.specs.Steps.{IsReplyTo, after}
+use Rattle.udt_model.specs.Steps.{after}
 use Rattle.udt_model.specs.Reads.{read}
 use Rattle.udt_model.specs.declared.reply.Stamp.TheVariants.{At}
 use Rattle.udt_model.specs.declared.read.Answer.TheVariants.{Found}
 use Rattle.udt_model.specs.declared.read.ModelRead.TheVariants.{Told}
 use Rattle.udt_model.specs.Crashes.{Course, course_after, course_start, settled}
 use Rattle.manifest_edit.specs.declared.edit.Edit.{Edit}
-use Rattle.floor_laws.proofs.Members.{In, In-contains, contains_In, All-from}
-use Rattle.engine_laws.specs.Logs.{above, versions_of}
+use Rattle.floor_laws.proofs.Members.{In-contains, contains_In, All-from}
+use Rattle.engine_laws.specs.Logs.{versions_of}
 use Rattle.engine_laws.specs.Manifests.{family_fold}
 use Rattle.engine_laws.specs.Standing.{Says, StandsFor, TableSays, family_said, fresh_says, new_state}
-use Rattle.engine_laws.specs.Engine.{Holds, IsEditTo, IsOutcomeOr, MayEdit, next_batch, with_batches, with_edit}
+use Rattle.engine_laws.specs.Engine.{Holds, MayEdit, next_batch, with_batches, with_edit}
 use Rattle.engine_laws.specs.Installs.{EndsFlush, LogsMayGo, flush_edit, roll_edit}
 use Rattle.engine_laws.proofs.Acting.{act_holds, seal_holds}
 use Rattle.engine_laws.proofs.Folding.{head_well}

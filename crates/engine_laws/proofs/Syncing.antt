@@ -1,9 +1,8 @@
 -- A batch that waits, and a sync of all that waits.
-use Rattle.std.proofs.Common.{◌≡◌, ℕ, ◌+◌, ◌<◌, ◌≤◌, ◌==◌, true, false, List, [], ◌∷◌, ◌++◌, length, map, Some, refl, sym, ap, ◌∙◌, subst, arith, inl, inr}
-use Rattle.std.specs.Prelude.{All, Contains, Bool, if◌then◌else◌, nat_le}
-use Rattle.std.specs.List.{filter}
+use Rattle.std.proofs.Common.{◌≡◌, ℕ, ◌+◌, ◌<◌, ◌≤◌, ◌==◌, true, false, List, [], ◌∷◌, ◌++◌, length, Some, refl, sym, ap, ◌∙◌, subst, arith}
+use Rattle.std.specs.Prelude.{All, Bool, if◌then◌else◌, nat_le}
 use Rattle.std.proofs.lemmas.Bool.{lt-leb, eqb-true, eq-eqb, false_from_ne_true}
-use Rattle.std.proofs.lemmas.List.{append-nil, append_assoc, length-map}
+use Rattle.std.proofs.lemmas.List.{append-nil, append_assoc}
 use Rattle.std.proofs.lemmas.List.Elements.{filter-append, Contains-append_left, Contains-push, All-push}
 use Rattle.ts_key.specs.declared.batch.WriteOp.{WriteOp}
 use Rattle.ts_key.specs.declared.version.Version.{Version}
@@ -11,12 +10,12 @@ use Rattle.wal.specs.declared.numbered.Numbered.{Numbered}
 use Rattle.wal.specs.Records.{IsLoggedBatch}
 use Rattle.wal.specs.Sequences.{GoesOn, IsInSequence}
 use Rattle.udt_model.specs.declared.reply.Reply.TheVariants.{OkAt, Done}
-use Rattle.udt_model.specs.Versions.{logged, made, up_to}
-use Rattle.udt_model.specs.State.{State, family_at}
+use Rattle.udt_model.specs.Versions.{made, up_to}
+use Rattle.udt_model.specs.State.{State}
 use Rattle.udt_model.specs.Acts.Act.{write, sync_all}
 use Rattle.udt_model.specs.Steps.{IsReplyTo, after}
 use Rattle.udt_model.specs.Crashes.{Course, course_after, cut_at, settled}
-use Rattle.floor_laws.proofs.Members.{In, In-contains, contains_In, filter_none}
+use Rattle.floor_laws.proofs.Members.{In, filter_none}
 use Rattle.floor_laws.proofs.Told.{sound_after}
 use Rattle.floor_laws.proofs.Courses.{course_sound}
 use Rattle.engine_laws.specs.Logs.{above, is_above, versions_of, last_of, last_over, batches_of}

@@ -1,10 +1,11 @@
 -- The laws of runs of calls on a disk and on the files of it that an engine holds.
 use Rattle.std.specs.Prelude.{◌≡◌, ◌⊎◌, ℕ, Bool, List, [], ◌∷◌, ◌++◌, Contains}
 use Rattle.ts_key.specs.declared.batch.WriteOp.{WriteOp}
-use Rattle.udt_disk.specs.Crash.{Image}
-use Rattle.udt_disk.specs.Joint.{Folder, Joint, LeavesNow, Ran}
+use Rattle.udt_disk.specs.Crash.{Image, NoMore}
+use Rattle.udt_disk.specs.Joint.{IsFree, Joint, LeavesNow, Ran}
 use Rattle.udt_disk.specs.Moments.{AsAtBut, MayLeave, holding}
 use Rattle.udt_disk.specs.Runs.{Leaves}
+use Rattle.udt_disk.specs.Touches.{Touches}
 use Rattle.udt_disk.specs.declared.name.FileName.{FileName}
 use Rattle.udt_disk.specs.declared.name.FileName.TheVariants.{Log}
 use Rattle.udt_disk.specs.declared.file.DiskFile as file
@@ -14,13 +15,14 @@ use Rattle.wal.specs.Replays.{IsBeforeOrAfter, ReadsAs}
 use Rattle.udt_model.specs.State.{State}
 use Rattle.udt_model.specs.Acts.Act.{write}
 use Rattle.udt_model.specs.Crashes.{Course, IsOutcome, IsOutcomeUnder}
+use Rattle.manifest_edit.specs.declared.edit.TableAt.{TableAt}
 use Rattle.manifest_edit.specs.declared.edit.Edit.{Edit}
-use Rattle.manifest_fold.specs.Folds.{fold_with}
+use Rattle.manifest_fold.specs.Folds.{IsAccepted, fold_with}
 use Rattle.engine_laws.specs.Logs.{sizes_of}
 use Rattle.engine_laws.specs.Manifests.{HasFold}
 use Rattle.engine_laws.specs.Standing.{Grammar, Reads, Says, StandsForSome}
-use Rattle.engine_laws.specs.Engine.{Holds, IsOutcomeOr, MayEdit, newest_of, next_batch, with_batches, with_edit}
-use Rattle.engine_laws.specs.Moves.{AreDead, IsManifestName, IsReady, Rests}
+use Rattle.engine_laws.specs.Engine.{Holds, IsOutcomeOr, MayEdit, SameLive, newest_of, next_batch, with_batches, with_edit}
+use Rattle.engine_laws.specs.Moves.{AreDead, IsManifestName, IsReady, LogRests, Rests, TableRests, added_tables}
 use Rattle.engine_laws.specs.Joints.{OneRan}
 use Rattle.engine_laws.specs.Laws.{IsNextWrite}
 
@@ -37,8 +39,8 @@ module _ {D F : Type 0} (d : disk.Ghosts D F) (f : file.Ghosts F) where
   abbrev pub RestIn : Grammar → Joint D F → FileName → Says → Type 0
   RestIn g j manifest s = Rests g (MayLeave d f j) manifest s
 
-  -- the held file of the newest log ran on, which rested
-  pub record LogRan (s : Says) (x : D) (before after : List F) (wal ran : F) : Type 0 where
+  -- the held file of the newest log ran on
+  pub record LogRan (s : Says) (before after : List F) (wal ran : F) : Type 0 where
     pub one : OneRan f before after wal ran
     pub name : f.name wal ≡ Log (newest_of s)
 
@@ -52,19 +54,19 @@ module _ {D F : Type 0} (d : disk.Ghosts D F) (f : file.Ghosts F) where
   -- while it is synced a crash leaves only folders that stand for outcomes
   abbrev pub SyncRunLeavesOutcomes : Type 0
   SyncRunLeavesOutcomes = (g : Grammar) (manifest : FileName) (m : State) (c : Course) (s : Says) (waiting : List Numbered) (x : D) (before after : List F) (wal ran : F)
-      → IsManifestName manifest → Holds m c s waiting → RestIn g (holding x before) manifest s → LogRan s x before after wal ran → Leaves f wal ran (IsSyncImage s waiting)
+      → IsManifestName manifest → Holds m c s waiting → RestIn g (holding x before) manifest s → LogRan s before after wal ran → Leaves f wal ran (IsSyncImage s waiting)
       → Ran d f (λ folder. StandsForSome g folder (IsOutcome m c)) (holding x before) (holding x after)
 
   -- and while it is synced under a write
   abbrev pub WriteRunLeavesOutcomes : Type 0
   WriteRunLeavesOutcomes = (g : Grammar) (manifest : FileName) (m : State) (c : Course) (s : Says) (waiting : List Numbered) (number : ℕ) (ops : List WriteOp) (sync : Bool) (x : D) (before after : List F) (wal ran : F)
-      → IsManifestName manifest → Holds m c s waiting → IsNextWrite m s ops sync → RestIn g (holding x before) manifest s → LogRan s x before after wal ran → Leaves f wal ran (IsSyncImage s (waiting ++ next_batch m ops ∷ []))
+      → IsManifestName manifest → Holds m c s waiting → IsNextWrite m s ops sync → RestIn g (holding x before) manifest s → LogRan s before after wal ran → Leaves f wal ran (IsSyncImage s (waiting ++ next_batch m ops ∷ []))
       → Ran d f (λ folder. StandsForSome g folder (IsOutcomeUnder m c number (write ops sync))) (holding x before) (holding x after)
 
   -- where afterwards it may leave only a log with all that waited, all rests
   abbrev pub RestsSynced : Type 0
   RestsSynced = (g : Grammar) (manifest : FileName) (m : State) (c : Course) (s : Says) (waiting : List Numbered) (x : D) (before after : List F) (wal ran : F)
-      → IsManifestName manifest → Holds m c s waiting → RestIn g (holding x before) manifest s → LogRan s x before after wal ran
+      → IsManifestName manifest → Holds m c s waiting → RestIn g (holding x before) manifest s → LogRan s before after wal ran
       → ((image : Image) → f.may_leave ran image → ReadsAs (sizes_of s.fold) (s.logs (newest_of s) ++ waiting) image) → RestIn g (holding x after) manifest (with_batches s waiting)
 
   -- ---- the manifest
@@ -97,3 +99,20 @@ module _ {D F : Type 0} (d : disk.Ghosts D F) (f : file.Ghosts F) where
   abbrev pub LeavesOutcomesNow : Type 0
   LeavesOutcomesNow = (g : Grammar) (manifest : FileName) (m : State) (c : Course) (s : Says) (waiting : List Numbered) (j : Joint D F)
       → Holds m c s waiting → RestIn g j manifest s → LeavesNow d f (λ folder. StandsForSome g folder (IsOutcome m c)) j
+
+  -- so it is with a roll, which makes a log of a new number and gives the old one's file back
+  abbrev pub RollLeavesNoMore : Type 0
+  RollLeavesNoMore = (x y : D) (files : List F) (old new : F) (number : ℕ) → f.name new ≡ Log number → IsFree d f (holding x files) (f.name old)
+      → Touches d (λ n. (n ≡ Log number) ⊎ (n ≡ f.name old)) x y → NoMore (f.may_leave old) (d.may_leave y (f.name old))
+      → (n : FileName) (image : Image) → ¬ Contains (Log number ∷ []) n → MayLeave d f (holding y (new ∷ files)) n image → MayLeave d f (holding x (old ∷ files)) n image
+
+  -- ---- what rests
+
+  -- another account of the files that agrees on all that is live rests too
+  abbrev pub RestsByLiveFiles : Type 0
+  RestsByLiveFiles = (g : Grammar) (manifest : FileName) (s other : Says) (j : Joint D F) → SameLive s other → RestIn g j manifest s → RestIn g j manifest other
+
+  -- all that is live with an edit rests where all that was live does, and the logs and tables that the edit adds
+  abbrev pub EditIsReady : Type 0
+  EditIsReady = (g : Grammar) (manifest : FileName) (s : Says) (edit : Edit) (j : Joint D F) → IsAccepted s.fold edit → RestIn g j manifest s
+      → ((n : ℕ) → Contains edit.add_logs n → LogRests (MayLeave d f j) s n) → ((t : TableAt) → Contains (added_tables edit.family) t → TableRests g (MayLeave d f j) s t.number) → IsReady g (MayLeave d f j) s edit

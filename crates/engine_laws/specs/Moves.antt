@@ -1,5 +1,5 @@
 -- What a crash may leave of a folder at one moment, name by name, and what a step of the engine does to it.
-use Rattle.std.specs.Prelude.{◌≡◌, ◌≢◌, ◌⊎◌, ℕ, List, Contains, None, ⊤}
+use Rattle.std.specs.Prelude.{◌≡◌, ◌≢◌, ◌⊎◌, ℕ, List, [], Contains, Option, Some, None, ⊤}
 use Rattle.ts_key.specs.declared.numbers.Family.{Family}
 use Rattle.udt_disk.specs.Crash.{Image}
 use Rattle.udt_disk.specs.Joint.{Folder}
@@ -10,6 +10,7 @@ use Rattle.wal.specs.Replays.{ReadsAs, IsBeforeOrAfter}
 use Rattle.udt_model.specs.State.{State}
 use Rattle.manifest.specs.Folders.{chosen_by}
 use Rattle.manifest_edit.specs.declared.edit.TableAt.{TableAt}
+use Rattle.manifest_edit.specs.declared.edit.FamilyEdit.{FamilyEdit}
 use Rattle.manifest_edit.specs.declared.edit.Edit.{Edit}
 use Rattle.manifest_fold.specs.declared.fold.FamilyFold.{FamilyFold}
 use Rattle.manifest_fold.specs.declared.fold.Folded.{Folded}
@@ -96,6 +97,11 @@ pub record Syncing (s : Says) (waiting : List Numbered) (old new : Images) : Typ
 pub record Appending (manifest : FileName) (s : Says) (edit : Edit) (old new : Images) : Type 0 where
   pub touches : TouchesOne manifest old new
   pub either : (c : Image) → new manifest c → HasFold c s.fold ⊎ HasFold c (fold_with s.fold edit)
+
+-- the tables that an edit adds
+abbrev pub added_tables : Option FamilyEdit → List TableAt
+added_tables None = []
+added_tables (Some e) = e.add
 
 -- all that is live with the edit rests already
 pub record IsReady (g : Grammar) (images : Images) (s : Says) (edit : Edit) : Type 0 where

@@ -7,7 +7,7 @@ ghost use Rattle.engine_laws.specs.Laws.{EditLeavesOutcomes, EditsAreOfActs, Edi
 ghost use Rattle.engine_laws.specs.Laws.{FoldsAreWell, DroppedLogsAreDead, RemovedTablesAreDead, HoldsOpened, NewStoreStands};
 ghost use Rattle.engine_laws.specs.Laws.{RaiseMayBeMade, RollMayBeMade, FlushMayBeMade, CompactionMayBeMade, HoldsBehindAct, HoldsSealed};
 ghost use Rattle.engine_laws.specs.Laws.{NoEditBeforeSync, NoEarlyDrop, NoEarlyFloor, LoggedIsKept, NoMissingLog, NoMissingTable};
-ghost use Rattle.engine_laws.specs.JointLaws.{LeavesOutcomesNow, SyncRunLeavesOutcomes, WriteRunLeavesOutcomes, RestsSynced, EditRunLeavesOutcomes, RestsEdited, DeadRunSaysTheSame, RestsBesideDead};
+ghost use Rattle.engine_laws.specs.JointLaws.{LeavesOutcomesNow, SyncRunLeavesOutcomes, WriteRunLeavesOutcomes, RestsSynced, EditRunLeavesOutcomes, RestsEdited, DeadRunSaysTheSame, RestsBesideDead, RollLeavesNoMore, RestsByLiveFiles, EditIsReady};
 
 use udt_disk::{Disk, DiskFile};
 
@@ -101,4 +101,7 @@ pub fn joint_runs<F: DiskFile, D: Disk<File = F>>()
     ensures edited { RestsEdited D.Disk F.DiskFile }
     ensures dead { DeadRunSaysTheSame D.Disk F.DiskFile }
     ensures besides { RestsBesideDead D.Disk F.DiskFile }
+    ensures roll { RollLeavesNoMore D.Disk F.DiskFile }
+    ensures account { RestsByLiveFiles D.Disk F.DiskFile }
+    ensures ready { EditIsReady D.Disk F.DiskFile }
 {}

@@ -1,10 +1,12 @@
-use Rattle.udt_disk.specs.Crash.{Image}
-use Rattle.udt_disk.specs.declared.name.FileName.{FileName}
 use Rattle.std.specs.Prelude.{Contains}
-use Rattle.udt_disk.specs.Moments.{holding}
+use Rattle.udt_disk.specs.Moments.{MayLeave, holding}
 use Rattle.udt_model.specs.Crashes.{course_start}
 use Rattle.engine_laws.specs.Joints.{IsNowLast}
-use Rattle.engine_laws.proofs.Joined.{dead_reads, dead_rests, edit_rests, newest_rests, now_leaves, ran_edit, ran_sync, ran_write, sync_rests}
+use Rattle.engine_laws.proofs.Joined.{dead_reads, dead_rests, edit_rests, newest_rests, now_leaves, ran_edit, ran_sync, ran_write, roll_leaves, sync_rests}
+use Rattle.engine_laws.proofs.Moving.{edit_ready, same_rests}
+use Rattle.floor_laws.proofs.Members.{In-contains}
+use Rattle.std.proofs.Common.{◌∷◌, [], inl, sym}
+use Rattle.udt_disk.specs.declared.name.FileName.TheVariants.{Log}
 use Rattle.engine_laws.proofs.joint_runs.Goals as goal
 
 pub returns : goal.returns
@@ -24,4 +26,7 @@ returns g c =
       edited = λ gr manifest m next s edit x before after old ran is may r ready file done. edit_rests d f last gr manifest is m next (course_start m) s edit x before after old ran file.one file.name may r ready done;
       dead = λ gr manifest s names old new is r dead run. dead_reads d f last gr manifest is s (Contains names) old new r dead run;
       besides = λ gr manifest s names old new is r dead no_more. dead_rests d f last gr manifest is s (Contains names) old new r dead no_more;
+      roll = λ x y files old new number name apart touches given n image ne. roll_leaves d f last x y files old new number name apart touches given n image (λ e. ne (In-contains (Log number ∷ []) n (inl (sym e))));
+      account = λ gr manifest s other j same r. same_rests gr (MayLeave d f j) manifest s other same r;
+      ready = λ gr manifest s edit j a r logs tables. edit_ready gr (MayLeave d f j) manifest s edit a r logs tables;
     }
