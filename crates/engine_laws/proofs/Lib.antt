@@ -16,3 +16,4 @@ pub mod Joined
 pub mod Acting
 pub mod Refused
 pub mod Rows
+pub mod Fixed

@@ -33,7 +33,7 @@ use Rattle.manifest_fold.specs.Folds.{IsAccepted, fold_with}
 use Rattle.floor_laws.specs.Sound.{IsSoundCourse, IsSoundState}
 use Rattle.engine_laws.specs.Logs.{versions_of}
 use Rattle.engine_laws.specs.Manifests.{HasFold, IsLive, IsManifest, IsWell}
-use Rattle.engine_laws.specs.Standing.{FolderStands, Grammar, Reads, Says, StandsFor, StandsForSome, TableSays, families_said, fresh_says, live_batches, new_state}
+use Rattle.engine_laws.specs.Standing.{Alike, FolderStands, Grammar, Reads, Says, StandsFor, StandsForSome, TableSays, families_said, fresh_says, live_batches, new_state}
 use Rattle.engine_laws.specs.Engine.{AreSameKept, Holds, IsEditTo, IsOutcomeOr, MayEdit, SameLive, next_batch, with_batches, with_edit, with_log, with_table}
 use Rattle.engine_laws.specs.Moves.{IsLiveName}
 use Rattle.engine_laws.specs.Installs.{EndsCompaction, EndsFlush, IsNextFile, LogsMayGo, compact_edit, flush_edit, raise_edit, roll_edit}
@@ -232,3 +232,22 @@ NoMissingLog = (g : Grammar) (folder : Folder) (s : Says) (log : ℕ) → Contai
 
 abbrev pub NoMissingTable : Type 0
 NoMissingTable = (g : Grammar) (folder : Folder) (s : Says) (i : Family) (f : FamilyFold) (t : TableAt) → IsLive s.fold i f t → folder (table.Table t.number) ≡ None → Reads g folder s → ⊥
+
+-- ---- what bytes fix
+
+-- a manifest has one fold
+abbrev pub OneFold : Type 0
+OneFold = (bodies : List (List ℕ)) (a b : Folded) → IsManifest bodies a → IsManifest bodies b → a ≡ b
+
+-- a folder says one thing of all that is live
+abbrev pub OneAccount : Type 0
+OneAccount = (g : Grammar) (folder : Folder) (a b : Says) → Reads g folder a → Reads g folder b → SameLive a b
+
+-- two states that a folder stands for differ at most in the versions up to each `through`, of which tables have lost history
+abbrev pub StatesAreAlike : Type 0
+StatesAreAlike = (g : Grammar) (folder : Folder) (m n : State) → FolderStands g folder m → FolderStands g folder n → Alike m n
+
+-- where nothing was flushed there is one
+abbrev pub OneUnflushedState : Type 0
+OneUnflushedState = (g : Grammar) (folder : Folder) (m n : State)
+    → FolderStands g folder m → FolderStands g folder n → ((i : Family) (f : FamilyState) → family_at m i ≡ Some f → f.through.0 ≡ 0) → m ≡ n

@@ -6,7 +6,7 @@ ghost use Rattle.engine_laws.specs.Laws.{StandsBetweenCalls, OnlyLiveNamesCount,
 ghost use Rattle.engine_laws.specs.Laws.{EditLeavesOutcomes, EditsAreOfActs, EditsMayChangeNothing, HoldsEdited, AppendLeavesFolds, HoldsBesides, HoldsByLiveFiles, TablesMayBeSet, LogsMayBeSet};
 ghost use Rattle.engine_laws.specs.Laws.{FoldsAreWell, DroppedLogsAreDead, RemovedTablesAreDead, HoldsOpened, NewStoreStands};
 ghost use Rattle.engine_laws.specs.Laws.{RaiseMayBeMade, RollMayBeMade, FlushMayBeMade, CompactionMayBeMade, HoldsBehindAct, HoldsSealed};
-ghost use Rattle.engine_laws.specs.Laws.{NoEditBeforeSync, NoEarlyDrop, NoEarlyFloor, LoggedIsKept, NoMissingLog, NoMissingTable};
+ghost use Rattle.engine_laws.specs.Laws.{NoEditBeforeSync, NoEarlyDrop, NoEarlyFloor, LoggedIsKept, NoMissingLog, NoMissingTable, OneFold, OneAccount, StatesAreAlike, OneUnflushedState};
 ghost use Rattle.engine_laws.specs.JointLaws.{LeavesOutcomesNow, SyncRunLeavesOutcomes, WriteRunLeavesOutcomes, RestsSynced, EditRunLeavesOutcomes, RestsEdited, DeadRunSaysTheSame, RestsBesideDead, RollLeavesNoMore, RestsByLiveFiles, EditIsReady};
 
 use udt_disk::{Disk, DiskFile};
@@ -104,4 +104,13 @@ pub fn joint_runs<F: DiskFile, D: Disk<File = F>>()
     ensures roll { RollLeavesNoMore D.Disk F.DiskFile }
     ensures account { RestsByLiveFiles D.Disk F.DiskFile }
     ensures ready { EditIsReady D.Disk F.DiskFile }
+{}
+
+/// A folder's bytes fix what is live, and so all of the states that it stands for but the versions up to each `through`, of which tables
+/// have lost history. Where nothing was flushed there is one such state.
+pub fn fixed_by_bytes()
+    ensures fold { OneFold }
+    ensures account { OneAccount }
+    ensures alike { StatesAreAlike }
+    ensures one { OneUnflushedState }
 {}
