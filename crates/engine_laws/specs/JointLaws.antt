@@ -52,52 +52,52 @@ module _ {D F : Type 0} (d : disk.Ghosts D F) (f : file.Ghosts F) where
   -- ---- the newest log
 
   -- while it is synced a crash leaves only folders that stand for outcomes
-  abbrev pub SyncRunLeavesOutcomes : Type 0
-  SyncRunLeavesOutcomes = (g : Grammar) (manifest : FileName) (m : State) (c : Course) (s : Says) (waiting : List Numbered) (x : D) (before after : List F) (wal ran : F)
+  abbrev pub SyncRunLeavesOutcomes : Grammar → Type 0
+  SyncRunLeavesOutcomes g = (manifest : FileName) (m : State) (c : Course) (s : Says) (waiting : List Numbered) (x : D) (before after : List F) (wal ran : F)
       → IsManifestName manifest → Holds m c s waiting → RestIn g (holding x before) manifest s → LogRan s before after wal ran → Leaves f wal ran (IsSyncImage s waiting)
       → Ran d f (λ folder. StandsForSome g folder (IsOutcome m c)) (holding x before) (holding x after)
 
   -- and while it is synced under a write
-  abbrev pub WriteRunLeavesOutcomes : Type 0
-  WriteRunLeavesOutcomes = (g : Grammar) (manifest : FileName) (m : State) (c : Course) (s : Says) (waiting : List Numbered) (number : ℕ) (ops : List WriteOp) (sync : Bool) (x : D) (before after : List F) (wal ran : F)
+  abbrev pub WriteRunLeavesOutcomes : Grammar → Type 0
+  WriteRunLeavesOutcomes g = (manifest : FileName) (m : State) (c : Course) (s : Says) (waiting : List Numbered) (number : ℕ) (ops : List WriteOp) (sync : Bool) (x : D) (before after : List F) (wal ran : F)
       → IsManifestName manifest → Holds m c s waiting → IsNextWrite m s ops sync → RestIn g (holding x before) manifest s → LogRan s before after wal ran → Leaves f wal ran (IsSyncImage s (waiting ++ next_batch m ops ∷ []))
       → Ran d f (λ folder. StandsForSome g folder (IsOutcomeUnder m c number (write ops sync))) (holding x before) (holding x after)
 
   -- where afterwards it may leave only a log with all that waited, all rests
-  abbrev pub RestsSynced : Type 0
-  RestsSynced = (g : Grammar) (manifest : FileName) (m : State) (c : Course) (s : Says) (waiting : List Numbered) (x : D) (before after : List F) (wal ran : F)
+  abbrev pub RestsSynced : Grammar → Type 0
+  RestsSynced g = (manifest : FileName) (m : State) (c : Course) (s : Says) (waiting : List Numbered) (x : D) (before after : List F) (wal ran : F)
       → IsManifestName manifest → Holds m c s waiting → RestIn g (holding x before) manifest s → LogRan s before after wal ran
       → ((image : Image) → f.may_leave ran image → ReadsAs (sizes_of s.fold) (s.logs (newest_of s) ++ waiting) image) → RestIn g (holding x after) manifest (with_batches s waiting)
 
   -- ---- the manifest
 
   -- while an edit is appended a crash leaves only folders that stand for outcomes, or for the next state
-  abbrev pub EditRunLeavesOutcomes : Type 0
-  EditRunLeavesOutcomes = (g : Grammar) (manifest : FileName) (m next : State) (c : Course) (s : Says) (edit : Edit) (x : D) (before after : List F) (old ran : F)
+  abbrev pub EditRunLeavesOutcomes : Grammar → Type 0
+  EditRunLeavesOutcomes g = (manifest : FileName) (m next : State) (c : Course) (s : Says) (edit : Edit) (x : D) (before after : List F) (old ran : F)
       → IsManifestName manifest → Holds m c s [] → MayEdit m s edit next → RestIn g (holding x before) manifest s → IsReady g (MayLeave d f (holding x before)) s edit
       → ManifestRan manifest before after old ran → Leaves f old ran (IsEditImage s edit) → Ran d f (λ folder. StandsForSome g folder (IsOutcomeOr m c next)) (holding x before) (holding x after)
 
   -- where afterwards it may leave only the fold with the edit, all rests
-  abbrev pub RestsEdited : Type 0
-  RestsEdited = (g : Grammar) (manifest : FileName) (m next : State) (s : Says) (edit : Edit) (x : D) (before after : List F) (old ran : F)
+  abbrev pub RestsEdited : Grammar → Type 0
+  RestsEdited g = (manifest : FileName) (m next : State) (s : Says) (edit : Edit) (x : D) (before after : List F) (old ran : F)
       → IsManifestName manifest → MayEdit m s edit next → RestIn g (holding x before) manifest s → IsReady g (MayLeave d f (holding x before)) s edit
       → ManifestRan manifest before after old ran → ((image : Image) → f.may_leave ran image → HasFold image (fold_with s.fold edit)) → RestIn g (holding x after) manifest (with_edit s edit)
 
   -- ---- names that aren't live
 
   -- at each moment of calls that touch only names that aren't live, whatever files are held, a crash leaves only folders that say the same
-  abbrev pub DeadRunSaysTheSame : Type 0
-  DeadRunSaysTheSame = (g : Grammar) (manifest : FileName) (s : Says) (names : List FileName) (old new : Joint D F)
+  abbrev pub DeadRunSaysTheSame : Grammar → Type 0
+  DeadRunSaysTheSame g = (manifest : FileName) (s : Says) (names : List FileName) (old new : Joint D F)
       → IsManifestName manifest → RestIn g old manifest s → AreDead manifest s.fold (Contains names) → Ran d f (AsAtBut d f (Contains names) old) old new → Ran d f (λ folder. Reads g folder s) old new
 
   -- and where under every other name it leaves nothing new, all rests afterwards
-  abbrev pub RestsBesideDead : Type 0
-  RestsBesideDead = (g : Grammar) (manifest : FileName) (s : Says) (names : List FileName) (old new : Joint D F)
+  abbrev pub RestsBesideDead : Grammar → Type 0
+  RestsBesideDead g = (manifest : FileName) (s : Says) (names : List FileName) (old new : Joint D F)
       → IsManifestName manifest → RestIn g old manifest s → AreDead manifest s.fold (Contains names) → ((n : FileName) (image : Image) → ¬ Contains names n → MayLeave d f new n image → MayLeave d f old n image) → RestIn g new manifest s
 
   -- between two calls
-  abbrev pub LeavesOutcomesNow : Type 0
-  LeavesOutcomesNow = (g : Grammar) (manifest : FileName) (m : State) (c : Course) (s : Says) (waiting : List Numbered) (j : Joint D F)
+  abbrev pub LeavesOutcomesNow : Grammar → Type 0
+  LeavesOutcomesNow g = (manifest : FileName) (m : State) (c : Course) (s : Says) (waiting : List Numbered) (j : Joint D F)
       → Holds m c s waiting → RestIn g j manifest s → LeavesNow d f (λ folder. StandsForSome g folder (IsOutcome m c)) j
 
   -- so it is with a roll, which makes a log of a new number and gives the old one's file back
@@ -109,10 +109,10 @@ module _ {D F : Type 0} (d : disk.Ghosts D F) (f : file.Ghosts F) where
   -- ---- what rests
 
   -- another account of the files that agrees on all that is live rests too
-  abbrev pub RestsByLiveFiles : Type 0
-  RestsByLiveFiles = (g : Grammar) (manifest : FileName) (s other : Says) (j : Joint D F) → SameLive s other → RestIn g j manifest s → RestIn g j manifest other
+  abbrev pub RestsByLiveFiles : Grammar → Type 0
+  RestsByLiveFiles g = (manifest : FileName) (s other : Says) (j : Joint D F) → SameLive s other → RestIn g j manifest s → RestIn g j manifest other
 
   -- all that is live with an edit rests where all that was live does, and the logs and tables that the edit adds
-  abbrev pub EditIsReady : Type 0
-  EditIsReady = (g : Grammar) (manifest : FileName) (s : Says) (edit : Edit) (j : Joint D F) → IsAccepted s.fold edit → RestIn g j manifest s
+  abbrev pub EditIsReady : Grammar → Type 0
+  EditIsReady g = (manifest : FileName) (s : Says) (edit : Edit) (j : Joint D F) → IsAccepted s.fold edit → RestIn g j manifest s
       → ((n : ℕ) → Contains edit.add_logs n → LogRests (MayLeave d f j) s n) → ((t : TableAt) → Contains (added_tables edit.family) t → TableRests g (MayLeave d f j) s t.number) → IsReady g (MayLeave d f j) s edit

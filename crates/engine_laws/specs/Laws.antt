@@ -33,7 +33,7 @@ use Rattle.manifest_fold.specs.Folds.{IsAccepted, fold_with}
 use Rattle.floor_laws.specs.Sound.{IsSoundCourse, IsSoundState}
 use Rattle.engine_laws.specs.Logs.{versions_of}
 use Rattle.engine_laws.specs.Manifests.{HasFold, IsLive, IsManifest, IsWell}
-use Rattle.engine_laws.specs.Standing.{Alike, FolderStands, Grammar, Reads, Says, StandsFor, StandsForSome, TableSays, families_said, fresh_says, live_batches, new_state}
+use Rattle.engine_laws.specs.Standing.{Alike, FolderStands, Grammar, IsOneSaid, Reads, Says, StandsFor, StandsForSome, TableSays, families_said, fresh_says, live_batches, new_state}
 use Rattle.engine_laws.specs.Engine.{AreSameKept, Holds, IsEditTo, IsOutcomeOr, MayEdit, SameLive, next_batch, with_batches, with_edit, with_log, with_table}
 use Rattle.engine_laws.specs.Moves.{IsLiveName}
 use Rattle.engine_laws.specs.Installs.{EndsCompaction, EndsFlush, IsNextFile, LogsMayGo, compact_edit, flush_edit, raise_edit, roll_edit}
@@ -41,20 +41,20 @@ use Rattle.engine_laws.specs.Installs.{EndsCompaction, EndsFlush, IsNextFile, Lo
 -- ---- between calls, and files that aren't live
 
 -- between two calls each folder that a crash may leave stands for an outcome
-abbrev pub StandsBetweenCalls : Type 0
-StandsBetweenCalls = (g : Grammar) (folder : Folder) (m : State) (c : Course) (s : Says) (waiting : List Numbered)
+abbrev pub StandsBetweenCalls : Grammar → Type 0
+StandsBetweenCalls g = (folder : Folder) (m : State) (c : Course) (s : Says) (waiting : List Numbered)
     → Holds m c s waiting → Reads g folder s → StandsForSome g folder (IsOutcome m c)
 
 -- a folder that agrees with another one on all live names stands for the same
-abbrev pub OnlyLiveNamesCount : Type 0
-OnlyLiveNamesCount = (g : Grammar) (folder other : Folder) (m : State) (stands : FolderStands g folder m)
+abbrev pub OnlyLiveNamesCount : Grammar → Type 0
+OnlyLiveNamesCount g = (folder other : Folder) (m : State) (stands : FolderStands g folder m)
     → ((n : FileName) → IsLiveName (chosen folder) stands.says.fold n → other n ≡ folder n) → FolderStands g other m
 
 -- ---- syncs
 
 -- while the newest log is synced a crash leaves what was there, or all that waited
-abbrev pub SyncLeavesOutcomes : Type 0
-SyncLeavesOutcomes = (g : Grammar) (folder : Folder) (m : State) (c : Course) (s : Says) (waiting : List Numbered)
+abbrev pub SyncLeavesOutcomes : Grammar → Type 0
+SyncLeavesOutcomes g = (folder : Folder) (m : State) (c : Course) (s : Says) (waiting : List Numbered)
     → Holds m c s waiting → Reads g folder s ⊎ Reads g folder (with_batches s waiting) → StandsForSome g folder (IsOutcome m c)
 
 -- after it nothing waits, whoever asked for it
@@ -74,8 +74,8 @@ pub record IsNextWrite (m : State) (s : Says) (ops : List WriteOp) (sync : Bool)
   pub fits : IsLoggedBatch (length s.fold.families) (next_batch m ops)
 
 -- while the newest log is synced under a write a crash leaves an outcome of the state before, or the state behind it
-abbrev pub WriteLeavesOutcomes : Type 0
-WriteLeavesOutcomes = (g : Grammar) (folder : Folder) (m : State) (c : Course) (s : Says) (waiting : List Numbered) (number : ℕ) (ops : List WriteOp) (sync : Bool)
+abbrev pub WriteLeavesOutcomes : Grammar → Type 0
+WriteLeavesOutcomes g = (folder : Folder) (m : State) (c : Course) (s : Says) (waiting : List Numbered) (number : ℕ) (ops : List WriteOp) (sync : Bool)
     → Holds m c s waiting → IsNextWrite m s ops sync → Reads g folder s ⊎ Reads g folder (with_batches s (waiting ++ next_batch m ops ∷ []))
     → StandsForSome g folder (IsOutcomeUnder m c number (write ops sync))
 
@@ -99,8 +99,8 @@ HoldsSyncedWrite = (m : State) (c : Course) (s : Says) (waiting : List Numbered)
 -- ---- edits
 
 -- while an edit is appended, where nothing waits, a crash leaves an outcome of the state before, or the state behind it
-abbrev pub EditLeavesOutcomes : Type 0
-EditLeavesOutcomes = (g : Grammar) (folder : Folder) (m : State) (c : Course) (s : Says) (edit : Edit) (next : State)
+abbrev pub EditLeavesOutcomes : Grammar → Type 0
+EditLeavesOutcomes g = (folder : Folder) (m : State) (c : Course) (s : Says) (edit : Edit) (next : State)
     → Holds m c s [] → MayEdit m s edit next → Reads g folder s ⊎ Reads g folder (with_edit s edit) → StandsForSome g folder (IsOutcomeOr m c next)
 
 -- that state is an outcome under the act that leads to it, or of the state before where it says the same of what is kept
@@ -158,8 +158,8 @@ RemovedTablesAreDead = (fold : Folded) (edit : Edit) (e : FamilyEdit) (n : ℕ)
 -- ---- opening
 
 -- an engine of a folder that stands for a state holds that state
-abbrev pub HoldsOpened : Type 0
-HoldsOpened = (g : Grammar) (folder : Folder) (m : State) (stands : FolderStands g folder m) → Holds m (course_start m) stands.says []
+abbrev pub HoldsOpened : Grammar → Type 0
+HoldsOpened g = (folder : Folder) (m : State) (stands : FolderStands g folder m) → Holds m (course_start m) stands.says []
 
 -- the files of a new store stand for the state in which nothing was written
 abbrev pub NewStoreStands : Type 0
@@ -227,11 +227,11 @@ LoggedIsKept = (s : Says) (m : State) (v : Version) (f : FamilyState)
     → StandsFor s m → Contains (versions_of (live_batches s)) v → family_at m v.family ≡ Some f → f.through.0 < v.seq.0 → Contains m.versions v
 
 -- a folder without one of the live logs or tables says nothing
-abbrev pub NoMissingLog : Type 0
-NoMissingLog = (g : Grammar) (folder : Folder) (s : Says) (log : ℕ) → Contains s.fold.logs log → folder (Log log) ≡ None → Reads g folder s → ⊥
+abbrev pub NoMissingLog : Grammar → Type 0
+NoMissingLog g = (folder : Folder) (s : Says) (log : ℕ) → Contains s.fold.logs log → folder (Log log) ≡ None → Reads g folder s → ⊥
 
-abbrev pub NoMissingTable : Type 0
-NoMissingTable = (g : Grammar) (folder : Folder) (s : Says) (i : Family) (f : FamilyFold) (t : TableAt) → IsLive s.fold i f t → folder (table.Table t.number) ≡ None → Reads g folder s → ⊥
+abbrev pub NoMissingTable : Grammar → Type 0
+NoMissingTable g = (folder : Folder) (s : Says) (i : Family) (f : FamilyFold) (t : TableAt) → IsLive s.fold i f t → folder (table.Table t.number) ≡ None → Reads g folder s → ⊥
 
 -- ---- what bytes fix
 
@@ -240,14 +240,14 @@ abbrev pub OneFold : Type 0
 OneFold = (bodies : List (List ℕ)) (a b : Folded) → IsManifest bodies a → IsManifest bodies b → a ≡ b
 
 -- a folder says one thing of all that is live
-abbrev pub OneAccount : Type 0
-OneAccount = (g : Grammar) (folder : Folder) (a b : Says) → Reads g folder a → Reads g folder b → SameLive a b
+abbrev pub OneAccount : Grammar → Type 0
+OneAccount g = (folder : Folder) (a b : Says) → IsOneSaid g → Reads g folder a → Reads g folder b → SameLive a b
 
 -- two states that a folder stands for differ at most in the versions up to each `through`, of which tables have lost history
-abbrev pub StatesAreAlike : Type 0
-StatesAreAlike = (g : Grammar) (folder : Folder) (m n : State) → FolderStands g folder m → FolderStands g folder n → Alike m n
+abbrev pub StatesAreAlike : Grammar → Type 0
+StatesAreAlike g = (folder : Folder) (m n : State) → IsOneSaid g → FolderStands g folder m → FolderStands g folder n → Alike m n
 
 -- where nothing was flushed there is one
-abbrev pub OneUnflushedState : Type 0
-OneUnflushedState = (g : Grammar) (folder : Folder) (m n : State)
-    → FolderStands g folder m → FolderStands g folder n → ((i : Family) (f : FamilyState) → family_at m i ≡ Some f → f.through.0 ≡ 0) → m ≡ n
+abbrev pub OneUnflushedState : Grammar → Type 0
+OneUnflushedState g = (folder : Folder) (m n : State)
+    → IsOneSaid g → FolderStands g folder m → FolderStands g folder n → ((i : Family) (f : FamilyState) → family_at m i ≡ Some f → f.through.0 ≡ 0) → m ≡ n

@@ -1,7 +1,7 @@
 -- What the frames of a manifest mean, edits and all, and what every fold of one keeps.
-use Rattle.std.specs.Prelude.{◌≡◌, ◌≢◌, ℕ, ◌<◌, ◌≤◌, List, [], ◌∷◌, length, map, slice_get, All, Contains, Some, None}
+use Rattle.std.specs.Prelude.{◌≡◌, ◌≢◌, ℕ, ◌<◌, ◌≤◌, List, [], ◌∷◌, length, map, slice_get, All, Contains, IsTrue, Some, None}
 use Rattle.std.specs.List.Sorted.{IsStrictlyIncreasing}
-use Rattle.ts_key.specs.declared.limits.TheConstants.{SEQUENCE_LIMIT}
+use Rattle.ts_key.specs.declared.limits.TheConstants.{FAMILY_LIMIT, SEQUENCE_LIMIT}
 use Rattle.ts_key.specs.declared.numbers.Family.{Family}
 use Rattle.udt_disk.specs.Crash.{Image}
 use Rattle.udt_disk.specs.Joint.{Folder}
@@ -13,7 +13,7 @@ use Rattle.manifest_fold.specs.declared.limits.TheConstants.{FILE_LIMIT, LOWEST_
 use Rattle.manifest_fold.specs.declared.fold.FamilyFold.{FamilyFold}
 use Rattle.manifest_fold.specs.declared.fold.Folded.{Folded}
 use Rattle.manifest_fold.specs.Bodies.{LeadAll}
-use Rattle.manifest.specs.Heads.{IsHead}
+use Rattle.manifest.specs.Heads.{IsNamed, differ, head_text}
 use Rattle.manifest.specs.Folders.{chosen}
 
 -- a family as a head has it: its floor is 0, nothing of it is in tables, and it has no table
@@ -24,10 +24,19 @@ family_fold f = record { name = f.name; form = f.form; floor = record { 0 = 0 };
 abbrev pub fold_of : List FamilyHead → Folded
 fold_of families = record { families = map family_fold families; logs = 1 ∷ []; next_file = 2; last = record { 0 = 0 } }
 
+-- The bytes are the head of these families: 1 to `FAMILY_LIMIT` with different names, each of either form, with floors 0.
+pub record IsStoreHead (body : List ℕ) (families : List FamilyHead) : Type 0 where
+  pub some : 1 ≤ length families
+  pub few : length families ≤ FAMILY_LIMIT
+  pub floors : All (λ (f : FamilyHead). f.floor.0 ≡ 0) families
+  pub named : All IsNamed families
+  pub apart : IsTrue (differ families)
+  pub is : body ≡ head_text families
+
 -- the bodies of a manifest's frames mean this fold: a head, and then edits, each accepted by what stands before it
 abbrev pub IsManifest : List (List ℕ) → Folded → Type 0
 IsManifest [] fold = ⊥
-IsManifest (body ∷ bodies) fold = (families : List FamilyHead) × IsHead body families × LeadAll (fold_of families) bodies fold
+IsManifest (body ∷ bodies) fold = (families : List FamilyHead) × IsStoreHead body families × LeadAll (fold_of families) bodies fold
 
 -- the file has this fold
 abbrev pub HasFold : Image → Folded → Type 0

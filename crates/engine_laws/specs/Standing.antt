@@ -27,14 +27,14 @@ pub record TableSays : Type 0 where
   pub collected_by : Ts
   pub versions : List Version
 
--- What bytes say as a table, or that they are none. The laws hold for whatever grammar is given.
-abbrev pub Grammar : Type 0
-Grammar = List ℕ → Option TableSays
+-- Which bytes say what as a table. The laws hold for whatever grammar is given.
+abbrev pub Grammar : Type 1
+Grammar = List ℕ → TableSays → Type 0
 
 -- the file of a table says this
 abbrev pub TableReads : Grammar → Image → TableSays → Type 0
 TableReads g None says = ⊥
-TableReads g (Some bytes) says = g bytes ≡ Some says
+TableReads g (Some bytes) says = g bytes says
 
 -- What the files of a store say, by their numbers: the manifest its fold, each log its batches, each table its contents. Under numbers
 -- that aren't live it says what will be there, or anything.
@@ -106,6 +106,10 @@ pub record FolderStands (g : Grammar) (folder : Folder) (m : State) : Type 0 whe
   pub says : Says
   pub reads : Reads g folder says
   pub stands : StandsFor says m
+
+-- bytes say one thing as a table
+abbrev pub IsOneSaid : Grammar → Type 0
+IsOneSaid g = (bytes : List ℕ) (a b : TableSays) → g bytes a → g bytes b → a ≡ b
 
 -- the folder stands for a state of this kind
 abbrev pub StandsForSome : Grammar → Folder → (State → Type 0) → Type 0

@@ -2,4 +2,4 @@ use Rattle.engine_laws.proofs.Fixed.{manifest_once, one_state, reads_once, state
 use Rattle.engine_laws.proofs.fixed_by_bytes.Goals as goal
 
 pub returns : goal.returns
-returns c = record { fold = manifest_once; account = reads_once; alike = states_alike; one = one_state }
+returns g c = record { fold = manifest_once; account = reads_once g.G.TableGrammar.spells; alike = states_alike g.G.TableGrammar.spells; one = one_state g.G.TableGrammar.spells }
