@@ -32,7 +32,6 @@ use Rattle.manifest_fold.specs.Folds.{fold_with}
 use Rattle.manifest_fold.specs.Bodies.{LeadAll, LeadsTo}
 use Rattle.floor_laws.proofs.Members.{In, All-In, filter-In, filter_every, filter_within}
 use Rattle.floor_laws.proofs.Reopening.{written_fixed}
-use Rattle.floor_laws.proofs.States.{some_same}
 use Rattle.engine_laws.specs.Logs.{above, is_above, last_over, sizes_of, versions_of}
 use Rattle.engine_laws.specs.Manifests.{HasFold, IsLive, IsManifest, IsStoreHead, family_fold, fold_of}
 use Rattle.engine_laws.specs.Standing.{Alike, FolderStands, Grammar, IsOneSaid, Reads, Says, TableReads, TableSays, live_batches}

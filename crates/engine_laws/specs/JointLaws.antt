@@ -3,7 +3,7 @@ use Rattle.std.specs.Prelude.{◌≡◌, ◌⊎◌, ℕ, Bool, List, [], ◌∷�
 use Rattle.ts_key.specs.declared.batch.WriteOp.{WriteOp}
 use Rattle.udt_disk.specs.Crash.{Image, NoMore}
 use Rattle.udt_disk.specs.Joint.{IsFree, Joint, LeavesNow, Ran}
-use Rattle.udt_disk.specs.Moments.{AsAtBut, MayLeave, holding}
+use Rattle.udt_disk.specs.Moments.{AsAtBut, MayLeave, OnlyReads, holding}
 use Rattle.udt_disk.specs.Runs.{Leaves}
 use Rattle.udt_disk.specs.Touches.{Touches}
 use Rattle.udt_disk.specs.declared.name.FileName.{FileName}
@@ -100,7 +100,12 @@ module _ {D F : Type 0} (d : disk.Ghosts D F) (f : file.Ghosts F) where
   LeavesOutcomesNow g = (manifest : FileName) (m : State) (c : Course) (s : Says) (waiting : List Numbered) (j : Joint D F)
       → Holds m c s waiting → RestIn g j manifest s → LeavesNow d f (λ folder. StandsForSome g folder (IsOutcome m c)) j
 
-  -- so it is with a roll, which makes a log of a new number and gives the old one's file back
+  -- so it is with calls that only read, and with a file that is given back as it is, of whatever name
+  abbrev pub ReadsRest : Grammar → Type 0
+  ReadsRest g = (manifest : FileName) (s : Says) (old new : Joint D F)
+      → IsManifestName manifest → RestIn g old manifest s → OnlyReads d f old new → Ran d f (λ folder. Reads g folder s) old new × RestIn g new manifest s
+
+  -- and with a roll, which makes a log of a new number and gives the old one's file back
   abbrev pub RollLeavesNoMore : Type 0
   RollLeavesNoMore = (x y : D) (files : List F) (old new : F) (number : ℕ) → f.name new ≡ Log number → IsFree d f (holding x files) (f.name old)
       → Touches d (λ n. (n ≡ Log number) ⊎ (n ≡ f.name old)) x y → NoMore (f.may_leave old) (d.may_leave y (f.name old))

@@ -15,7 +15,7 @@ use Rattle.wal.specs.Records.{IsLoggedBatch}
 use Rattle.udt_model.specs.declared.line.FamilyHead.{FamilyHead}
 use Rattle.udt_model.specs.declared.reply.Piece.{Piece}
 use Rattle.udt_model.specs.declared.reply.Reply.{Reply}
-use Rattle.udt_model.specs.declared.reply.Reply.TheVariants.{Done, Kept, OkAt, Table}
+use Rattle.udt_model.specs.declared.reply.Reply.TheVariants.{Done, Fault, Kept, OkAt, Table}
 use Rattle.udt_model.specs.State.{Compaction, FamilyState, Flush, State, family_at}
 use Rattle.udt_model.specs.Acts.{Act}
 use Rattle.udt_model.specs.Acts.Act.{compact_end, flush_end, flush_start, raise, sync_all, write}
@@ -201,6 +201,17 @@ abbrev pub HoldsSealed : Type 0
 HoldsSealed = (m : State) (c : Course) (s : Says) (waiting : List Numbered) (number : ℕ) (family : Family) (log : ℕ)
     → Holds m c s waiting → IsReplyTo m (flush_start family) (OkAt m.last.0) → s.fold.next_file ≤ log → log + 1 ≤ FILE_LIMIT → s.logs log ≡ []
     → Holds (after m number (flush_start family) (OkAt m.last.0)) (course_after m number c (flush_start family) (OkAt m.last.0)) (with_edit (with_batches s waiting) (roll_edit m.last log)) []
+
+-- and so on the course on which all is synced
+abbrev pub HoldsSealedSynced : Type 0
+HoldsSealedSynced = (m : State) (c : Course) (s : Says) (waiting : List Numbered) (number : ℕ) (family : Family) (log : ℕ)
+    → Holds m c s waiting → IsReplyTo m (flush_start family) (OkAt m.last.0) → s.fold.next_file ≤ log → log + 1 ≤ FILE_LIMIT → s.logs log ≡ []
+    → Holds (after m number (flush_start family) (OkAt m.last.0)) (record c { synced = m.last.0 }) (with_edit (with_batches s waiting) (roll_edit m.last log)) []
+
+-- what a crash may leave under an act is an outcome still when the disk failed under it, until the folder is opened again
+abbrev pub FaultKeepsOutcomes : Type 0
+FaultKeepsOutcomes = (m : State) (c : Course) (number : ℕ) (act : Act) (left : State)
+    → c.failing ≡ None → IsOutcomeUnder m c number act left → IsOutcome (after m number act Fault) (course_after m number c act Fault) left
 
 -- ---- wrong orders
 

@@ -7,9 +7,9 @@ pub mod grammar;
 ghost use Rattle.engine_laws.specs.Laws.{StandsBetweenCalls, OnlyLiveNamesCount, SyncLeavesOutcomes, HoldsSynced, HoldsAllSynced, WriteLeavesOutcomes, HoldsWriteThatWaits, HoldsSyncedWrite};
 ghost use Rattle.engine_laws.specs.Laws.{EditLeavesOutcomes, EditsAreOfActs, EditsMayChangeNothing, HoldsEdited, AppendLeavesFolds, HoldsBesides, HoldsByLiveFiles, TablesMayBeSet, LogsMayBeSet};
 ghost use Rattle.engine_laws.specs.Laws.{FoldsAreWell, DroppedLogsAreDead, RemovedTablesAreDead, HoldsOpened, NewStoreStands};
-ghost use Rattle.engine_laws.specs.Laws.{RaiseMayBeMade, RollMayBeMade, FlushMayBeMade, CompactionMayBeMade, HoldsBehindAct, HoldsSealed};
+ghost use Rattle.engine_laws.specs.Laws.{RaiseMayBeMade, RollMayBeMade, FlushMayBeMade, CompactionMayBeMade, HoldsBehindAct, HoldsSealed, HoldsSealedSynced, FaultKeepsOutcomes};
 ghost use Rattle.engine_laws.specs.Laws.{NoEditBeforeSync, NoEarlyDrop, NoEarlyFloor, LoggedIsKept, NoMissingLog, NoMissingTable, OneFold, OneAccount, StatesAreAlike, OneUnflushedState};
-ghost use Rattle.engine_laws.specs.JointLaws.{LeavesOutcomesNow, SyncRunLeavesOutcomes, WriteRunLeavesOutcomes, RestsSynced, EditRunLeavesOutcomes, RestsEdited, DeadRunSaysTheSame, RestsBesideDead, RollLeavesNoMore, RestsByLiveFiles, EditIsReady};
+ghost use Rattle.engine_laws.specs.JointLaws.{LeavesOutcomesNow, SyncRunLeavesOutcomes, WriteRunLeavesOutcomes, RestsSynced, EditRunLeavesOutcomes, RestsEdited, DeadRunSaysTheSame, RestsBesideDead, ReadsRest, RollLeavesNoMore, RestsByLiveFiles, EditIsReady};
 
 use grammar::TableGrammar;
 use udt_disk::{Disk, DiskFile};
@@ -71,7 +71,8 @@ pub fn openings<G: TableGrammar>()
 {}
 
 /// The edits that an engine makes may be made, and lead to the states of the model: a raise; a new log, which changes nothing; the end
-/// of a flush, where the logs that it drops may go; and the end of a compaction.
+/// of a flush, where the logs that it drops may go; and the end of a compaction. Where the disk fails under an act, what a crash may
+/// leave is an outcome still.
 pub fn installs()
     ensures raised { RaiseMayBeMade }
     ensures rolled { RollMayBeMade }
@@ -79,6 +80,8 @@ pub fn installs()
     ensures compacted { CompactionMayBeMade }
     ensures held { HoldsBehindAct }
     ensures sealed { HoldsSealed }
+    ensures sealed_synced { HoldsSealedSynced }
+    ensures failed { FaultKeepsOutcomes }
 {}
 
 /// Wrong orders leave what stands for no outcome: an edit while a version waits that it doesn't flush; a log dropped with a version that
@@ -104,6 +107,7 @@ pub fn joint_runs<G: TableGrammar, F: DiskFile, D: Disk<File = F>>()
     ensures edited { RestsEdited D.Disk F.DiskFile G.spells }
     ensures dead { DeadRunSaysTheSame D.Disk F.DiskFile G.spells }
     ensures besides { RestsBesideDead D.Disk F.DiskFile G.spells }
+    ensures reads { ReadsRest D.Disk F.DiskFile G.spells }
     ensures roll { RollLeavesNoMore D.Disk F.DiskFile }
     ensures account { RestsByLiveFiles D.Disk F.DiskFile G.spells }
     ensures ready { EditIsReady D.Disk F.DiskFile G.spells }

@@ -1,4 +1,4 @@
-use Rattle.engine_laws.proofs.Acting.{act_holds, seal_holds}
+use Rattle.engine_laws.proofs.Acting.{act_holds, fault_keeps, seal_holds, seal_synced}
 use Rattle.engine_laws.proofs.Installing.{compact_may, flush_may, raise_may, roll_may}
 use Rattle.engine_laws.proofs.installs.Goals as goal
 
@@ -10,4 +10,6 @@ returns c = record {
   compacted = λ m c s number start kept next pieces job old add h e. compact_may m c s number start kept next pieces job old add h e.runs e.told e.there e.holds e.fits e.ascending e.file e.below;
   held = act_holds;
   sealed = seal_holds;
+  sealed_synced = λ m c s waiting number family log h r new most empty. seal_synced m c s waiting number family log h r new most empty;
+  failed = fault_keeps;
 }

@@ -27,6 +27,7 @@ returns g c =
       edited = λ manifest m next s edit x before after old ran is may r ready file done. edit_rests d f last gr manifest is m next (course_start m) s edit x before after old ran file.one file.name may r ready done;
       dead = λ manifest s names old new is r dead run. dead_reads d f last gr manifest is s (Contains names) old new r dead run;
       besides = λ manifest s names old new is r dead no_more. dead_rests d f last gr manifest is s (Contains names) old new r dead no_more;
+      reads = λ manifest s old new is r only. (dead_reads d f last gr manifest is s (λ n. ⊥) old new r (λ n none. absurd none) only.run, dead_rests d f last gr manifest is s (λ n. ⊥) old new r (λ n none. absurd none) only.no_more);
       roll = λ x y files old new number name apart touches given n image ne. roll_leaves d f last x y files old new number name apart touches given n image (λ e. ne (In-contains (Log number ∷ []) n (inl (sym e))));
       account = λ manifest s other j same r. same_rests gr (MayLeave d f j) manifest s other same r;
       ready = λ manifest s edit j a r logs tables. edit_ready gr (MayLeave d f j) manifest s edit a r logs tables;
