@@ -13,6 +13,7 @@ pub mod Opened
 pub mod Appending
 pub mod Installing
 pub mod Joined
+pub mod Calling
 pub mod Acting
 pub mod Refused
 pub mod Rows

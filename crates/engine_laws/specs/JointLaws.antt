@@ -1,9 +1,9 @@
 -- The laws of runs of calls on a disk and on the files of it that an engine holds.
-use Rattle.std.specs.Prelude.{◌≡◌, ◌⊎◌, ℕ, Bool, List, [], ◌∷◌, ◌++◌, Contains}
+use Rattle.std.specs.Prelude.{◌≡◌, ◌⊎◌, ℕ, Bool, List, [], ◌∷◌, ◌++◌, Contains, IsTrue}
 use Rattle.ts_key.specs.declared.batch.WriteOp.{WriteOp}
 use Rattle.udt_disk.specs.Crash.{Image, NoMore}
 use Rattle.udt_disk.specs.Joint.{IsFree, Joint, LeavesNow, Ran}
-use Rattle.udt_disk.specs.Moments.{AsAtBut, MayLeave, OnlyReads, holding}
+use Rattle.udt_disk.specs.Moments.{AsAtBut, MayLeave, OnlyReads, OnlyTouches, holding}
 use Rattle.udt_disk.specs.Runs.{Leaves}
 use Rattle.udt_disk.specs.Touches.{Touches}
 use Rattle.udt_disk.specs.declared.name.FileName.{FileName}
@@ -13,8 +13,11 @@ use Rattle.udt_disk.specs.declared.disk.Disk as disk
 use Rattle.wal.specs.declared.numbered.Numbered.{Numbered}
 use Rattle.wal.specs.Replays.{IsBeforeOrAfter, ReadsAs}
 use Rattle.udt_model.specs.State.{State}
+use Rattle.udt_model.specs.declared.reply.Reply.{Reply}
+use Rattle.udt_model.specs.Acts.{Act}
 use Rattle.udt_model.specs.Acts.Act.{write}
-use Rattle.udt_model.specs.Crashes.{Course, IsOutcome, IsOutcomeUnder}
+use Rattle.udt_model.specs.Steps.{IsTold, after, is_running}
+use Rattle.udt_model.specs.Crashes.{Course, IsOutcome, IsOutcomeUnder, is_change}
 use Rattle.manifest_edit.specs.declared.edit.TableAt.{TableAt}
 use Rattle.manifest_edit.specs.declared.edit.Edit.{Edit}
 use Rattle.manifest_fold.specs.Folds.{IsAccepted, fold_with}
@@ -121,3 +124,33 @@ module _ {D F : Type 0} (d : disk.Ghosts D F) (f : file.Ghosts F) where
   abbrev pub EditIsReady : Grammar → Type 0
   EditIsReady g = (manifest : FileName) (s : Says) (edit : Edit) (j : Joint D F) → IsAccepted s.fold edit → RestIn g j manifest s
       → ((n : ℕ) → Contains edit.add_logs n → LogRests (MayLeave d f j) s n) → ((t : TableAt) → Contains (added_tables edit.family) t → TableRests g (MayLeave d f j) s t.number) → IsReady g (MayLeave d f j) s edit
+
+  -- ---- whole calls
+
+  -- What a call with an edit does, step by step: the newest log is synced; files of names that aren't live are made; the edit is
+  -- appended to the manifest; and files of names that are live no more are removed.
+  pub record EditCall (g : Grammar) (manifest : FileName) (s : Says) (waiting : List Numbered) (edit : Edit) (x y z : D) (start synced made appended done : List F) : Type 0 where
+    pub wal : F
+    pub wal_after : F
+    pub log : LogRan s start synced wal wal_after
+    pub syncs : Leaves f wal wal_after (IsSyncImage s waiting)
+    pub all_synced : (image : Image) → f.may_leave wal_after image → ReadsAs (sizes_of s.fold) (s.logs (newest_of s) ++ waiting) image
+    pub new : List FileName
+    pub new_dead : AreDead manifest s.fold (Contains new)
+    pub makes : OnlyTouches d f (Contains new) (holding x synced) (holding y made)
+    pub ready : IsReady g (MayLeave d f (holding y made)) (with_batches s waiting) edit
+    pub old : F
+    pub old_after : F
+    pub file : ManifestRan manifest made appended old old_after
+    pub appends : Leaves f old old_after (IsEditImage (with_batches s waiting) edit)
+    pub all_appended : (image : Image) → f.may_leave old_after image → HasFold image (fold_with s.fold edit)
+    pub gone : List FileName
+    pub gone_dead : AreDead manifest (fold_with s.fold edit) (Contains gone)
+    pub removes : OnlyTouches d f (Contains gone) (holding y appended) (holding z done)
+
+  -- at each moment of it a crash leaves only folders that stand for outcomes under the act, and all rests behind it
+  abbrev pub CallLeavesOutcomes : Grammar → Type 0
+  CallLeavesOutcomes g = (manifest : FileName) (m : State) (c : Course) (s : Says) (waiting : List Numbered) (number : ℕ) (act : Act) (reply : Reply) (edit : Edit) (x y z : D) (start synced made appended done : List F)
+      → IsManifestName manifest → Holds m c s waiting → RestIn g (holding x start) manifest s → IsTold m act reply → IsTrue (is_change act reply) → IsTrue (is_running m act)
+      → MayEdit m (with_batches s waiting) edit (after m number act reply) → EditCall g manifest s waiting edit x y z start synced made appended done
+      → Ran d f (λ folder. StandsForSome g folder (IsOutcomeUnder m c number act)) (holding x start) (holding z done) × RestIn g (holding z done) manifest (with_edit (with_batches s waiting) edit)

@@ -9,7 +9,7 @@ ghost use Rattle.engine_laws.specs.Laws.{EditLeavesOutcomes, EditsAreOfActs, Edi
 ghost use Rattle.engine_laws.specs.Laws.{FoldsAreWell, DroppedLogsAreDead, RemovedTablesAreDead, HoldsOpened, NewStoreStands};
 ghost use Rattle.engine_laws.specs.Laws.{RaiseMayBeMade, RollMayBeMade, FlushMayBeMade, CompactionMayBeMade, HoldsBehindAct, HoldsSealed, HoldsSealedSynced, FaultKeepsOutcomes};
 ghost use Rattle.engine_laws.specs.Laws.{NoEditBeforeSync, NoEarlyDrop, NoEarlyFloor, LoggedIsKept, NoMissingLog, NoMissingTable, OneFold, OneAccount, StatesAreAlike, OneUnflushedState};
-ghost use Rattle.engine_laws.specs.JointLaws.{LeavesOutcomesNow, SyncRunLeavesOutcomes, WriteRunLeavesOutcomes, RestsSynced, EditRunLeavesOutcomes, RestsEdited, DeadRunSaysTheSame, RestsBesideDead, ReadsRest, RollLeavesNoMore, RestsByLiveFiles, EditIsReady};
+ghost use Rattle.engine_laws.specs.JointLaws.{LeavesOutcomesNow, SyncRunLeavesOutcomes, WriteRunLeavesOutcomes, RestsSynced, EditRunLeavesOutcomes, RestsEdited, DeadRunSaysTheSame, RestsBesideDead, ReadsRest, RollLeavesNoMore, RestsByLiveFiles, EditIsReady, CallLeavesOutcomes};
 
 use grammar::TableGrammar;
 use udt_disk::{Disk, DiskFile};
@@ -97,7 +97,7 @@ pub fn wrong_orders<G: TableGrammar>()
 {}
 
 /// The same over a disk and the files of it that are held: runs of calls on the newest log and on the manifest, and on names that aren't
-/// live, and what rests behind them. A call of an engine is composed of them.
+/// live, and what rests behind them; and a whole call with an edit, composed of them.
 pub fn joint_runs<G: TableGrammar, F: DiskFile, D: Disk<File = F>>()
     ensures now { LeavesOutcomesNow D.Disk F.DiskFile G.spells }
     ensures sync { SyncRunLeavesOutcomes D.Disk F.DiskFile G.spells }
@@ -111,6 +111,7 @@ pub fn joint_runs<G: TableGrammar, F: DiskFile, D: Disk<File = F>>()
     ensures roll { RollLeavesNoMore D.Disk F.DiskFile }
     ensures account { RestsByLiveFiles D.Disk F.DiskFile G.spells }
     ensures ready { EditIsReady D.Disk F.DiskFile G.spells }
+    ensures call { CallLeavesOutcomes D.Disk F.DiskFile G.spells }
 {}
 
 /// A folder's bytes fix what is live, and so all of the states that it stands for but the versions up to each `through`, of which tables
