@@ -3,4 +3,3 @@
 mod events;
 mod refusals;
 mod rows;
-mod script;
