@@ -1,0 +1,5 @@
+//! One module for each thing under test.
+
+mod events;
+mod refusals;
+mod rows;
