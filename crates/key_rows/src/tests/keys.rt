@@ -215,33 +215,19 @@ fn bytes_outside_the_grammar_are_no_stored_key(rt: HostRuntime) -> Result<(), Fa
     let last = b"\xff\xff\xff\xff\xff\xff\xff\xff".as_slice();
     let put = b"\x01\x01\0\0\0\0\0\0".as_slice();
     let long = vec![in alloc; b'k'; 1025]?;
-    let no_sequence = b"\x01\0\0\0\0\0\0\0";
-    let no_kind = b"\x02\x01\0\0\0\0\0\0";
-    assert_eq!(rt; decode_key(b"").err(), Some(KeyBad));
-    assert_eq!(rt;
-        decode_key(&parts(alloc, b"", b"", put)?).err(),
-        Some(KeyBad)
-    );
-    assert_eq!(rt;
-        decode_key(&parts(alloc, b"", b"\0", put)?).err(),
-        Some(KeyBad)
-    );
-    assert_eq!(rt;
-        decode_key(&parts(alloc, b"k", zero, no_sequence)?).err(),
-        Some(KeyBad)
-    );
-    assert_eq!(rt;
-        decode_key(&parts(alloc, b"k", zero, no_kind)?).err(),
-        Some(KeyBad)
-    );
-    assert_eq!(rt;
-        decode_key(&parts(alloc, b"k", last, put)?).err(),
-        Some(KeyBad)
-    );
-    assert_eq!(rt;
-        decode_key(&parts(alloc, &long, zero, put)?).err(),
-        Some(KeyBad)
-    );
+    for (key, ts, trailer) in [
+        (b"".as_slice(), b"".as_slice(), b"".as_slice()),
+        (b"", b"", put),
+        (b"", b"\0", put),
+        // No sequence, and no kind.
+        (b"k", zero, b"\x01\0\0\0\0\0\0\0"),
+        (b"k", zero, b"\x02\x01\0\0\0\0\0\0"),
+        (b"k", last, put),
+        (&long, zero, put),
+    ] {
+        let bytes = parts(alloc, key, ts, trailer)?;
+        assert_eq!(rt; decode_key(&bytes).err(), Some(KeyBad), "{bytes:?}");
+    }
     Ok(())
 }
 
@@ -262,27 +248,44 @@ fn the_greatest_numbers_of_a_stored_key(rt: HostRuntime) -> Result<(), Fail> {
     Ok(())
 }
 
-#[test]
-fn numbers_are_written_and_read_back(rt: HostRuntime) -> Result<(), Fail> {
-    let mut out = Vec::new(rt.alloc());
+/// The bytes of a number of each size.
+fn numbers_written(alloc: Global) -> Result<Vec<u8>, Fail> {
+    let mut out = Vec::new(alloc);
     put_u8(&mut out, 0x01)?;
     put_u16(&mut out, 0x0203)?;
     put_u32(&mut out, 0x0405_0607)?;
     put_u64(&mut out, 0x0809_0a0b_0c0d_0e0f)?;
+    Ok(out)
+}
+
+fn numbers_read(reader: &mut Reader<'_>) -> Result<(u8, u16, u32, u64), Truncated> {
+    let first = reader.take_u8()?;
+    let second = reader.take_u16()?;
+    let third = reader.take_u32()?;
+    Ok((first, second, third, reader.take_u64()?))
+}
+
+#[test]
+fn numbers_are_written_and_read_back(rt: HostRuntime) -> Result<(), Fail> {
+    let out = numbers_written(rt.alloc())?;
     assert_eq!(rt;
         out.as_slice(),
         b"\x01\x03\x02\x07\x06\x05\x04\x0f\x0e\x0d\x0c\x0b\x0a\x09\x08".as_slice()
     );
     let mut reader = Reader { left: &out };
-    assert_eq!(rt; reader.take_u8(), Ok(0x01));
-    assert_eq!(rt; reader.take_u16(), Ok(0x0203));
-    assert_eq!(rt; reader.take_u32(), Ok(0x0405_0607));
-    assert_eq!(rt; reader.take_u64(), Ok(0x0809_0a0b_0c0d_0e0f));
+    assert_eq!(rt;
+        numbers_read(&mut reader),
+        Ok((0x01, 0x0203, 0x0405_0607, 0x0809_0a0b_0c0d_0e0f))
+    );
     assert_eq!(rt; reader.take_u8(), Err(Truncated));
+    Ok(())
+}
+
+#[test]
+fn a_number_that_is_cut_short_is_not_taken(rt: HostRuntime) {
     let mut short = Reader {
         left: b"\x01\x02\x03",
     };
     assert_eq!(rt; short.take_u32(), Err(Truncated));
     assert_eq!(rt; short.take_u16(), Ok(0x0201));
-    Ok(())
 }

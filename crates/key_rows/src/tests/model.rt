@@ -25,9 +25,21 @@ fn two_puts(alloc: Global) -> Result<Vec<Version>, Fail> {
     Ok(versions)
 }
 
-fn is_found(read: &ModelRead, wanted: &[u8], at: Stamp) -> bool {
-    match read {
-        ModelRead::Told(Answer::Found { value, stamp }) => value.bytes() == wanted && *stamp == at,
+/// What a read is to tell.
+#[derive(Clone, Copy, Debug)]
+enum Wanted {
+    Found(&'static str, Stamp),
+    Absent,
+    Collapsed(Ts),
+}
+
+fn is_told(read: &ModelRead, wanted: Wanted) -> bool {
+    match (read, wanted) {
+        (ModelRead::Told(Answer::Found { value, stamp }), Wanted::Found(bytes, at)) => {
+            value.bytes() == bytes.as_bytes() && *stamp == at
+        }
+        (ModelRead::Told(Answer::Absent), Wanted::Absent) => true,
+        (ModelRead::Collapsed { floor }, Wanted::Collapsed(at)) => *floor == at,
         _ => false,
     }
 }
@@ -35,30 +47,18 @@ fn is_found(read: &ModelRead, wanted: &[u8], at: Stamp) -> bool {
 #[test]
 fn reads_around_the_floor(rt: HostRuntime) -> Result<(), Fail> {
     let puts = two_puts(rt.alloc())?;
-    let below = plain_read(rt.alloc(), &puts, Ts(8), Family(0), b"a", Ts(8), Seq(2))?;
-    assert!(rt; is_found(&below, b"u", Stamp::Below));
-    let at = plain_read(rt.alloc(), &puts, Ts(8), Family(0), b"a", Ts(9), Seq(2))?;
-    assert!(rt; is_found(&at, b"w", Stamp::At(Ts(9))));
-    let earlier = plain_read(rt.alloc(), &puts, Ts(8), Family(0), b"a", Ts(9), Seq(1))?;
-    assert!(rt; is_found(&earlier, b"u", Stamp::Below));
-    assert!(rt;
-        matches!(
-            plain_read(rt.alloc(), &puts, Ts(8), Family(0), b"a", Ts(7), Seq(2))?,
-            ModelRead::Collapsed { floor: Ts(8) }
-        )
-    );
-    assert!(rt;
-        matches!(
-            plain_read(rt.alloc(), &puts, Ts(0), Family(0), b"a", Ts(4), Seq(2))?,
-            ModelRead::Told(Answer::Absent)
-        )
-    );
-    assert!(rt;
-        matches!(
-            plain_read(rt.alloc(), &puts, Ts(0), Family(1), b"a", Ts(9), Seq(2))?,
-            ModelRead::Told(Answer::Absent)
-        )
-    );
+    for (floor, family, t, seq, wanted) in [
+        (8, 0, 8, 2, Wanted::Found("u", Stamp::Below)),
+        (8, 0, 9, 2, Wanted::Found("w", Stamp::At(Ts(9)))),
+        (8, 0, 9, 1, Wanted::Found("u", Stamp::Below)),
+        (8, 0, 7, 2, Wanted::Collapsed(Ts(8))),
+        (0, 0, 4, 2, Wanted::Absent),
+        (0, 1, 9, 2, Wanted::Absent),
+    ] {
+        let (floor, t) = (Ts(floor), Ts(t));
+        let read = plain_read(rt.alloc(), &puts, floor, Family(family), b"a", t, Seq(seq))?;
+        assert!(rt; is_told(&read, wanted), "at {t:?} by {seq}: {wanted:?}");
+    }
     Ok(())
 }
 
@@ -66,14 +66,21 @@ fn reads_around_the_floor(rt: HostRuntime) -> Result<(), Fail> {
 fn deletes_read_as_absent(rt: HostRuntime) -> Result<(), Fail> {
     let mut versions = two_puts(rt.alloc())?;
     versions.push(version(rt.alloc(), 9, 3, Op::Del)?)?;
-    assert!(rt;
-        matches!(
-            plain_read(rt.alloc(), &versions, Ts(0), Family(0), b"a", Ts(9), Seq(3))?,
-            ModelRead::Told(Answer::Absent)
-        )
-    );
-    let earlier = plain_read(rt.alloc(), &versions, Ts(0), Family(0), b"a", Ts(9), Seq(2))?;
-    assert!(rt; is_found(&earlier, b"w", Stamp::At(Ts(9))));
+    for (seq, wanted) in [
+        (3, Wanted::Absent),
+        (2, Wanted::Found("w", Stamp::At(Ts(9)))),
+    ] {
+        let read = plain_read(
+            rt.alloc(),
+            &versions,
+            Ts(0),
+            Family(0),
+            b"a",
+            Ts(9),
+            Seq(seq),
+        )?;
+        assert!(rt; is_told(&read, wanted), "by {seq}");
+    }
     Ok(())
 }
 

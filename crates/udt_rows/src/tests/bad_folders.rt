@@ -1,6 +1,6 @@
 //! Folders that are no store, or whose manifest or log is bad.
 
-use super::stage::{LOG, NAMES, copy_of, folder_of, host_of, run, write_file};
+use super::stage::{Ended, LOG, NAMES, copy_of, folder_of, host_of, run, write_file};
 use client_runner::Status;
 use std::alloc::Global;
 use std::test::Fail;
@@ -47,6 +47,18 @@ fn are_alike(one: &MemDisk, other: &MemDisk) -> bool {
         .all(|name| one.contents(*name) == other.contents(*name))
 }
 
+/// What one read over a folder comes to, which leaves each file as it was.
+fn read_only(alloc: Global, disk: MemDisk) -> Result<Ended, Fail> {
+    let before = copy_of(alloc, &disk, None)?;
+    let mut host = host_of(alloc, disk)?;
+    let ran = run(alloc, &mut host, "get d a 5\n")?;
+    let after = folder_of(alloc, &mut host)?;
+    if are_alike(&before, &after) {
+        return Ok(ran);
+    }
+    Err(Fail::new("a file is another one"))
+}
+
 #[test]
 fn a_log_ends_at_its_first_closed_gate(rt: HostRuntime) -> Result<(), Fail> {
     let alloc = rt.alloc();
@@ -66,13 +78,8 @@ fn a_log_ends_at_its_first_closed_gate(rt: HostRuntime) -> Result<(), Fail> {
         (Some(b""), Status::Folder, "bad log 1 0\n"),
         (None, Status::Folder, "bad log 1 0\n"),
     ] {
-        let disk = folder(alloc, Some(MANIFEST), None, log)?;
-        let before = copy_of(alloc, &disk, None)?;
-        let mut host = host_of(alloc, disk)?;
-        let ran = run(alloc, &mut host, "get d a 5\n")?;
+        let ran = read_only(alloc, folder(alloc, Some(MANIFEST), None, log)?)?;
         assert!(rt; ran.is(status, text), "{log:?}: {ran:?}");
-        let after = folder_of(alloc, &mut host)?;
-        assert!(rt; are_alike(&before, &after), "{log:?}");
     }
     Ok(())
 }
@@ -82,8 +89,7 @@ fn a_bad_log_is_left_by_writes(rt: HostRuntime) -> Result<(), Fail> {
     let alloc = rt.alloc();
     let torn = b"\xA5\x29\0\0\00123456789".as_slice();
     let mut host = host_of(alloc, folder(alloc, Some(MANIFEST), None, Some(torn))?)?;
-    let ran = run(alloc, &mut host, "put d a 1 x sync\n")?;
-    assert!(rt; ran.is(Status::Folder, "bad log 1 0\n"), "{ran:?}");
+    run(alloc, &mut host, "put d a 1 x sync\n")?.wants(Status::Folder, "bad log 1 0\n")?;
     let after = folder_of(alloc, &mut host)?;
     assert!(rt; after.contents(LOG) == Some(torn));
     assert!(rt; after.contents(FileName::Manifest0) == Some(MANIFEST));
@@ -120,13 +126,8 @@ fn bad_manifests(rt: HostRuntime) -> Result<(), Fail> {
         (Some(b"\x5A"), None, Status::Folder, "bad manifest 0\n"),
         (None, None, Status::Folder, "bad manifest 0\n"),
     ] {
-        let disk = folder(alloc, manifest, current, log)?;
-        let before = copy_of(alloc, &disk, None)?;
-        let mut host = host_of(alloc, disk)?;
-        let ran = run(alloc, &mut host, "get d a 5\n")?;
+        let ran = read_only(alloc, folder(alloc, manifest, current, log)?)?;
         assert!(rt; ran.is(status, text), "{manifest:?} {current:?}: {ran:?}");
-        let after = folder_of(alloc, &mut host)?;
-        assert!(rt; are_alike(&before, &after), "{manifest:?} {current:?}");
     }
     Ok(())
 }
@@ -135,19 +136,20 @@ fn bad_manifests(rt: HostRuntime) -> Result<(), Fail> {
 fn folders_that_are_no_store(rt: HostRuntime) -> Result<(), Fail> {
     let alloc = rt.alloc();
     let mut missing = MemHost::new(alloc);
-    let ran = run(alloc, &mut missing, "put d a 1 x\n")?;
-    assert!(rt; ran.is(Status::Folder, "no store\n"), "{ran:?}");
+    run(alloc, &mut missing, "put d a 1 x\n")?.wants(Status::Folder, "no store\n")?;
     let mut empty = host_of(alloc, MemDisk::new(alloc, Vec::new(alloc))?)?;
-    let ran = run(alloc, &mut empty, "put d a 1 x\n")?;
-    assert!(rt; ran.is(Status::Folder, "no store\n"), "{ran:?}");
+    run(alloc, &mut empty, "put d a 1 x\n")?.wants(Status::Folder, "no store\n")?;
     let after = folder_of(alloc, &mut empty)?;
     assert!(rt; NAMES.iter().all(|name| after.contents(*name).is_none()));
-    // Without `MADE` the other files don't count.
+    Ok(())
+}
+
+#[test]
+fn without_made_the_other_files_do_not_count(rt: HostRuntime) -> Result<(), Fail> {
+    let alloc = rt.alloc();
     let mut unmade = MemDisk::new(alloc, Vec::new(alloc))?;
     write_file(&mut unmade, FileName::Manifest0, MANIFEST)?;
     write_file(&mut unmade, LOG, ONE_PUT)?;
     let mut host = host_of(alloc, unmade)?;
-    let ran = run(alloc, &mut host, "get d a 5\n")?;
-    assert!(rt; ran.is(Status::Folder, "no store\n"), "{ran:?}");
-    Ok(())
+    run(alloc, &mut host, "get d a 5\n")?.wants(Status::Folder, "no store\n")
 }

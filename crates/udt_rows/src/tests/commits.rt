@@ -1,7 +1,8 @@
 //! One commit of three writes, each of whose calls fails in turn: all of it or nothing is there again.
 
-use super::stage::{LOG, OUTCOMES, crashed, run, store_of};
+use super::stage::{Ended, LOG, OUTCOMES, crashed, run, store_of};
 use client_runner::Status;
+use std::alloc::Global;
 use std::test::Fail;
 use udt_disk::{Outcome, Trouble};
 
@@ -48,9 +49,22 @@ fn left(call: u64, outcome: Outcome) -> &'static str {
     }
 }
 
+/// What the reads find after writes in which this call failed, which print this, and a crash.
+fn found_after(
+    alloc: Global,
+    writes: &str,
+    trouble: Trouble,
+    told: &str,
+    outcome: Outcome,
+) -> Result<Ended, Fail> {
+    let mut host = store_of(alloc, &INIT, Some(trouble))?;
+    run(alloc, &mut host, writes)?.wants_at(trouble, Status::DiskFault, told)?;
+    let mut host = crashed(alloc, host, outcome)?;
+    run(alloc, &mut host, READS)
+}
+
 #[test]
 fn a_commit_that_fails_is_there_whole_or_not_at_all(rt: HostRuntime) -> Result<(), Fail> {
-    let alloc = rt.alloc();
     for call in 3..7 {
         for outcome in OUTCOMES {
             let trouble = Trouble {
@@ -58,14 +72,9 @@ fn a_commit_that_fails_is_there_whole_or_not_at_all(rt: HostRuntime) -> Result<(
                 call,
                 lasting: true,
             };
-            let mut host = store_of(alloc, &INIT, Some(trouble))?;
-            let failed = run(alloc, &mut host, WRITES)?;
-            assert!(rt; failed.is(Status::DiskFault, FAILED), "{call}: {failed:?}");
-            let mut host = crashed(alloc, host, outcome)?;
-            let found = run(alloc, &mut host, READS)?;
-            let wanted = left(call, outcome);
+            let found = found_after(rt.alloc(), WRITES, trouble, FAILED, outcome)?;
             assert!(rt;
-                found.is(Status::Done, wanted),
+                found.is(Status::Done, left(call, outcome)),
                 "{call} {outcome:?}: {found:?}"
             );
         }
@@ -75,20 +84,23 @@ fn a_commit_that_fails_is_there_whole_or_not_at_all(rt: HostRuntime) -> Result<(
 
 #[test]
 fn a_write_that_failed_is_not_read(rt: HostRuntime) -> Result<(), Fail> {
-    let alloc = rt.alloc();
+    let trouble = Trouble {
+        name: LOG,
+        call: 6,
+        lasting: false,
+    };
     for outcome in OUTCOMES {
-        let trouble = Trouble {
-            name: LOG,
-            call: 6,
-            lasting: false,
-        };
-        let mut host = store_of(alloc, &INIT, Some(trouble))?;
-        let failed = run(alloc, &mut host, WRITES_AND_READ)?;
-        assert!(rt; failed.is(Status::DiskFault, FAILED_AND_READ), "{failed:?}");
-        let mut host = crashed(alloc, host, outcome)?;
-        let found = run(alloc, &mut host, READS)?;
-        let wanted = left(6, outcome);
-        assert!(rt; found.is(Status::Done, wanted), "{outcome:?}: {found:?}");
+        let found = found_after(
+            rt.alloc(),
+            WRITES_AND_READ,
+            trouble,
+            FAILED_AND_READ,
+            outcome,
+        )?;
+        assert!(rt;
+            found.is(Status::Done, left(6, outcome)),
+            "{outcome:?}: {found:?}"
+        );
     }
     Ok(())
 }

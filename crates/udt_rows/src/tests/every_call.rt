@@ -1,10 +1,10 @@
 //! A run of ten commands, each of whose calls on the folder fails in turn, with each outcome of a crash after it.
 
-use super::stage::{Ended, LOG, OUTCOMES, crashed, run, store_of};
+use super::stage::{Ended, LOG, OUTCOMES, crashed, no_troubles, run, store_of, troubles};
 use client_runner::Status;
 use std::alloc::Global;
 use std::test::Fail;
-use udt_disk::{FileName, MemHost, Trouble};
+use udt_disk::{FileName, MemHost, Outcome, Trouble};
 
 const INIT: [&str; 4] = ["init", "X", "d:persist", "e:persist"];
 
@@ -204,54 +204,48 @@ fn run_with(alloc: Global, trouble: Trouble) -> Result<(Ended, MemHost), Fail> {
     Ok((ended, host))
 }
 
+/// The run, in which this call fails, and what is found after a crash.
+fn fail_and_crash(alloc: Global, trouble: Trouble, outcome: Outcome) -> Result<(), Fail> {
+    let (ran, host) = run_with(alloc, trouble)?;
+    let mut host = crashed(alloc, host, outcome)?;
+    let found = run(alloc, &mut host, READS)?;
+    if !tells_fault(&ran) || !are_found(&ran, &found) {
+        return Err(Fail::new(format_args!("{trouble:?} {outcome:?}: {found:?}")));
+    }
+    let wanted = told(trouble.name, trouble.call);
+    ran.wants_at(trouble, Status::DiskFault, wanted)
+}
+
 #[test]
 fn accepted_syncs_are_found_after_each_failing_call(rt: HostRuntime) -> Result<(), Fail> {
     let alloc = rt.alloc();
-    for (name, calls) in CALLS {
-        for call in 1..calls.saturating_add(1) {
+    for lasting in [false, true] {
+        for trouble in troubles(alloc, &CALLS, lasting)? {
             for outcome in OUTCOMES {
-                for lasting in [false, true] {
-                    let trouble = Trouble {
-                        name,
-                        call,
-                        lasting,
-                    };
-                    let (ran, host) = run_with(alloc, trouble)?;
-                    let wanted = told(name, call);
-                    assert!(rt; ran.is(Status::DiskFault, wanted), "{trouble:?}: {ran:?}");
-                    assert!(rt; tells_fault(&ran), "{trouble:?}: {ran:?}");
-                    let mut host = crashed(alloc, host, outcome)?;
-                    let found = run(alloc, &mut host, READS)?;
-                    assert!(rt;
-                        are_found(&ran, &found),
-                        "{trouble:?} {outcome:?}: {found:?}"
-                    );
-                }
+                fail_and_crash(alloc, trouble, outcome)?;
             }
         }
     }
     Ok(())
 }
 
+/// The run, in which no call fails, and what is found after a crash.
+fn run_and_crash(alloc: Global, trouble: Trouble, outcome: Outcome) -> Result<(), Fail> {
+    let (ran, host) = run_with(alloc, trouble)?;
+    let mut host = crashed(alloc, host, outcome)?;
+    let found = run(alloc, &mut host, READS)?;
+    if tells_fault(&ran) || !found.is(Status::Done, FOUND[4]) {
+        return Err(Fail::new(format_args!("{trouble:?} {outcome:?}: {found:?}")));
+    }
+    ran.wants_at(trouble, Status::Done, TOLD[4])
+}
+
 #[test]
 fn all_is_found_where_no_call_fails(rt: HostRuntime) -> Result<(), Fail> {
     let alloc = rt.alloc();
-    for (name, calls) in CALLS {
+    for trouble in no_troubles(alloc, &CALLS)? {
         for outcome in OUTCOMES {
-            let trouble = Trouble {
-                name,
-                call: calls.saturating_add(1),
-                lasting: true,
-            };
-            let (ran, host) = run_with(alloc, trouble)?;
-            assert!(rt; ran.is(Status::Done, TOLD[4]), "{name:?}: {ran:?}");
-            assert!(rt; !tells_fault(&ran));
-            let mut host = crashed(alloc, host, outcome)?;
-            let found = run(alloc, &mut host, READS)?;
-            assert!(rt;
-                found.is(Status::Done, FOUND[4]),
-                "{name:?} {outcome:?}: {found:?}"
-            );
+            run_and_crash(alloc, trouble, outcome)?;
         }
     }
     Ok(())

@@ -29,16 +29,11 @@ fn two_thousand_commands_end_with_0(rt: HostRuntime) -> Result<(), Fail> {
     let mut host = store_of(alloc, &INIT, None)?;
     let file = puts_and_gets(alloc)?;
     let ran = run(alloc, &mut host, file.as_str())?;
-    assert!(rt; ran.status == Status::Done);
     assert!(rt;
         ran.tells("1000 c1 put d k999 5 v999 = ok 1000\n1001 c1 get d k0 9 = found v0 5\n")
     );
-    assert!(rt; ran.tells("2000 c1 get d k999 9 = found v999 5\n2001 r sync = ok\n"));
+    ran.wants_part("2000 c1 get d k999 9 = found v999 5\n2001 r sync = ok\n")?;
     let again = run(alloc, &mut host, "get d k7 9\n")?;
-    assert!(rt;
-        again.status == Status::Done
-            && again.tells("opened 1000\n")
-            && again.tells("= found v7 5\n")
-    );
-    Ok(())
+    assert!(rt; again.tells("opened 1000\n"));
+    again.wants_part("= found v7 5\n")
 }

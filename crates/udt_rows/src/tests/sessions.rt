@@ -44,8 +44,7 @@ fn a_run_goes_on_where_the_last_one_ended(rt: HostRuntime) -> Result<(), Fail> {
             "udt 1\nopened 4\nfamily d persist 0\nfamily e persist 0\nbegin\n1 r sync = ok\n",
         ),
     ] {
-        let ran = run(alloc, &mut host, file)?;
-        assert!(rt; ran.is(Status::Done, wanted), "{ran:?}");
+        run(alloc, &mut host, file)?.wants(Status::Done, wanted)?;
     }
     Ok(())
 }
@@ -108,8 +107,7 @@ fn a_shop_keeps_its_orders_and_stock(rt: HostRuntime) -> Result<(), Fail> {
     let alloc = rt.alloc();
     let mut host = MemHost::new(alloc);
     let words = ["init", "X", "orders:persist", "stock:persist"];
-    let made = command(alloc, &mut host, &words)?;
-    assert!(rt; made.is(Status::Done, "made 2\n"), "{made:?}");
+    command(alloc, &mut host, &words)?.wants(Status::Done, "made 2\n")?;
     for (file, wanted) in [
         (
             MONDAY,
@@ -135,8 +133,7 @@ fn a_shop_keeps_its_orders_and_stock(rt: HostRuntime) -> Result<(), Fail> {
             9 r sync = ok\n",
         ),
     ] {
-        let ran = run(alloc, &mut host, file)?;
-        assert!(rt; ran.is(Status::Done, wanted), "{ran:?}");
+        run(alloc, &mut host, file)?.wants(Status::Done, wanted)?;
     }
     Ok(())
 }

@@ -41,6 +41,30 @@ impl Ended {
     pub fn tells(&self, part: &str) -> bool {
         self.text.as_str().contains(part)
     }
+
+    /// Where it is another status or another text, the test fails.
+    pub fn wants(self, status: Status, text: &str) -> Result<(), Fail> {
+        if self.is(status, text) {
+            return Ok(());
+        }
+        Err(Fail::new(format_args!("{self:?}")))
+    }
+
+    /// Where it is another status or another text, the test fails, at this trouble.
+    pub fn wants_at(self, trouble: Trouble, status: Status, text: &str) -> Result<(), Fail> {
+        if self.is(status, text) {
+            return Ok(());
+        }
+        Err(Fail::new(format_args!("{trouble:?}: {self:?}")))
+    }
+
+    /// Where it isn't done, or this isn't in the text, the test fails.
+    pub fn wants_part(self, part: &str) -> Result<(), Fail> {
+        if self.status == Status::Done && self.tells(part) {
+            return Ok(());
+        }
+        Err(Fail::new(format_args!("{self:?}")))
+    }
 }
 
 fn texts(alloc: Global, words: &[&str]) -> Result<Vec<Text>, Fail> {
@@ -127,4 +151,36 @@ pub fn store_of(alloc: Global, words: &[&str], trouble: Option<Trouble>) -> Resu
 pub fn crashed(alloc: Global, mut host: MemHost, outcome: Outcome) -> Result<MemHost, Fail> {
     let folder = folder_of(alloc, &mut host)?;
     host_of(alloc, folder.after_crash(alloc, outcome)?)
+}
+
+/// A trouble at each of so many calls on each file.
+pub fn troubles(
+    alloc: Global,
+    calls: &[(FileName, u64)],
+    lasting: bool,
+) -> Result<Vec<Trouble>, Fail> {
+    let mut troubles = Vec::new(alloc);
+    for (name, calls) in calls {
+        for call in 1..calls.saturating_add(1) {
+            troubles.push(Trouble {
+                name: *name,
+                call,
+                lasting,
+            })?;
+        }
+    }
+    Ok(troubles)
+}
+
+/// A lasting trouble behind so many calls on each file, which comes to no call.
+pub fn no_troubles(alloc: Global, calls: &[(FileName, u64)]) -> Result<Vec<Trouble>, Fail> {
+    let mut troubles = Vec::new(alloc);
+    for (name, calls) in calls {
+        troubles.push(Trouble {
+            name: *name,
+            call: calls.saturating_add(1),
+            lasting: true,
+        })?;
+    }
+    Ok(troubles)
 }

@@ -2,6 +2,7 @@
 
 use super::stage::{command, folder_of, run, store_of};
 use client_runner::Status;
+use std::alloc::Global;
 use std::test::Fail;
 use udt_disk::{FileName, MemHost, Text};
 
@@ -55,19 +56,19 @@ fn words_that_are_no_command(rt: HostRuntime) -> Result<(), Fail> {
     Ok(())
 }
 
+/// Runs without a command file, and with one whose second line is bad.
+fn refuse_files(alloc: Global, host: &mut MemHost, file: &str) -> Result<(), Fail> {
+    command(alloc, host, &["run", "X", "F"])?.wants(Status::Usage, "no file F\n")?;
+    run(alloc, host, file)?.wants(Status::Usage, "bad line F 2\n")
+}
+
 #[test]
 fn files_are_read_before_the_folder(rt: HostRuntime) -> Result<(), Fail> {
     let alloc = rt.alloc();
     let mut missing = MemHost::new(alloc);
-    let ran = command(alloc, &mut missing, &["run", "X", "F"])?;
-    assert!(rt; ran.is(Status::Usage, "no file F\n"), "{ran:?}");
-    let ran = run(alloc, &mut missing, "get d a 5\nget d a\n")?;
-    assert!(rt; ran.is(Status::Usage, "bad line F 2\n"), "{ran:?}");
+    refuse_files(alloc, &mut missing, "get d a 5\nget d a\n")?;
     let mut host = store_of(alloc, &["init", "X", "d:persist"], None)?;
-    let ran = command(alloc, &mut host, &["run", "X", "F"])?;
-    assert!(rt; ran.is(Status::Usage, "no file F\n"), "{ran:?}");
-    let ran = run(alloc, &mut host, "put d a 1 x sync\nput d a 1\n")?;
-    assert!(rt; ran.is(Status::Usage, "bad line F 2\n"), "{ran:?}");
+    refuse_files(alloc, &mut host, "put d a 1 x sync\nput d a 1\n")?;
     let after = folder_of(alloc, &mut host)?;
     assert!(rt; after.contents(FileName::Log(1)) == Some(b"\x5A".as_slice()));
     Ok(())
