@@ -91,16 +91,6 @@ fn row<'a, C: Cursor<'a>>(cursor: &C) -> Option<Row> {
     Some((*first as u64, hit.ts.0))
 }
 
-/// What a merge shows after a step up and one down, and after one down and one up.
-fn walk_back_and_forth(merge: &mut Merge<SliceCursor<'_>>) -> (Option<Row>, Option<Row>) {
-    merge.next();
-    merge.prev();
-    let above = row(merge);
-    merge.prev();
-    merge.next();
-    (above, row(merge))
-}
-
 #[test]
 fn merges_walk_up(rt: HostRuntime) -> Result<(), Fail> {
     let alloc = rt.alloc();
@@ -125,13 +115,6 @@ fn rows_down(alloc: Global, count: u64, len: u8) -> Result<Vec<Row>, Fail> {
     Ok(rows)
 }
 
-/// What a merge before its first version shows one step further down and then one up.
-fn row_from_below(merge: &mut Merge<SliceCursor<'_>>) -> Option<Row> {
-    merge.prev();
-    merge.next();
-    row(merge)
-}
-
 #[test]
 fn merges_walk_down(rt: HostRuntime) -> Result<(), Fail> {
     let alloc = rt.alloc();
@@ -145,8 +128,10 @@ fn merges_walk_down(rt: HostRuntime) -> Result<(), Fail> {
         }
         merge.prev();
         assert_eq!(rt; row(&merge), None);
+        merge.prev();
+        merge.next();
         let first = rows(alloc, count, 4)?.first().copied();
-        assert_eq!(rt; row_from_below(&mut merge), first);
+        assert_eq!(rt; row(&merge), first);
     }
     Ok(())
 }
@@ -158,8 +143,12 @@ fn merges_walk_back_and_forth(rt: HostRuntime) -> Result<(), Fail> {
         let runs = runs(alloc, count, 4)?;
         let mut merge = merge(alloc, &runs)?;
         for wanted in rows(alloc, count, 4)? {
-            let seen = walk_back_and_forth(&mut merge);
-            assert_eq!(rt; seen, (Some(wanted), Some(wanted)));
+            merge.next();
+            merge.prev();
+            assert_eq!(rt; row(&merge), Some(wanted));
+            merge.prev();
+            merge.next();
+            assert_eq!(rt; row(&merge), Some(wanted));
             merge.next();
         }
     }
