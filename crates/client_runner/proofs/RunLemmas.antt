@@ -34,7 +34,7 @@ use Rattle.client_lang.specs.declared.command.Command.{Command}
 use Rattle.client_lang.specs.Print.{print_header}
 use Rattle.solo_runner.specs.Expand.{IsRunHistory}
 use Rattle.client_runner.specs.Left.{MayBeLeft, status_of_lines}
-use Rattle.solo_runner.specs.LoggedStores.{state_of, wal_of}
+use Rattle.solo_runner.specs.LoggedStores.{store_state, wal_of}
 use Rattle.udt_disk.specs.Moments.{IsClean}
 use Rattle.recovery.specs.Opening.{IsOpened}
 use Rattle.client_runner.specs.Runs.{HasRunOver, HasRunParts, IsRunReady, IsRunRefused, KeepsLines, Waits, files_of, state_of_parts}
@@ -121,10 +121,10 @@ module _ {D F : Type 0} (d : disk.Ghosts D F) (f : file.Ghosts F) where
   -- the store has made these lines from the state m on
   pub record HasMade (first now : LoggedStore F f) (m : State) (lines : List Line) (end : Point) : Type 0 where
     pub legal : Leads (start m) lines end
-    pub state_is : end.state ≡ state_of now
+    pub state_is : end.state ≡ store_state now
     pub settled : Settles m lines end
-    pub first_is : state_of first ≡ m
-    pub kept : (fold : Folded) → KeepsCourse f first fold (course_start (state_of first)) → KeepsCourse f now fold (course_behind (start (state_of first)) (course_start (state_of first)) lines)
+    pub first_is : store_state first ≡ m
+    pub kept : (fold : Folded) → KeepsCourse f first fold (course_start (store_state first)) → KeepsCourse f now fold (course_behind (start (store_state first)) (course_start (store_state first)) lines)
     pub sound : AreSoundUnless (faults_of f first) (faults_of f now) lines
     pub same : IsSameFile f (wal_file (wal_of first)) (wal_file (wal_of now))
 
@@ -173,13 +173,13 @@ module _ {D F : Type 0} (d : disk.Ghosts D F) (f : file.Ghosts F) where
       ap (λ (heads : List FamilyHead). with_state heads parts.versions.items parts.last) o.heads ∙ ap (λ (versions : List Version). with_state heads versions parts.last) o.versions ∙ ap (with_state heads m.versions) o.last
 
   -- at the opening the log keeps the history that begins there
-  opened_keeps : (opened : D) (parts : Parts D F f) (first : LoggedStore F f) → IsClean d opened → (o : IsOpened d f opened parts) → state_of first ≡ state_of_parts parts → wal_of first ≡ parts.wal
-      → KeepsCourse f first o.fold (course_start (state_of first))
+  opened_keeps : (opened : D) (parts : Parts D F f) (first : LoggedStore F f) → IsClean d opened → (o : IsOpened d f opened parts) → store_state first ≡ state_of_parts parts → wal_of first ≡ parts.wal
+      → KeepsCourse f first o.fold (course_start (store_state first))
   opened_keeps opened parts first clean o state wal =
-      let is : state_of first ≡ stores.state_of o.fold o.batches = state ∙ parts_say opened parts o in
+      let is : store_state first ≡ stores.state_of o.fold o.batches = state ∙ parts_say opened parts o in
       let sizes : wal_sizes (wal_of first) ≡ sizes_of o.fold = ap wal_sizes wal ∙ o.sizes in
       let holds : Holds f (wal_of first) o.batches [] = subst (λ (w : Wal F f). Holds f w o.batches []) (sym wal) (o.rests clean) in
-      (means_last (d.stands opened) o.fold o.means, sym sizes, opens_kept f o.fold (wal_of first) o.batches (state_of first) holds sizes is)
+      (means_last (d.stands opened) o.fold o.means, sym sizes, opens_kept f o.fold (wal_of first) o.batches (store_state first) holds sizes is)
 
   -- and it does so behind the lines
   made_keeps : (opened : D) (parts : Parts D F f) (first now : LoggedStore F f) (lines : List Line) (end : Point) → IsClean d opened → (o : IsOpened d f opened parts) → wal_of first ≡ parts.wal
@@ -228,9 +228,9 @@ module _ {D F : Type 0} (d : disk.Ghosts D F) (f : file.Ghosts F) where
       let named = made_name opened parts first now o wal made.same in
       let kept = made_keeps opened parts first now lines end clean o wal made in
       let both = made.settled done in
-      let works : (state_of now).halted ≡ None = ap (λ (s : State). s.halted) (sym made.state_is) ∙ both.0 in
-      let all : c.synced ≡ (state_of now).last.0 = both.1 ∙ ap (λ (s : State). s.last.0) made.state_is in
-      let is = all_synced f o.fold (wal_of now) (state_of now) c kept.0 kept.2 works all in
+      let works : (store_state now).halted ≡ None = ap (λ (s : State). s.halted) (sym made.state_is) ∙ both.0 in
+      let all : c.synced ≡ (store_state now).last.0 = both.1 ∙ ap (λ (s : State). s.last.0) made.state_is in
+      let is = all_synced f o.fold (wal_of now) (store_state now) c kept.0 kept.2 works all in
       let told_log : f.is_told log ≡ d.is_told opened = made.same.told ∙ ap (λ (w : Wal F f). f.is_told (wal_file w)) wal ∙ told_wal in
       let stands : d.stands new (Log o.number) ≡ Some (f.seen log) =
       ap (d.stands new) (sym named) ∙ closed.log_stands (subst IsTrue (sym told_disk) told) (subst IsTrue (sym told_log) told) (made_apart opened parts log o named) in
@@ -248,9 +248,9 @@ module _ {D F : Type 0} (d : disk.Ghosts D F) (f : file.Ghosts F) where
       let named = made_name opened parts first now o wal made.same in
       let kept = made_keeps opened parts first now lines end clean o wal made in
       let both = made.settled done in
-      let works : (state_of now).halted ≡ None = ap (λ (s : State). s.halted) (sym made.state_is) ∙ both.0 in
-      let all : c.synced ≡ (state_of now).last.0 = both.1 ∙ ap (λ (s : State). s.last.0) made.state_is in
-      let is = all_synced f o.fold (wal_of now) (state_of now) c kept.0 kept.2 works all in
+      let works : (store_state now).halted ≡ None = ap (λ (s : State). s.halted) (sym made.state_is) ∙ both.0 in
+      let all : c.synced ≡ (store_state now).last.0 = both.1 ∙ ap (λ (s : State). s.last.0) made.state_is in
+      let is = all_synced f o.fold (wal_of now) (store_state now) c kept.0 kept.2 works all in
       let image : Image = folder (Log o.number) in
       let leaves : f.may_leave log image =
       closed.log_leaves (made_apart opened parts log o named) image (subst (λ (k : FileName). d.may_leave new k image) (sym named) (left (Log o.number))) in
@@ -261,7 +261,7 @@ module _ {D F : Type 0} (d : disk.Ghosts D F) (f : file.Ghosts F) where
   -- ---- runs
 
   -- no line was made
-  made_nothing : (first : LoggedStore F f) (m : State) → state_of first ≡ m → m.halted ≡ None → HasMade first first m [] (start m)
+  made_nothing : (first : LoggedStore F f) (m : State) → store_state first ≡ m → m.halted ≡ None → HasMade first first m [] (start m)
   made_nothing first m is works = record {
     legal = refl;
     state_is = sym is;
@@ -273,7 +273,7 @@ module _ {D F : Type 0} (d : disk.Ghosts D F) (f : file.Ghosts F) where
   }
 
   -- the lines of a session
-  made_session : (first now : LoggedStore F f) (m : State) (commands : List Command) (lines : List Line) → (s : HasSession f first now commands lines) → state_of first ≡ m → IsRunHistory m commands lines s.run.end
+  made_session : (first now : LoggedStore F f) (m : State) (commands : List Command) (lines : List Line) → (s : HasSession f first now commands lines) → store_state first ≡ m → IsRunHistory m commands lines s.run.end
       → HasMade first now m lines s.run.end
   made_session first now m commands lines s is h = record {
     legal = h.legal;
@@ -314,7 +314,7 @@ module _ {D F : Type 0} (d : disk.Ghosts D F) (f : file.Ghosts F) where
 
   -- where there was memory for the header, the lines of a session were made
   pub parts_over : {E : Type 0} (parts : Parts D F f) (new : D) (first now : LoggedStore F f) (log manifest : F) (commands : List Command) (header : List ℕ) (result : Result Ready E) → wal_of first ≡ parts.wal
-      → state_of first ≡ state_of_parts parts → f.faults (wal_file parts.wal) ≡ 0 → log ≡ wal_file (wal_of now) → manifest ≡ manifest_file parts.manifest → IsClosed parts.disk new log manifest
+      → store_state first ≡ state_of_parts parts → f.faults (wal_file parts.wal) ≡ 0 → log ≡ wal_file (wal_of now) → manifest ≡ manifest_file parts.manifest → IsClosed parts.disk new log manifest
       → header ≡ print_header parts.last.0 parts.heads.items → HasRunOver f first now commands header result → HasRunParts d f parts new commands result
   parts_over parts new first now log manifest commands header result wal is fresh log_is manifest_is closed header_is over =
       let s = over.session in
@@ -325,7 +325,7 @@ module _ {D F : Type 0} (d : disk.Ghosts D F) (f : file.Ghosts F) where
 
   -- where there was none, no line was made
   pub parts_unmade : {E : Type 0} (parts : Parts D F f) (new : D) (first : LoggedStore F f) (log manifest : F) (commands : List Command) (e : E) → wal_of first ≡ parts.wal
-      → state_of first ≡ state_of_parts parts → f.faults (wal_file parts.wal) ≡ 0 → log ≡ wal_file (wal_of first) → manifest ≡ manifest_file parts.manifest → IsClosed parts.disk new log manifest
+      → store_state first ≡ state_of_parts parts → f.faults (wal_file parts.wal) ≡ 0 → log ≡ wal_file (wal_of first) → manifest ≡ manifest_file parts.manifest → IsClosed parts.disk new log manifest
       → HasRunParts d f parts new commands (Err e)
   parts_unmade parts new first log manifest commands e wal is fresh log_is manifest_is closed =
       let m : State = state_of_parts parts in

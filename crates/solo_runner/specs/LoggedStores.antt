@@ -32,8 +32,8 @@ module _ {F : Type 0} {g : Ghosts F} where
   wal_of s = s.wal
 
   -- the state, which says whether the disk failed
-  abbrev pub state_of : LoggedStore F g → State
-  state_of s = record s.plain { halted = s.halted }
+  abbrev pub store_state : LoggedStore F g → State
+  store_state s = record s.plain { halted = s.halted }
 
 module _ {F : Type 0} (g : Ghosts F) where
   -- Until the disk failed the next write may be logged. The log has the sizes of the store's families.
