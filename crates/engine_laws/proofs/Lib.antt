@@ -18,3 +18,4 @@ pub mod Acting
 pub mod Refused
 pub mod Rows
 pub mod Fixed
+pub mod ManyStates

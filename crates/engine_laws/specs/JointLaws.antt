@@ -3,7 +3,7 @@ use Rattle.std.specs.Prelude.{◌≡◌, ◌⊎◌, ℕ, Bool, List, [], ◌∷�
 use Rattle.ts_key.specs.declared.batch.WriteOp.{WriteOp}
 use Rattle.udt_disk.specs.Crash.{Image, NoMore}
 use Rattle.udt_disk.specs.Joint.{IsFree, Joint, LeavesNow, Ran}
-use Rattle.udt_disk.specs.Moments.{AsAtBut, MayLeave, OnlyReads, OnlyTouches, holding}
+use Rattle.udt_disk.specs.Moments.{AsAtBut, MayLeave, OnlyReads, holding}
 use Rattle.udt_disk.specs.Runs.{Leaves}
 use Rattle.udt_disk.specs.Touches.{Touches}
 use Rattle.udt_disk.specs.declared.name.FileName.{FileName}
@@ -24,7 +24,7 @@ use Rattle.manifest_fold.specs.Folds.{IsAccepted, fold_with}
 use Rattle.engine_laws.specs.Logs.{sizes_of}
 use Rattle.engine_laws.specs.Manifests.{HasFold}
 use Rattle.engine_laws.specs.Standing.{Grammar, Reads, Says, StandsForSome}
-use Rattle.engine_laws.specs.Engine.{Holds, IsOutcomeOr, MayEdit, SameLive, newest_of, next_batch, with_batches, with_edit}
+use Rattle.engine_laws.specs.Engine.{AreSameKept, Holds, IsOutcomeOr, MayEdit, SameLive, newest_of, next_batch, with_batches, with_edit}
 use Rattle.engine_laws.specs.Moves.{AreDead, IsManifestName, IsReady, LogRests, Rests, TableRests, added_tables}
 use Rattle.engine_laws.specs.Joints.{OneRan}
 use Rattle.engine_laws.specs.Laws.{IsNextWrite}
@@ -127,6 +127,11 @@ module _ {D F : Type 0} (d : disk.Ghosts D F) (f : file.Ghosts F) where
 
   -- ---- whole calls
 
+  -- calls after which, and at each moment of which, a crash leaves nothing new but under these names
+  pub record TouchesAside (names : List FileName) (old new : Joint D F) : Type 0 where
+    pub run : Ran d f (AsAtBut d f (Contains names) old) old new
+    pub no_more : (n : FileName) (image : Image) → ¬ Contains names n → MayLeave d f new n image → MayLeave d f old n image
+
   -- What a call with an edit does, step by step: the newest log is synced; files of names that aren't live are made; the edit is
   -- appended to the manifest; and files of names that are live no more are removed.
   pub record EditCall (g : Grammar) (manifest : FileName) (s : Says) (waiting : List Numbered) (edit : Edit) (x y z : D) (start synced made appended done : List F) : Type 0 where
@@ -137,7 +142,7 @@ module _ {D F : Type 0} (d : disk.Ghosts D F) (f : file.Ghosts F) where
     pub all_synced : (image : Image) → f.may_leave wal_after image → ReadsAs (sizes_of s.fold) (s.logs (newest_of s) ++ waiting) image
     pub new : List FileName
     pub new_dead : AreDead manifest s.fold (Contains new)
-    pub makes : OnlyTouches d f (Contains new) (holding x synced) (holding y made)
+    pub makes : TouchesAside new (holding x synced) (holding y made)
     pub ready : IsReady g (MayLeave d f (holding y made)) (with_batches s waiting) edit
     pub old : F
     pub old_after : F
@@ -146,7 +151,7 @@ module _ {D F : Type 0} (d : disk.Ghosts D F) (f : file.Ghosts F) where
     pub all_appended : (image : Image) → f.may_leave old_after image → HasFold image (fold_with s.fold edit)
     pub gone : List FileName
     pub gone_dead : AreDead manifest (fold_with s.fold edit) (Contains gone)
-    pub removes : OnlyTouches d f (Contains gone) (holding y appended) (holding z done)
+    pub removes : TouchesAside gone (holding y appended) (holding z done)
 
   -- at each moment of it a crash leaves only folders that stand for outcomes under the act, and all rests behind it
   abbrev pub CallLeavesOutcomes : Grammar → Type 0
@@ -154,3 +159,11 @@ module _ {D F : Type 0} (d : disk.Ghosts D F) (f : file.Ghosts F) where
       → IsManifestName manifest → Holds m c s waiting → RestIn g (holding x start) manifest s → IsTold m act reply → IsTrue (is_change act reply) → IsTrue (is_running m act)
       → MayEdit m (with_batches s waiting) edit (after m number act reply) → EditCall g manifest s waiting edit x y z start synced made appended done
       → Ran d f (λ folder. StandsForSome g folder (IsOutcomeUnder m c number act)) (holding x start) (holding z done) × RestIn g (holding z done) manifest (with_edit (with_batches s waiting) edit)
+
+  -- so it is with a seal, whose edit adds the log that was made, and whose next state says the same of what is kept: the outcomes are
+  -- those of the state before
+  abbrev pub SealLeavesOutcomes : Grammar → Type 0
+  SealLeavesOutcomes g = (manifest : FileName) (m next : State) (c : Course) (s : Says) (waiting : List Numbered) (edit : Edit) (x y z : D) (start synced made appended done : List F)
+      → IsManifestName manifest → Holds m c s waiting → RestIn g (holding x start) manifest s → AreSameKept m next
+      → MayEdit m (with_batches s waiting) edit next → EditCall g manifest s waiting edit x y z start synced made appended done
+      → Ran d f (λ folder. StandsForSome g folder (IsOutcome m c)) (holding x start) (holding z done) × RestIn g (holding z done) manifest (with_edit (with_batches s waiting) edit)

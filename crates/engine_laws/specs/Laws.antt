@@ -262,3 +262,7 @@ StatesAreAlike g = (folder : Folder) (m n : State) → IsOneSaid g → FolderSta
 abbrev pub OneUnflushedState : Grammar → Type 0
 OneUnflushedState g = (folder : Folder) (m n : State)
     → IsOneSaid g → FolderStands g folder m → FolderStands g folder n → ((i : Family) (f : FamilyState) → family_at m i ≡ Some f → f.through.0 ≡ 0) → m ≡ n
+
+-- else there may be two: files of which a delete was collected stand for states with different versions
+abbrev pub MayStandForTwo : Type 0
+MayStandForTwo = (tables : ℕ → TableSays) → (s : Says) × (m : State) × (n : State) × StandsFor s m × StandsFor s n × (m.versions ≢ n.versions)

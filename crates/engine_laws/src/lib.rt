@@ -8,8 +8,8 @@ ghost use Rattle.engine_laws.specs.Laws.{StandsBetweenCalls, OnlyLiveNamesCount,
 ghost use Rattle.engine_laws.specs.Laws.{EditLeavesOutcomes, EditsAreOfActs, EditsMayChangeNothing, HoldsEdited, AppendLeavesFolds, HoldsBesides, HoldsByLiveFiles, TablesMayBeSet, LogsMayBeSet};
 ghost use Rattle.engine_laws.specs.Laws.{FoldsAreWell, DroppedLogsAreDead, RemovedTablesAreDead, HoldsOpened, NewStoreStands};
 ghost use Rattle.engine_laws.specs.Laws.{RaiseMayBeMade, RollMayBeMade, FlushMayBeMade, CompactionMayBeMade, HoldsBehindAct, HoldsSealed, HoldsSealedSynced, FaultKeepsOutcomes};
-ghost use Rattle.engine_laws.specs.Laws.{NoEditBeforeSync, NoEarlyDrop, NoEarlyFloor, LoggedIsKept, NoMissingLog, NoMissingTable, OneFold, OneAccount, StatesAreAlike, OneUnflushedState};
-ghost use Rattle.engine_laws.specs.JointLaws.{LeavesOutcomesNow, SyncRunLeavesOutcomes, WriteRunLeavesOutcomes, RestsSynced, EditRunLeavesOutcomes, RestsEdited, DeadRunSaysTheSame, RestsBesideDead, ReadsRest, RollLeavesNoMore, RestsByLiveFiles, EditIsReady, CallLeavesOutcomes};
+ghost use Rattle.engine_laws.specs.Laws.{NoEditBeforeSync, NoEarlyDrop, NoEarlyFloor, LoggedIsKept, NoMissingLog, NoMissingTable, OneFold, OneAccount, StatesAreAlike, OneUnflushedState, MayStandForTwo};
+ghost use Rattle.engine_laws.specs.JointLaws.{LeavesOutcomesNow, SyncRunLeavesOutcomes, WriteRunLeavesOutcomes, RestsSynced, EditRunLeavesOutcomes, RestsEdited, DeadRunSaysTheSame, RestsBesideDead, ReadsRest, RollLeavesNoMore, RestsByLiveFiles, EditIsReady, CallLeavesOutcomes, SealLeavesOutcomes};
 
 use grammar::TableGrammar;
 use udt_disk::{Disk, DiskFile};
@@ -112,13 +112,15 @@ pub fn joint_runs<G: TableGrammar, F: DiskFile, D: Disk<File = F>>()
     ensures account { RestsByLiveFiles D.Disk F.DiskFile G.spells }
     ensures ready { EditIsReady D.Disk F.DiskFile G.spells }
     ensures call { CallLeavesOutcomes D.Disk F.DiskFile G.spells }
+    ensures seal { SealLeavesOutcomes D.Disk F.DiskFile G.spells }
 {}
 
 /// A folder's bytes fix what is live, and so all of the states that it stands for but the versions up to each `through`, of which tables
-/// have lost history. Where nothing was flushed there is one such state.
+/// have lost history. Where nothing was flushed there is one such state; else there may be two.
 pub fn fixed_by_bytes<G: TableGrammar>()
     ensures fold { OneFold }
     ensures account { OneAccount G.spells }
     ensures alike { StatesAreAlike G.spells }
     ensures one { OneUnflushedState G.spells }
+    ensures two { MayStandForTwo }
 {}

@@ -3,7 +3,7 @@ use Rattle.udt_disk.specs.Moments.{MayLeave, holding}
 use Rattle.udt_model.specs.Crashes.{course_start}
 use Rattle.engine_laws.specs.Joints.{IsNowLast}
 use Rattle.engine_laws.proofs.Joined.{dead_reads, dead_rests, edit_rests, newest_rests, now_leaves, ran_edit, ran_sync, ran_write, roll_leaves, sync_rests}
-use Rattle.engine_laws.proofs.Calling.{call_ran}
+use Rattle.engine_laws.proofs.Calling.{call_ran, seal_ran}
 use Rattle.engine_laws.proofs.Moving.{edit_ready, same_rests}
 use Rattle.floor_laws.proofs.Members.{In-contains}
 use Rattle.std.proofs.Common.{◌∷◌, [], inl, sym}
@@ -32,5 +32,6 @@ returns g c =
       roll = λ x y files old new number name apart touches given n image ne. roll_leaves d f last x y files old new number name apart touches given n image (λ e. ne (In-contains (Log number ∷ []) n (inl (sym e))));
       account = λ manifest s other j same r. same_rests gr (MayLeave d f j) manifest s other same r;
       call = λ manifest m co s waiting number act reply edit x y z start synced made appended done is h r told change runs may k. call_ran d f last gr manifest m co s waiting number act reply edit x y z start synced made appended done is h r told change runs may k;
+      seal = λ manifest m next co s waiting edit x y z start synced made appended done is h r same may k. seal_ran d f last gr manifest m next co s waiting edit x y z start synced made appended done is h r same may k;
       ready = λ manifest s edit j a r logs tables. edit_ready gr (MayLeave d f j) manifest s edit a r logs tables;
     }
