@@ -1,0 +1,4 @@
+pub mod Lists
+pub mod Greatest
+pub mod Placing
+pub mod Written

@@ -1,0 +1,31 @@
+-- Versions that operations make, family by family.
+use Rattle.std.proofs.Common.{◌≡◌, ℕ, zero, suc, ◌+◌, ◌<◌, ◌≤◌, Bool, true, false, cond, List, [], ◌∷◌, ◌++◌, length, get_or, map, take, refl, sym, ap, subst, ◌∙◌, inl, inr, arith}
+use Rattle.std.specs.Prelude.{filter, ◌==◌}
+use Rattle.std.proofs.lemmas.List.Elements.{filter-append}
+use Rattle.ts_key.specs.declared.numbers.Family.{Family}
+use Rattle.ts_key.specs.declared.batch.WriteOp.{WriteOp}
+use Rattle.ts_key.specs.declared.version.Version.{Version}
+use Rattle.udt_model.specs.Versions.{logged, version_of}
+use Rattle.super_version.specs.declared.family.FamilyState.{FamilyState}
+use Rattle.super_version.specs.Writes.{AreWritten, IsWrittenTo, of_family}
+
+-- one operation more
+pub logged_more : (ops : List WriteOp) (n i : ℕ) (op : WriteOp) → i < length ops → op ≡ get_or ops i op → logged n (take (i + 1) ops) ≡ logged n (take i ops) ++ version_of op (n + i) ∷ []
+logged_more [] n i op l e = absurd (omega arith)
+logged_more (o ∷ os) n zero op l e = let m : n + 0 ≡ n = omega arith in rw m (ap (λ (x : WriteOp). version_of x n ∷ []) (sym e))
+logged_more (o ∷ os) n (suc i) op l e =
+    let k : suc i + 1 ≡ suc (i + 1) = omega arith in
+    let m : n + suc i ≡ n + 1 + i = omega arith in
+    rw (k, m) (ap (λ (vs : List Version). version_of o n ∷ vs) (logged_more os (n + 1) i op (omega arith) e))
+
+pub own_more : (family : Family) (ops : List WriteOp) (n i : ℕ) (op : WriteOp) → i < length ops → op ≡ get_or ops i op → of_family family (logged n (take (i + 1) ops)) ≡ of_family family (logged n (take i ops)) ++ cond (op.family.0 == family.0) (version_of op (n + i) ∷ []) []
+own_more family ops n i op l e =
+    ap (of_family family) (logged_more ops n i op l e)
+    ∙ filter-append (λ (v : Version). v.family.0 == family.0) (logged n (take i ops)) (version_of op (n + i) ∷ [])
+
+-- one family more
+pub written_more : (vs : List Version) (fs gs : List FamilyState) (f g : FamilyState) → AreWritten vs fs gs → IsWrittenTo (of_family f.active.family vs) f g → AreWritten vs (fs ++ f ∷ []) (gs ++ g ∷ [])
+written_more vs [] [] f g h w = (w, refl)
+written_more vs [] (y ∷ ys) f g h w = absurd cc
+written_more vs (x ∷ xs) [] f g h w = absurd h
+written_more vs (x ∷ xs) (y ∷ ys) f g h w = (h.0, written_more vs xs ys f g h.1 w)

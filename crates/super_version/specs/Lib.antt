@@ -1,0 +1,6 @@
+pub mod Live
+pub mod Levels
+pub mod Changes
+pub mod Contents
+pub mod Writes
+pub mod Jobs

@@ -1,0 +1,62 @@
+//! What a batch makes of the families.
+ghost use Rattle.std.specs.Prelude.{◌≡◌, ◌+◌, ◌≤◌, length, IfOk};
+ghost use Rattle.std.specs.Arc.{arc_value};
+ghost use Rattle.ts_key.specs.declared.limits.TheConstants.{SEQUENCE_LIMIT};
+ghost use Rattle.udt_model.specs.Versions.{logged, version_of};
+ghost use Rattle.super_version.specs.Writes.{IsWrittenTo, of_family};
+
+use crate::NoMemory;
+use crate::family::FamilyState;
+use std::alloc::Global;
+use std::sync::Arc;
+use ts_key::{Family, Seq, Version, WriteOp};
+
+/// The version that an operation makes.
+fn version(op: &WriteOp, sequence: u64) -> Result<Version, NoMemory>
+    ensures { IfOk result (λ v. v ≡ version_of op.now sequence) }
+{
+    Ok(Version {
+        family: op.family,
+        key: op.key.copy()?,
+        ts: op.ts,
+        seq: Seq(sequence),
+        op: op.op.copy()?,
+    })
+}
+
+/// The versions of a family that operations make, the first of all with this sequence.
+fn versions_of(
+    alloc: Global,
+    family: Family,
+    ops: &[WriteOp],
+    first: u64,
+) -> Result<Vec<Version>, NoMemory>
+    requires { first + length ops.now ≤ SEQUENCE_LIMIT + 1 }
+    ensures { IfOk result (λ vs. vs.items ≡ of_family family (logged first ops.now)) }
+{
+    let mut versions = Vec::new(alloc);
+    for (i, op) in ops.iter().enumerate() {
+        if op.family.0 == family.0 {
+            versions.push(version(op, first + i as u64)?)?;
+        }
+    }
+    Ok(versions)
+}
+
+/// A family after operations, the first of which has this sequence: the same, shared, where none is its own.
+pub fn written(
+    alloc: Global,
+    state: &Arc<FamilyState>,
+    ops: &[WriteOp],
+    first: u64,
+) -> Result<Arc<FamilyState>, NoMemory>
+    requires { first + length ops.now ≤ SEQUENCE_LIMIT + 1 }
+    ensures { IfOk result (λ new. IsWrittenTo (of_family (arc_value state.now).active.family (logged first ops.now)) (arc_value state.now) (arc_value new)) }
+{
+    let family = state.as_ref().active.family();
+    let versions = versions_of(alloc, family, ops, first)?;
+    if versions.is_empty() {
+        return Arc::try_clone(state);
+    }
+    Ok(Arc::new(alloc, state.as_ref().with_versions(&versions)?)?)
+}
