@@ -14,11 +14,11 @@ abbrev pub of_family : Family → List Version → List Version
 of_family family vs = filter (λ v. v.family.0 == family.0) vs
 
 -- the active memtable has these versions more; all else is as before, and everything is where there is none
-pub record IsWrittenTo (versions : List Version) (old new : FamilyState) : Type 0 where
+pub record IsWrittenTo (more : List Version) (old new : FamilyState) : Type 0 where
   pub family : new.active.family ≡ old.active.family
-  pub versions : versions_of new.active ≡ sorted (versions ++ versions_of old.active)
+  pub versions : versions_of new.active ≡ sorted (more ++ versions_of old.active)
   pub others : new ≡ record old { active = new.active }
-  pub kept : versions ≡ [] → new ≡ old
+  pub kept : more ≡ [] → new ≡ old
 
 -- each family has those of the versions more that are its own
 abbrev pub AreWritten : List Version → List FamilyState → List FamilyState → Type 0

@@ -1,5 +1,5 @@
 //! A super version.
-ghost use Rattle.std.specs.Prelude.{◌≡◌, ◌+◌, ◌≤◌, length, option_map, slice_get, IfOk, Option};
+ghost use Rattle.std.specs.Prelude.{◌≡◌, ◌+◌, ◌<◌, ◌≤◌, length, option_map, slice_get, slice_set, IfOk};
 ghost use Rattle.std.specs.Option.{option_copied};
 ghost use Rattle.ts_key.specs.Visible.{newest_ts};
 ghost use Rattle.super_version.specs.Changes.{ChangesFamily, with_floor as floor_set, with_seal as active_sealed, with_flush as flushed_by, with_compaction as compacted_by};
