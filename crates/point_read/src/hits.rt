@@ -96,7 +96,7 @@ fn newer_in_table<'a>(
 ) -> Option<Hit<'a>>
     ensures { found key.now result ≡ newer (found key.now best.entry) (visible (items_of_table table.now) key.now t.0 s.0) }
 {
-    if is_above(best, table.table().properties().greatest_ts) {
+    if is_above(best, table.latest()) {
         return best;
     }
     newer_of(best, table.table().find(key, t, s))

@@ -1,8 +1,8 @@
 -- Lists one item after the other, and lists with one item changed.
-use Rattle.std.proofs.Common.{◌≡◌, ℕ, zero, suc, ◌+◌, ◌<◌, ◌≤◌, Bool, true, false, cond, List, [], ◌∷◌, ◌++◌, length, get_or, map, take, drop, Option, Some, None, refl, sym, ap, ◌∙◌, arith}
+use Rattle.std.proofs.Common.{◌≡◌, ℕ, zero, suc, ◌+◌, ◌<◌, ◌≤◌, Bool, true, false, cond, List, [], ◌∷◌, ◌++◌, length, get_or, map, take, drop, Option, Some, None, refl, sym, ap, ◌∙◌, arith, append_assoc}
 use Rattle.std.specs.Prelude.{filter, slice_get, slice_set}
 use Rattle.std.specs.List.{flat_map}
-use Rattle.std.proofs.lemmas.List.{append-nil}
+use Rattle.std.proofs.lemmas.List.{append-nil, map-append}
 use Rattle.super_version.specs.Levels.{changed_at}
 
 module _ {A B : Type 0} (f : A → B) where
@@ -22,15 +22,15 @@ module _ {A B : Type 0} (f : A → B) where
 
 -- ---- one item changed
 
-pub changed-set : {X : Type 0} (n : ℕ) (change : X → X) (xs : List X) (x : X) → slice_get xs n ≡ Some x → slice_set xs n (change x) ≡ changed_at n change xs
-changed-set n change [] x e = absurd cc
-changed-set zero change (y ∷ ys) x e = let q : x ≡ y = cc in ap (λ z. change z ∷ ys) q
-changed-set (suc n) change (y ∷ ys) x e = ap (λ zs. y ∷ zs) (changed-set n change ys x e)
+pub changed_set : {X : Type 0} (n : ℕ) (change : X → X) (xs : List X) (x : X) → slice_get xs n ≡ Some x → slice_set xs n (change x) ≡ changed_at n change xs
+changed_set n change [] x e = absurd cc
+changed_set zero change (y ∷ ys) x e = let q : x ≡ y = cc in ap (λ z. change z ∷ ys) q
+changed_set (suc n) change (y ∷ ys) x e = ap (λ zs. y ∷ zs) (changed_set n change ys x e)
 
-pub changed-none : {X : Type 0} (n : ℕ) (change : X → X) (xs : List X) → slice_get xs n ≡ None → xs ≡ changed_at n change xs
-changed-none n change [] e = refl
-changed-none zero change (y ∷ ys) e = absurd cc
-changed-none (suc n) change (y ∷ ys) e = ap (λ zs. y ∷ zs) (changed-none n change ys e)
+pub changed_none : {X : Type 0} (n : ℕ) (change : X → X) (xs : List X) → slice_get xs n ≡ None → xs ≡ changed_at n change xs
+changed_none n change [] e = refl
+changed_none zero change (y ∷ ys) e = absurd cc
+changed_none (suc n) change (y ∷ ys) e = ap (λ zs. y ∷ zs) (changed_none n change ys e)
 
 pub inside : {X : Type 0} (n : ℕ) (xs : List X) (x : X) → slice_get xs n ≡ Some x → n < length xs
 inside n [] x e = absurd cc
@@ -42,6 +42,22 @@ pub set_parts : {A B : Type 0} (f : A → B) (xs : List A) (n : ℕ) (item : A) 
 set_parts f [] n item l = absurd (omega arith)
 set_parts f (x ∷ xs) zero item l = refl
 set_parts f (x ∷ xs) (suc n) item l = ap (λ ys. f x ∷ ys) (set_parts f xs n item (omega arith))
+
+-- an item between two lists
+pub between : {A B : Type 0} (f : A → B) (start first pushed out before after : List A) (item : A) → start ≡ [] → map f first ≡ map f start ++ map f before → pushed ≡ first ++ item ∷ [] → map f out ≡ map f pushed ++ map f after → map f out ≡ map f before ++ f item ∷ map f after
+between f start first pushed out before after item e1 e2 e3 e4 =
+    e4
+    ∙ ap (λ l. map f l ++ map f after) e3
+    ∙ ap (λ l. l ++ map f after) (map-append f first (item ∷ []) ∙ ap (λ l. l ++ f item ∷ []) (e2 ∙ ap (λ l. map f l ++ map f before) e1))
+    ∙ append_assoc (map f before) (f item ∷ []) (map f after)
+
+-- in the place of another
+pub in_place : {A B : Type 0} (f : A → B) (out before after xs : List A) (item : A) (n : ℕ) → map f out ≡ map f before ++ f item ∷ map f after → before ≡ take n xs → after ≡ drop 1 (drop n xs) → n < length xs → map f out ≡ slice_set (map f xs) n (f item)
+in_place f out before after xs item n e e5 e6 l =
+    e
+    ∙ ap (λ l. map f l ++ f item ∷ map f after) e5
+    ∙ ap (λ l. map f (take n xs) ++ f item ∷ map f l) e6
+    ∙ set_parts f xs n item l
 
 pub map_take : {A B : Type 0} (f : A → B) (n : ℕ) (xs : List A) → map f (take n xs) ≡ take n (map f xs)
 map_take f n [] = elim n as (λ k. map f (take k []) ≡ take k []) [ zero ↦ refl | suc k ↦ refl ]
@@ -60,3 +76,7 @@ filter_more f p (x ∷ xs) (suc i) r l e =
     out : {C : Type 0} (b : Bool) (y : C) (ys zs : List C) → cond b (y ∷ (ys ++ zs)) (ys ++ zs) ≡ cond b (y ∷ ys) ys ++ zs
     out true y ys zs = refl
     out false y ys zs = refl
+
+pub length_map : {A B : Type 0} (f : A → B) (xs : List A) → length (map f xs) ≡ length xs
+length_map f [] = refl
+length_map f (x ∷ xs) = ap suc (length_map f xs)

@@ -120,11 +120,11 @@ fn place(
     ensures { IfOk result (λ new. map arc_value new.items ≡ placed level table.now (map arc_value tables.now)) }
 {
     let (before, after) = tables.split_at(place_of(level, tables, table));
-    let mut new = Vec::with_capacity(alloc, tables.len() + 1)?;
-    share(&mut new, before)?;
-    new.push(Arc::new(alloc, table.copy()?)?)?;
-    share(&mut new, after)?;
-    Ok(new)
+    let mut all = Vec::with_capacity(alloc, tables.len() + 1)?;
+    share(&mut all, before)?;
+    all.push(Arc::new(alloc, table.copy()?)?)?;
+    share(&mut all, after)?;
+    Ok(all)
 }
 
 /// The tables of a level with these more, each where it belongs.

@@ -1,10 +1,12 @@
 //! A table that is in use.
 ghost use Rattle.std.specs.Prelude.{◌≡◌, IfOk};
+ghost use Rattle.block_table.specs.Contents.{greatest_of};
 
 use crate::NoMemory;
 use block_table::Table;
 use std::marker::Model;
 use std::sync::Arc;
+use ts_key::Ts;
 
 /// A live table of a family: the number of its file, and what the file holds. Copies share that. Contracts see the table
 /// itself.
@@ -39,6 +41,13 @@ impl LiveTable {
         ensures { result ≡ self.now.number }
     {
         self.number
+    }
+
+    /// The greatest timestamp of its versions, 0 where it has none: `newest` of a key is never above it.
+    pub fn latest(&self) -> Ts
+        ensures { result.0 ≡ greatest_of (λ v. v.sort_key.ts) self.now.table.contents.items }
+    {
+        self.table().properties().greatest_ts
     }
 
     /// What its file holds.

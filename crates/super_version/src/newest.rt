@@ -61,7 +61,7 @@ pub fn later_in_mems(best: Option<Ts>, mems: &[Arc<Mem>], key: &[u8]) -> Option<
 fn later_in_table(best: Option<Ts>, table: &LiveTable, key: &[u8]) -> Option<Ts>
     ensures { option_map (λ ts. ts.0) result ≡ greater (option_map (λ ts. ts.0) best) (newest_ts (items_of_table table.now) key.now) }
 {
-    if reaches(best, table.table().properties().greatest_ts) {
+    if reaches(best, table.latest()) {
         return best;
     }
     later_of(best, table.table().newest(key))

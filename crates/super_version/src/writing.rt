@@ -1,5 +1,5 @@
 //! What a batch makes of the families.
-ghost use Rattle.std.specs.Prelude.{◌≡◌, ◌+◌, ◌≤◌, length, IfOk};
+ghost use Rattle.std.specs.Prelude.{◌≡◌, ◌+◌, ◌≤◌, ◌++◌, [], ◌∷◌, length, IfOk, OnOk};
 ghost use Rattle.std.specs.Arc.{arc_value};
 ghost use Rattle.ts_key.specs.declared.limits.TheConstants.{SEQUENCE_LIMIT};
 ghost use Rattle.udt_model.specs.Versions.{logged, version_of};
@@ -24,6 +24,22 @@ fn version(op: &WriteOp, sequence: u64) -> Result<Version, NoMemory>
     })
 }
 
+/// Puts the version that an operation makes at the end, where it is of the family.
+fn add_own(
+    out: &mut Vec<Version>,
+    family: Family,
+    op: &WriteOp,
+    sequence: u64,
+) -> Result<(), NoMemory>
+    ensures { OnOk result (out.new.items ≡ out.old.items ++ of_family family (version_of op.now sequence ∷ [])) }
+{
+    if op.family.0 != family.0 {
+        return Ok(());
+    }
+    out.push(version(op, sequence)?)?;
+    Ok(())
+}
+
 /// The versions of a family that operations make, the first of all with this sequence.
 fn versions_of(
     alloc: Global,
@@ -36,9 +52,7 @@ fn versions_of(
 {
     let mut versions = Vec::new(alloc);
     for (i, op) in ops.iter().enumerate() {
-        if op.family.0 == family.0 {
-            versions.push(version(op, first + i as u64)?)?;
-        }
+        add_own(&mut versions, family, op, first + i as u64)?;
     }
     Ok(versions)
 }

@@ -1,0 +1,11 @@
+pub mod Cuts
+pub mod Lists
+pub mod Blocks
+pub mod BlockCuts
+pub mod Footers
+pub mod Heads
+pub mod Handles
+pub mod Tallying
+pub mod Newest
+pub mod Reading
+pub mod Pushing

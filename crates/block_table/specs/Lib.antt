@@ -1,0 +1,12 @@
+pub mod Forms
+pub mod Contents
+pub mod Tallies
+pub mod Tables
+pub mod Held
+pub mod Ranges
+pub mod Pushed
+pub mod Writes
+pub mod Parts
+pub mod Indexes
+pub mod Gathering
+pub mod Reads

@@ -1,0 +1,5 @@
+//! Tests of the public calls of tables.
+#![tactic(auto)]
+
+#[cfg(test)]
+mod tests;

@@ -1,0 +1,6 @@
+//! Tests of tables.
+
+mod altered;
+mod many;
+mod one_version;
+mod writing;
