@@ -1,6 +1,6 @@
 -- A read of whole versions sees what it sees without their family.
-use Rattle.std.proofs.Common.{◌≡◌, ℕ, Bool, true, false, cond, List, [], ◌∷◌, map, Option, Some, None, refl, sym, ap, ◌∙◌, inl, inr, arith}
-use Rattle.std.specs.Prelude.{filter, option_map, ◌==◌, ◌&&◌}
+use Rattle.std.proofs.Common.{◌≡◌, ℕ, ◌<◌, ◌≤◌, Bool, true, false, cond, List, [], ◌∷◌, map, Option, Some, None, refl, sym, ap, ◌∙◌, inl, inr, arith}
+use Rattle.std.specs.Prelude.{filter, nat_lt, option_map, ◌==◌, ◌&&◌}
 use Rattle.std.specs.Str.{bytes_eq}
 use Rattle.std.proofs.lemmas.Bool.{cases_Bool}
 use Rattle.std.proofs.lemmas.Bool.Decides.{nat_tests}
@@ -8,10 +8,15 @@ use Rattle.ts_key.specs.declared.numbers.Family.{Family}
 use Rattle.ts_key.specs.declared.numbers.Seq.{Seq}
 use Rattle.ts_key.specs.declared.numbers.Ts.{Ts}
 use Rattle.ts_key.specs.declared.version.Version.{Version}
-use Rattle.ts_key.specs.Items.{Item}
+use Rattle.ts_key.specs.declared.lent.Hit.{Hit}
+use Rattle.ts_key.specs.Items.{Item, found}
 use Rattle.ts_key.specs.Visible.{is_newer, newer, newest_of, is_seen, visible}
 use Rattle.udt_model.specs.Versions as model
-use Rattle.super_version.specs.Contents.{version_of_item}
+use Rattle.udt_model.specs.declared.read.ModelRead.TheVariants as reads
+use Rattle.udt_model.specs.Reads.{answer_of, read}
+use Rattle.super_version.specs.declared.family.FamilyState.{FamilyState}
+use Rattle.super_version.specs.Contents.{items_in, version_of_item, versions_in}
+use Rattle.point_read.specs.Tells.{answered}
 
 same_number : (n : ℕ) → (n == n) ≡ true
 same_number n = grind (arith, nat_tests)
@@ -41,3 +46,13 @@ module _ (family : Family) where
         ]
         | inr y ↦ rw (same, y) rest
       ]
+
+-- ---- what a read answers
+
+pub collapses : (family : Family) (f : FamilyState) (key : List ℕ) (t : Ts) (s : Seq) → t.0 < f.floor.0 → reads.Collapsed f.floor ≡ read (versions_in family f) f.floor family key t s
+collapses family f key t s l = let y : nat_lt t.0 f.floor.0 ≡ true = grind (arith, nat_tests) in rw y refl
+
+pub answers : (family : Family) (f : FamilyState) (key : List ℕ) (t : Ts) (s : Seq) (hit : Option Hit) → f.floor.0 ≤ t.0 → found key hit ≡ visible (items_in f) key t.0 s.0 → answered f.floor family key hit ≡ read (versions_in family f) f.floor family key t s
+answers family f key t s hit l e =
+    let y : nat_lt t.0 f.floor.0 ≡ false = grind (arith, nat_tests) in
+    rw y (ap (λ (o : Option Version). reads.Told (answer_of f.floor o)) (ap (option_map (version_of_item family)) e ∙ sym (whole-visible family (items_in f) key t s)))

@@ -1,11 +1,12 @@
 //! A read of one key.
-ghost use Rattle.std.specs.Prelude.{◌≡◌, ◌<◌, length, slice_get, Some};
+ghost use Rattle.std.specs.Prelude.{◌≡◌, ℕ, ◌<◌, List, length, slice_get, Some};
+ghost use Rattle.ts_key.specs.declared.numbers.Family.{Family as FamilyOf};
 ghost use Rattle.ts_key.specs.Items.{found};
 ghost use Rattle.ts_key.specs.Visible.{visible};
 ghost use Rattle.udt_model.specs.Reads.{read, stamp_of};
 ghost use Rattle.super_version.specs.declared.family.FamilyState.{FamilyState as StateOf};
 ghost use Rattle.super_version.specs.Contents.{items_in, versions_in};
-ghost use Rattle.point_read.specs.Tells.{told};
+ghost use Rattle.point_read.specs.Tells.{answered, told};
 
 use crate::hits::{newer_in_levels, newer_in_mem, newer_in_mems};
 use super_version::{FamilyState, SuperVersion};
@@ -42,6 +43,32 @@ fn find<'a>(state: &'a FamilyState, key: &[u8], t: Ts, s: Seq) -> Option<Hit<'a>
     newer_in_levels(best, state.levels.as_slice(), key, t, s)
 }
 
+/// What the newest version that it sees answers to a read: a put its value, a delete nothing.
+fn answer(floor: Ts, newest: Option<Hit<'_>>) -> Read<'_>
+    ensures { (family : FamilyOf) (key : List ℕ) → told result ≡ answered floor family key newest.entry }
+{
+    let Some(hit) = newest else {
+        return Read::Absent;
+    };
+    match hit.kind {
+        Kind::Del => Read::Absent,
+        Kind::Put => Read::Found {
+            value: hit.value,
+            stamp: stamp(floor, hit.ts),
+        },
+    }
+}
+
+/// The read of a key of a family in this state.
+fn read_in<'a>(state: &'a FamilyState, key: &[u8], t: Ts, s: Seq) -> Read<'a>
+    ensures { (family : FamilyOf) → told result ≡ read (versions_in family state.now) state.now.floor family key.now t s }
+{
+    if t.0 < state.floor.0 {
+        return Read::Collapsed { floor: state.floor };
+    }
+    answer(state.floor, find(state, key, t, s))
+}
+
 /// The read of a key at `t` that sees sequences up to `s`, over all versions of the family. `Collapsed` comes exactly
 /// where `t` is below the family's floor. The stamp is `Below` exactly where the version's timestamp is below the floor.
 pub fn get<'a>(now: &'a SuperVersion, family: Family, key: &[u8], t: Ts, s: Seq) -> Read<'a>
@@ -49,20 +76,8 @@ pub fn get<'a>(now: &'a SuperVersion, family: Family, key: &[u8], t: Ts, s: Seq)
     ensures { (f : StateOf) → slice_get now.now.families family.0 ≡ Some f
         → told result ≡ read (versions_in family f) f.floor family key.now t s }
 {
-    let Some(state) = now.family(family) else {
-        return Read::Absent;
-    };
-    if t.0 < state.floor.0 {
-        return Read::Collapsed { floor: state.floor };
-    }
-    let Some(hit) = find(state, key, t, s) else {
-        return Read::Absent;
-    };
-    match hit.kind {
-        Kind::Del => Read::Absent,
-        Kind::Put => Read::Found {
-            value: hit.value,
-            stamp: stamp(state.floor, hit.ts),
-        },
+    match now.family(family) {
+        None => Read::Absent,
+        Some(state) => read_in(state, key, t, s),
     }
 }

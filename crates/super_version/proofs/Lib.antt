@@ -1,4 +1,5 @@
 pub mod Lists
+pub mod Frames
 pub mod Greatest
 pub mod Placing
 pub mod Written

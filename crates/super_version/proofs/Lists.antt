@@ -32,6 +32,9 @@ changed_none n change [] e = refl
 changed_none zero change (y ∷ ys) e = absurd cc
 changed_none (suc n) change (y ∷ ys) e = ap (λ zs. y ∷ zs) (changed_none n change ys e)
 
+pub changed_to : {X : Type 0} (n : ℕ) (change : X → X) (xs : List X) (x y : X) → Some x ≡ slice_get xs n → y ≡ change x → slice_set xs n y ≡ changed_at n change xs
+changed_to n change xs x y e is = ap (slice_set xs n) is ∙ changed_set n change xs x (sym e)
+
 pub inside : {X : Type 0} (n : ℕ) (xs : List X) (x : X) → slice_get xs n ≡ Some x → n < length xs
 inside n [] x e = absurd cc
 inside zero (y ∷ ys) x e = omega arith

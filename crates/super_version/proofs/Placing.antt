@@ -39,6 +39,7 @@ count_all f level t (y ∷ ys) zero l = absurd (omega arith)
 count_all f level t (y ∷ ys) (suc n) l = count_all f level t ys n (omega arith)
 
 -- one table more
-pub placed_all-append : (level : ℕ) (xs ys tables : List Live) → placed_all level (xs ++ ys) tables ≡ placed_all level ys (placed_all level xs tables)
-placed_all-append level [] ys tables = refl
-placed_all-append level (x ∷ xs) ys tables = placed_all-append level xs ys (placed level x tables)
+pub placed_more : (level : ℕ) (ts : List Live) (i : ℕ) (t : Live) (tables : List Live) → i < length ts → t ≡ get_or ts i t → placed level t (placed_all level (take i ts) tables) ≡ placed_all level (take (i + 1) ts) tables
+placed_more level [] i t tables l e = absurd (omega arith)
+placed_more level (x ∷ xs) zero t tables l e = ap (λ y. placed level y tables) e
+placed_more level (x ∷ xs) (suc i) t tables l e = let n : suc i + 1 ≡ suc (i + 1) = omega arith in rw n (placed_more level xs i t (placed level x tables) (omega arith) e)

@@ -1,10 +1,16 @@
 -- Versions that operations make, family by family.
 use Rattle.std.proofs.Common.{◌≡◌, ℕ, zero, suc, ◌+◌, ◌<◌, ◌≤◌, Bool, true, false, cond, List, [], ◌∷◌, ◌++◌, length, get_or, map, take, refl, sym, ap, subst, ◌∙◌, inl, inr, arith}
-use Rattle.std.specs.Prelude.{filter, ◌==◌}
-use Rattle.std.proofs.lemmas.List.Elements.{filter-append}
+use Rattle.std.specs.Prelude.{filter, ◌==◌, All}
+use Rattle.std.specs.List.{AllByRecursion}
+use Rattle.std.proofs.lemmas.Bool.{cases_Bool}
+use Rattle.std.proofs.lemmas.Bool.Decides.{nat_tests}
+use Rattle.std.proofs.lemmas.List.Elements.{filter-append, All-from_recursion}
 use Rattle.ts_key.specs.declared.numbers.Family.{Family}
 use Rattle.ts_key.specs.declared.batch.WriteOp.{WriteOp}
 use Rattle.ts_key.specs.declared.version.Version.{Version}
+use Rattle.sorted_run.specs.Sorts.{sorted}
+use Rattle.sorted_run.proofs.Sorting.{sorted_again}
+use Rattle.memtable.specs.Memtables.{joined, versions_of}
 use Rattle.udt_model.specs.Versions.{logged, version_of}
 use Rattle.super_version.specs.declared.family.FamilyState.{FamilyState}
 use Rattle.super_version.specs.Writes.{AreWritten, IsWrittenTo, of_family}
@@ -29,3 +35,33 @@ written_more vs [] [] f g h w = (w, refl)
 written_more vs [] (y ∷ ys) f g h w = absurd cc
 written_more vs (x ∷ xs) [] f g h w = absurd h
 written_more vs (x ∷ xs) (y ∷ ys) f g h w = (h.0, written_more vs xs ys f g h.1 w)
+
+-- ---- one family
+
+same_family : (a b : Family) → a.0 ≡ b.0 → a ≡ b
+same_family a b e = λ i. record { 0 = e i }
+
+is_from : (a b : ℕ) → (a == b) ≡ true → a ≡ b
+is_from a b e = grind (arith, nat_tests)
+
+own_by_recursion : (family : Family) (vs : List Version) → AllByRecursion (λ (v : Version). v.family ≡ family) (of_family family vs)
+own_by_recursion family [] = tt
+own_by_recursion family (v ∷ vs) =
+    elim (cases_Bool (v.family.0 == family.0)) [
+      | inl y ↦ rw y (same_family v.family family (is_from v.family.0 family.0 y), own_by_recursion family vs)
+      | inr y ↦ rw y (own_by_recursion family vs)
+    ]
+
+pub all_own : (family : Family) (vs : List Version) → All (λ (v : Version). v.family ≡ family) (of_family family vs)
+all_own family vs = All-from_recursion (λ (v : Version). v.family ≡ family) (of_family family vs) (own_by_recursion family vs)
+
+-- nothing is written
+pub stays_same : (more : List Version) (f g : FamilyState) → more ≡ [] → g ≡ f → IsWrittenTo more f g
+stays_same more f g none e =
+    let same : sorted (more ++ versions_of f.active) ≡ versions_of f.active = ap (λ (l : List Version). sorted (l ++ versions_of f.active)) none ∙ sorted_again (joined f.active.runs) in
+    record {
+      family = ap (λ (h : FamilyState). h.active.family) e;
+      versions = ap (λ (h : FamilyState). versions_of h.active) e ∙ sym same;
+      others = λ i. record (e i) { active = g.active };
+      kept = λ n. e;
+    }

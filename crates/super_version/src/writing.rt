@@ -69,8 +69,9 @@ pub fn written(
 {
     let family = state.as_ref().active.family();
     let versions = versions_of(alloc, family, ops, first)?;
-    if versions.is_empty() {
+    let own = versions.as_slice();
+    if own.is_empty() {
         return Arc::try_clone(state);
     }
-    Ok(Arc::new(alloc, state.as_ref().with_versions(&versions)?)?)
+    Ok(Arc::new(alloc, state.as_ref().with_versions(own)?)?)
 }

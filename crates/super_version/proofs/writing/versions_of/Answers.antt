@@ -9,7 +9,7 @@ pub loop-i-preserved : goal.loop-i-preserved
 loop-i-preserved c =
     let family = c.args.family in
     let i = c.loop-i.i in
-    let op = c.op-item.result in
+    let op = c.index-ops-i.result in
     c.in_ok-add_own.ensures
     ∙ ap (λ (vs : List Version). vs ++ of_family family (version_of op (c.args.first + i) ∷ [])) c.loop-i.invariant
-    ∙ sym (own_more family c.args.ops.now c.args.first i op (omega arith) c.op-item.is)
+    ∙ sym (own_more family c.args.ops.now c.args.first i op (omega arith) c.index-ops-i.is)
