@@ -16,7 +16,7 @@ returns-then-is_empty c =
     let f = arc_value c.args.state.now in
     let vs = logged c.args.first c.args.ops.now in
     let own = c.as_slice-own.result.now in
-    let family : c.family.result ≡ f.active.family = c.family.ensures ∙ ap (λ (g : FamilyState). g.active.family) c.as_ref.ensures in
+    let family : c.family-family.result ≡ f.active.family = c.family-family.ensures ∙ ap (λ (g : FamilyState). g.active.family) c.as_ref.ensures in
     let is : own ≡ of_family f.active.family vs = c.as_slice-own.ensures.value ∙ c.in_ok-versions.ensures ∙ ap (λ (n : Family). of_family n vs) family in
     let none : own ≡ [] = empty_is own (sym c.is_empty.ensures ∙ c.if-is_empty.true) in
     IfOk-weaker c.try_clone.result (λ new. arc_value new ≡ f) (λ new. IsWrittenTo (of_family f.active.family vs) f (arc_value new))
@@ -27,6 +27,6 @@ with_versions-requires c =
     let g = c.as_ref-2.result.now in
     let vs = logged c.args.first c.args.ops.now in
     let own = c.as_slice-own.result.now in
-    let family : c.family.result ≡ g.active.family = c.family.ensures ∙ ap (λ (h : FamilyState). h.active.family) (c.as_ref.ensures ∙ sym c.as_ref-2.ensures) in
+    let family : c.family-family.result ≡ g.active.family = c.family-family.ensures ∙ ap (λ (h : FamilyState). h.active.family) (c.as_ref.ensures ∙ sym c.as_ref-2.ensures) in
     let is : own ≡ of_family g.active.family vs = c.as_slice-own.ensures.value ∙ c.in_ok-versions.ensures ∙ ap (λ (n : Family). of_family n vs) family in
     subst (All (λ (v : Version). v.family ≡ g.active.family)) (sym is) (all_own g.active.family vs)

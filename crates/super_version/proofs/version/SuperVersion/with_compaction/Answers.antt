@@ -1,5 +1,6 @@
-use Rattle.std.proofs.Common.{◌≡◌, sym, ap, ◌∙◌}
+use Rattle.std.proofs.Common.{◌≡◌, List, sym, ap, ◌∙◌}
 use Rattle.std.specs.Option.{option_copied}
+use Rattle.super_version.specs.Live.{Live}
 use Rattle.super_version.specs.Changes.{with_compaction}
 use Rattle.super_version.proofs.Frames.{changed, unchanged}
 use Rattle.super_version.proofs.Lists.{inside}
@@ -14,4 +15,4 @@ with_family-requires c = inside c.args.family.0 c.args.self.now.families c.in-So
 pub returns : goal.returns
 returns c =
     changed c.args.family.0 (with_compaction c.args.gone.now c.args.level c.args.added.items) c.args.self.now c.in-Some.state.now c.in_ok-state.state c.with_family.result c.in-Some.ensures
-    c.in_ok-state.ensures c.with_family.ensures.last c.with_family.ensures.families
+    (c.in_ok-state.ensures ∙ ap (λ (ts : List Live). with_compaction c.args.gone.now c.args.level ts c.in-Some.state.now) c.deref.ensures.value) c.with_family.ensures.last c.with_family.ensures.families
