@@ -5,11 +5,10 @@ ghost use Rattle.super_version.specs.Changes.{empty_family, with_floor, with_sea
 ghost use Rattle.super_version.specs.Contents.{items_in};
 ghost use Rattle.super_version.specs.Writes.{IsWrittenTo};
 
-use crate::NoMemory;
-use crate::levels;
 use crate::live_table::LiveTable;
 use crate::newest::{later_in_levels, later_in_mem, later_in_mems};
 use crate::shared::SharedList;
+use crate::{NoMemory, levels};
 use memtable::Mem;
 use std::alloc::Global;
 use std::sync::Arc;

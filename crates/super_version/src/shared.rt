@@ -94,7 +94,12 @@ impl<T: Drop> SharedList<T> {
     }
 
     /// The list with another item at an index.
-    pub fn with_item(&self, alloc: Global, index: usize, item: Arc<T>) -> Result<SharedList<T>, NoMemory>
+    pub fn with_item(
+        &self,
+        alloc: Global,
+        index: usize,
+        item: Arc<T>,
+    ) -> Result<SharedList<T>, NoMemory>
         requires { index < length self.now }
         ensures { IfOk result (λ list. list ≡ slice_set self.now index (arc_value item)) }
     {

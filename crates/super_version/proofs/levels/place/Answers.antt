@@ -16,7 +16,7 @@ returns c =
     let after = c.split_at.result.1.now in
     let n = count_before c.args.level t (map arc_value xs) in
     let parts : map arc_value out ≡ map arc_value before ++ arc_value item ∷ map arc_value after =
-        between arc_value c.in_ok-all.all.items c.share.new.out.items c.push.new.self.items out before after item c.in_ok-all.ensures.items c.in_ok-share.ensures c.in_ok-push.ensures.items c.in_ok-share-2.ensures in
+    between arc_value c.in_ok-all.all.items c.share.new.out.items c.push.new.self.items out before after item c.in_ok-all.ensures.items c.in_ok-share.ensures c.in_ok-push.ensures.items c.in_ok-share-2.ensures in
     parts
     ∙ ap (λ l. map arc_value l ++ arc_value item ∷ map arc_value after) (c.split_at.ensures.front ∙ ap (λ k. take k xs) c.place_of.ensures.count)
     ∙ ap (λ l. map arc_value (take n xs) ++ arc_value item ∷ map arc_value l) (c.split_at.ensures.back ∙ ap (λ k. drop k xs) c.place_of.ensures.count)

@@ -15,8 +15,8 @@ returns g c =
     let before = c.split_at.result.0.now in
     let after = c.split_at-2.result.1.now in
     let parts : map arc_value out ≡ map arc_value before ++ arc_value item ∷ map arc_value after =
-        between arc_value c.in_ok-items.items.items c.share.new.out.items c.push.new.self.items out before after item c.in_ok-items.ensures.items c.in_ok-share.ensures c.in_ok-push.ensures.items c.in_ok-share-2.ensures in
+    between arc_value c.in_ok-items.items.items c.share.new.out.items c.push.new.self.items out before after item c.in_ok-items.ensures.items c.in_ok-share.ensures c.in_ok-push.ensures.items c.in_ok-share-2.ensures in
     let is : map arc_value out ≡ slice_set c.args.self.now n (arc_value item) =
-        in_place arc_value out before after xs item n parts c.split_at.ensures.front (c.split_at-2.ensures.back ∙ ap (drop 1) c.split_at.ensures.back) within
-        ∙ ap (λ l. slice_set l n (arc_value item)) c.as_slice.ensures in
+    in_place arc_value out before after xs item n parts c.split_at.ensures.front (c.split_at-2.ensures.back ∙ ap (drop 1) c.split_at.ensures.back) within
+    ∙ ap (λ l. slice_set l n (arc_value item)) c.as_slice.ensures in
     IfOk-weaker c.of.result (λ list. list ≡ map arc_value out) (λ list. list ≡ slice_set c.args.self.now n (arc_value item)) (λ list e. e ∙ is) c.of.ensures

@@ -19,6 +19,6 @@ loop-state-preserved c =
     let more : map arc_value (take (i + 1) xs) ≡ map arc_value (take i xs) ++ arc_value state ∷ [] = map_more arc_value xs i state (omega arith) c.state-item.is in
     let news : map arc_value c.push.new.self.items ≡ map arc_value old ++ arc_value new ∷ [] = ap (map arc_value) c.in_ok-push.ensures.items ∙ map-append arc_value old (new ∷ []) in
     let both : AreWritten vs (map arc_value (take i xs) ++ arc_value state ∷ []) (map arc_value old ++ arc_value new ∷ []) =
-        written_more vs (map arc_value (take i xs)) (map arc_value old) (arc_value state) (arc_value new) c.loop-state.invariant c.in_ok-written.ensures in
+    written_more vs (map arc_value (take i xs)) (map arc_value old) (arc_value state) (arc_value new) c.loop-state.invariant c.in_ok-written.ensures in
     subst (λ (l : List FamilyState). AreWritten vs l (map arc_value c.push.new.self.items)) (sym more)
     (subst (AreWritten vs (map arc_value (take i xs) ++ arc_value state ∷ [])) (sym news) both)
