@@ -1,5 +1,5 @@
 -- One family changes, and nothing else.
-use Rattle.std.proofs.Common.{◌≡◌, ℕ, Option, Some, None, sym, ap, ◌∙◌}
+use Rattle.std.proofs.Common.{◌≡◌, ℕ, Some, None, ap, ◌∙◌}
 use Rattle.std.specs.Prelude.{slice_get, slice_set, Result, Ok, Err, IfOk}
 use Rattle.super_version.specs.declared.family.FamilyState.{FamilyState}
 use Rattle.super_version.specs.declared.version.SuperVersion.{SuperVersion}

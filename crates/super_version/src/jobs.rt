@@ -1,5 +1,5 @@
 //! What the jobs take and give: flushes and compactions.
-ghost use Rattle.std.specs.Prelude.{◌≡◌, ◌<◌, ◌≤◌, ℕ, [], Bool, Option, IsTrue, IfOk, IfErr, OnOk};
+ghost use Rattle.std.specs.Prelude.{◌≡◌, ◌≢◌, ◌<◌, ◌≤◌, ℕ, [], Bool, Option, IsTrue, IfOk, IfErr, OnOk};
 ghost use Rattle.udt_disk.specs.declared.name.FileName.TheVariants.{Table as TableName};
 ghost use Rattle.udt_disk.specs.Causes.{IsCause, plus_faults};
 ghost use Rattle.super_version.specs.Jobs.{MayGive, MayRefuse, is_fault};
@@ -72,6 +72,9 @@ pub trait JobFiles {
     /// All numbers that it gave are below this one.
     ghost above: { Self → ℕ };
 
+    /// It gave the file of this number, and didn't take it back.
+    ghost gave: { Self → ℕ → Bool };
+
     /// Makes an empty file for a table, and answers its number, which is above those that it gave before. `Halted` comes
     /// exactly where the store is halted, else `Files` exactly where the next number is 2^63, else `Fault` only where the
     /// count rose.
@@ -81,6 +84,8 @@ pub trait JobFiles {
         ensures higher { IfOk result (λ made. (above self.old ≤ made.0) × (made.0 < above self.new)) }
         ensures still { above self.old ≤ above self.new }
         ensures name { IfOk result (λ made. Self.File.name made.1 ≡ TableName made.0) }
+        ensures gave { IfOk result (λ made. IsTrue (gave self.new made.0)) }
+        ensures others { (n : ℕ) → IsTrue (gave self.old n) → IsTrue (gave self.new n) }
         ensures empty { IfOk result (λ made. IsTrue (is_told self.old) → Self.File.seen made.1 ≡ []) }
         ensures fresh { IfOk result (λ made. Self.File.faults made.1 ≡ 0) }
         ensures file_told { IfOk result (λ made. Self.File.is_told made.1 ≡ is_told self.old) }
@@ -93,6 +98,8 @@ pub trait JobFiles {
 
     /// Takes a file back that `next` gave, and adds its faults. It never fails.
     fn back(&mut self, file: Self::File)
+        requires { (n : ℕ) × (Self.File.name file ≡ TableName n) × IsTrue (gave self.old n) }
+        ensures others { (n : ℕ) → Self.File.name file ≢ TableName n → IsTrue (gave self.old n) → IsTrue (gave self.new n) }
         ensures faults { faults self.new ≡ plus_faults (faults self.old) (Self.File.faults file) }
         ensures later { faults self.old ≤ faults self.new }
         ensures still { above self.new ≡ above self.old }

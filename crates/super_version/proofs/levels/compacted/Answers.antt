@@ -1,8 +1,7 @@
-use Rattle.std.proofs.Common.{◌≡◌, List, sym, ap, ◌∙◌}
+use Rattle.std.proofs.Common.{◌≡◌, sym, ap, ◌∙◌}
 use Rattle.std.specs.Prelude.{slice_set}
 use Rattle.std.specs.Arc.{arc_value}
 use Rattle.std.proofs.lemmas.Result.{IfOk-weaker}
-use Rattle.super_version.specs.Live.{Live}
 use Rattle.super_version.specs.Levels.{changed_at, compacted, placed_all}
 use Rattle.super_version.proofs.Lists.{changed_none, changed_to, inside}
 use Rattle.super_version.proofs.levels.compacted.Goals as goal

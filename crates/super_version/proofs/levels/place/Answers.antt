@@ -1,4 +1,4 @@
-use Rattle.std.proofs.Common.{◌≡◌, ℕ, List, ◌∷◌, ◌++◌, map, take, drop, ap, ◌∙◌}
+use Rattle.std.proofs.Common.{◌≡◌, ◌∷◌, ◌++◌, map, take, drop, ap, ◌∙◌}
 use Rattle.std.specs.Arc.{arc_value}
 use Rattle.super_version.specs.Live.{Live}
 use Rattle.super_version.specs.Levels.{count_before}

@@ -1,7 +1,6 @@
-use Rattle.std.proofs.Common.{◌≡◌, List, map, ap, ◌∙◌, arith}
+use Rattle.std.proofs.Common.{map, ap, ◌∙◌, arith}
 use Rattle.std.specs.Arc.{arc_value}
-use Rattle.super_version.specs.Live.{Live}
-use Rattle.super_version.specs.Levels.{placed, placed_all}
+use Rattle.super_version.specs.Levels.{placed}
 use Rattle.super_version.proofs.Placing.{placed_more}
 use Rattle.super_version.proofs.levels.place_all.Goals as goal
 

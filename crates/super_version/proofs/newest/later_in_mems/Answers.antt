@@ -1,10 +1,9 @@
-use Rattle.std.proofs.Common.{◌≡◌, ℕ, ap, ◌∙◌, arith}
+use Rattle.std.proofs.Common.{ℕ, ap, ◌∙◌, arith}
 use Rattle.std.specs.Prelude.{Option, option_map}
 use Rattle.std.specs.Arc.{arc_value}
 use Rattle.ts_key.specs.Visible.{newest_ts}
 use Rattle.memtable.specs.Memtables.{Memtable, greater}
 use Rattle.super_version.specs.Contents.{items_of_memtable}
-use Rattle.super_version.specs.Live.{Live}
 use Rattle.super_version.proofs.Greatest.{one_more}
 use Rattle.super_version.proofs.newest.later_in_mems.Goals as goal
 
