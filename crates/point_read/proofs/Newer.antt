@@ -5,7 +5,8 @@ use Rattle.std.specs.List.{flat_map}
 use Rattle.std.proofs.lemmas.Bool.{cases_Bool}
 use Rattle.std.proofs.lemmas.Bool.Decides.{nat_tests}
 use Rattle.ts_key.specs.declared.version.Version.{Version}
-use Rattle.ts_key.specs.Items.{Item, items_of}
+use Rattle.ts_key.specs.declared.lent.Hit.{Hit}
+use Rattle.ts_key.specs.Items.{Item, found, hit_at, items_of}
 use Rattle.ts_key.specs.Visible.{is_newer, newer, newest_of, is_seen, visible}
 use Rattle.ts_key.specs.Firsts.{seen_of_key}
 use Rattle.sorted_run.specs.Runs.{latest_of}
@@ -78,3 +79,11 @@ some_at P o v e h = subst (λ (x : Option Item). IfSome x P) e h
 
 pub of_its_key : (vs : List Item) (key : List ℕ) (t s : ℕ) (v : Item) → visible vs key t s ≡ Some v → v.sort_key.key ≡ key
 of_its_key vs key t s v e = seen_of_key key t s v (some_at (λ w. is_seen key t s w ≡ true) (visible vs key t s) v e (passes (is_seen key t s) vs))
+
+-- ---- which of two hits
+
+pub takes_other : (key : List ℕ) (best other : Option Hit) (a b : Hit) → best ≡ Some a → other ≡ Some b → is_newer (hit_at key b) (hit_at key a) ≡ true → found key other ≡ newer (found key best) (found key other)
+takes_other key best other a b x y z = rw (x, y, z) refl
+
+pub keeps_best : (key : List ℕ) (best other : Option Hit) (a b : Hit) → best ≡ Some a → other ≡ Some b → is_newer (hit_at key b) (hit_at key a) ≡ false → found key best ≡ newer (found key best) (found key other)
+keeps_best key best other a b x y z = rw (x, y, z) refl

@@ -13,5 +13,5 @@ returns-then-is_above c =
     let best = found key c.args.best in
     let vs = items_of_memtable c.args.mem.now in
     let above : is_above best (greatest_of (λ w. w.sort_key.ts) vs) ≡ true =
-        ap (is_above best) (sym (c.latest.ensures ∙ latest_is (versions_of c.args.mem.now))) ∙ sym (c.is_above.ensures key) ∙ c.if-is_above.true in
+    ap (is_above best) (sym (c.latest.ensures ∙ latest_is (versions_of c.args.mem.now))) ∙ sym (c.is_above.ensures key) ∙ c.if-is_above.true in
     passes_over best vs key c.args.t.0 c.args.s.0 above

@@ -2,8 +2,8 @@ use Rattle.std.proofs.Common.{◌≡◌, ◌∙◌, arith}
 use Rattle.point_read.proofs.Whole.{answers, collapses}
 use Rattle.point_read.proofs.read.read_in.Goals as goal
 
-pub returns-then-t-lt-floor : goal.returns-then-t-lt-floor
-returns-then-t-lt-floor c = λ family. collapses family c.args.state.now c.args.key.now c.args.t c.args.s (omega arith)
+pub returns-then-t-state : goal.returns-then-t-state
+returns-then-t-state c = λ family. collapses family c.args.state.now c.args.key.now c.args.t c.args.s (omega arith)
 
 pub returns : goal.returns
 returns c = λ family.
