@@ -1,6 +1,6 @@
 -- A read of whole versions sees what it sees without their family.
 use Rattle.std.proofs.Common.{◌≡◌, ℕ, ◌<◌, ◌≤◌, Bool, true, false, cond, List, [], ◌∷◌, map, Option, Some, None, refl, sym, ap, ◌∙◌, inl, inr, arith}
-use Rattle.std.specs.Prelude.{filter, nat_lt, option_map, ◌==◌, ◌&&◌}
+use Rattle.std.specs.Prelude.{nat_lt, option_map, ◌==◌}
 use Rattle.std.specs.Str.{bytes_eq}
 use Rattle.std.proofs.lemmas.Bool.{cases_Bool}
 use Rattle.std.proofs.lemmas.Bool.Decides.{nat_tests}
@@ -10,7 +10,7 @@ use Rattle.ts_key.specs.declared.numbers.Ts.{Ts}
 use Rattle.ts_key.specs.declared.version.Version.{Version}
 use Rattle.ts_key.specs.declared.lent.Hit.{Hit}
 use Rattle.ts_key.specs.Items.{Item, found}
-use Rattle.ts_key.specs.Visible.{is_newer, newer, newest_of, is_seen, visible}
+use Rattle.ts_key.specs.Visible.{is_newer, newer, visible}
 use Rattle.udt_model.specs.Versions as model
 use Rattle.udt_model.specs.declared.read.ModelRead.TheVariants as reads
 use Rattle.udt_model.specs.Reads.{answer_of, read}

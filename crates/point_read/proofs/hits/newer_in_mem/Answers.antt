@@ -1,4 +1,4 @@
-use Rattle.std.proofs.Common.{◌≡◌, ℕ, true, sym, ap, ◌∙◌}
+use Rattle.std.proofs.Common.{◌≡◌, true, sym, ap, ◌∙◌}
 use Rattle.ts_key.specs.Items.{found}
 use Rattle.block_table.specs.Contents.{greatest_of}
 use Rattle.memtable.specs.Memtables.{versions_of}

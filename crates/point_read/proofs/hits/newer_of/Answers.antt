@@ -1,4 +1,4 @@
-use Rattle.std.proofs.Common.{◌≡◌, sym, ◌∙◌}
+use Rattle.std.proofs.Common.{sym, ◌∙◌}
 use Rattle.point_read.proofs.Newer.{keeps_best, takes_other}
 use Rattle.point_read.proofs.hits.newer_of.Goals as goal
 

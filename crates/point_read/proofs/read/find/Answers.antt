@@ -1,8 +1,6 @@
-use Rattle.std.proofs.Common.{◌≡◌, List, map, ap, ◌∙◌}
-use Rattle.std.specs.Prelude.{Option}
+use Rattle.std.proofs.Common.{List, ap, ◌∙◌}
 use Rattle.std.specs.List.{flat_map}
-use Rattle.std.specs.Arc.{arc_value}
-use Rattle.ts_key.specs.Items.{Item, found}
+use Rattle.ts_key.specs.Items.{found}
 use Rattle.ts_key.specs.Visible.{newer, visible}
 use Rattle.memtable.specs.Memtables.{Memtable}
 use Rattle.super_version.specs.Live.{Live}

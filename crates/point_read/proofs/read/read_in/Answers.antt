@@ -1,4 +1,4 @@
-use Rattle.std.proofs.Common.{◌≡◌, ◌∙◌, arith}
+use Rattle.std.proofs.Common.{◌∙◌, arith}
 use Rattle.point_read.proofs.Whole.{answers, collapses}
 use Rattle.point_read.proofs.read.read_in.Goals as goal
 
