@@ -1,0 +1,5 @@
+//! Tests of the public calls of edits of a manifest.
+#![tactic(auto)]
+
+#[cfg(test)]
+mod tests;
