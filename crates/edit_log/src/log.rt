@@ -1,17 +1,22 @@
 //! A log of edits with its fold, to which an edit is added.
 
-ghost use Rattle.std.specs.Prelude.{◌≡◌, ◌⊎◌, ℕ, List, ◌∷◌, OnOk, OnErr};
+ghost use Rattle.std.specs.Prelude.{◌≡◌, ◌⊎◌, ℕ, List, ◌∷◌, map, IfOk, OnOk, OnErr, IsTrue};
 ghost use Rattle.udt_disk.specs.Causes.{HasCause};
 ghost use Rattle.udt_disk.specs.Crash.{Image};
-ghost use Rattle.udt_disk.specs.Runs.{Leaves, IsSameFile};
+ghost use Rattle.udt_disk.specs.Runs.{Leaves, IsSameFile, file_after};
+ghost use Rattle.gate_log.specs.Frames.{with_frame};
 ghost use Rattle.gate_log.specs.GateLog.{log_file, IsLogOf, IsAtRest};
+ghost use Rattle.gate_log.specs.Reads.{body_of};
+ghost use Rattle.manifest_edit.specs.Edits.{edit_text};
 ghost use Rattle.manifest_fold.specs.Folds.{IsAccepted, fold_with};
 ghost use Rattle.manifest_fold.specs.Bodies.{LeadAll};
 ghost use Rattle.manifest_fold.specs.declared.fold.Folded.{Folded as Fold};
 ghost use Rattle.edit_log.specs.Logs.{HasEdits};
+ghost use Rattle.edit_log.specs.Replays.{FoldsEdits};
 
-use crate::NoMemory;
-use gate_log::{FRAME_LIMIT, GateLog};
+use crate::replay::fold_edits;
+use crate::{EditsFault, NoMemory};
+use gate_log::{FRAME_LIMIT, Frame, GateLog};
 use manifest_edit::{Edit, write_edit};
 use manifest_fold::{FamilyFold, Folded};
 use std::alloc::{AllocError, Global};
@@ -35,9 +40,9 @@ pub struct EditLog<F: DiskFile> {
 }
 
 impl<F: DiskFile> EditLog<F> {
-    ghost use Rattle.edit_log.specs.Logs.{edit_file, edit_fold, IsReserved, IsEditLogReady, ShowsEdits, EditsRest};
+    ghost use Rattle.edit_log.specs.Logs.{edit_file, edit_end, edit_fold, fold_read, IsReserved, IsEditLogReady, ShowsEdits, EditsRest};
 
-    /// The log whose frames add up to this fold.
+    /// The log whose frames add up to this fold. It takes no memory.
     pub fn of(log: GateLog<F>, fold: Folded) -> EditLog<F>
         ensures file { edit_file result ≡ log_file log }
         ensures fold { edit_fold result ≡ fold }
@@ -48,6 +53,25 @@ impl<F: DiskFile> EditLog<F> {
             log,
             fold,
             next: None,
+        }
+    }
+
+    /// The log whose first frame stands for the fold `start`, and whose later frames are these. It is refused, and its file handed
+    /// back, as `fold_edits` refuses the frames.
+    pub fn read(
+        alloc: Global,
+        log: GateLog<F>,
+        start: Folded,
+        frames: &[Frame],
+    ) -> Result<EditLog<F>, (F, EditsFault)>
+        ensures folds { FoldsEdits start frames.now (fold_read result) }
+        ensures file { file_after edit_file result ≡ log_file log }
+        ensures shows { IfOk result (λ edits. (head : List ℕ) → IsLogOf F.DiskFile log (head ∷ map body_of frames.now) → ShowsEdits F.DiskFile edits head start) }
+        ensures rests { IfOk result (λ edits. (head : List ℕ) → IsAtRest F.DiskFile log (head ∷ map body_of frames.now) → EditsRest F.DiskFile edits head start) }
+    {
+        match fold_edits(alloc, start, frames) {
+            Ok(fold) => Ok(EditLog::of(log, fold)),
+            Err(fault) => Err((log.into_file(), fault)),
         }
     }
 
@@ -91,8 +115,11 @@ impl<F: DiskFile> EditLog<F> {
 
         ensures appended { (head : List ℕ) (start : Fold) → ShowsEdits F.DiskFile self.old head start → OnOk result (EditsRest F.DiskFile self.new head start) }
         ensures fold { OnOk result (edit_fold self.new ≡ fold_with (edit_fold self.old) edit.now) }
+        ensures still_ready { OnOk result (IsEditLogReady F.DiskFile self.new) }
         ensures moments { (head : List ℕ) (start : Fold) → EditsRest F.DiskFile self.old head start
             → Leaves F.DiskFile (edit_file self.old) (edit_file self.new) (λ (image : Image). HasEdits head start image (edit_fold self.old) ⊎ HasEdits head start image (fold_with (edit_fold self.old) edit.now)) }
+        ensures written { OnOk result (IsTrue (F.is_told (edit_file self.old))
+            → F.seen (edit_file self.new) ≡ with_frame (F.seen (edit_file self.old)) (edit_end self.old) (edit_text edit.now)) }
         ensures unchanged { OnErr result (edit_fold self.new ≡ edit_fold self.old) }
         ensures cause { HasCause (F.faults (edit_file self.old)) (F.faults (edit_file self.new)) result }
         ensures same { IsSameFile F.DiskFile (edit_file self.old) (edit_file self.new) }

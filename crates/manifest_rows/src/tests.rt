@@ -2,4 +2,5 @@
 
 mod acceptance;
 mod bytes_of_edits;
+mod edits_on_disk;
 mod live_tables;

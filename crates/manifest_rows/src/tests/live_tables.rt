@@ -4,7 +4,7 @@ use manifest_edit::{LiveTables, NoMemory, TableAt};
 use std::alloc::Global;
 use std::test::Fail;
 
-/// LiveTables 3, 5 and 9, which came in another order, and 5 on level 6 in the end.
+/// Tables 3, 5 and 9, which came in another order, and 5 on level 6 in the end.
 fn three(alloc: Global) -> Result<LiveTables, NoMemory> {
     let mut tables = LiveTables::new(alloc);
     tables.insert(TableAt {
