@@ -51,8 +51,9 @@ next_fold fold edit families logs is_families is_logs =
     ∙ ap (λ (ns : List ℕ). record { families = families_with fold.families edit.family; logs = ns; next_file = edit.next_file; last = edit.last }) is_logs
 
 module _ {F : Type 0} (g : Ghosts F) (old : EditLog F g) (edit : Edit) where
-  pub none_prepared : (taken : Option Prepared) → taken ≡ old.next → taken ≡ None → IsReserved g old edit → ⊥
-  none_prepared taken is none reserved = subst (λ (o : Option Prepared). IsSomeAnd o (IsPrepared g old edit)) (sym is ∙ none) reserved
+  pub none_prepared : (taken : Option Prepared) → taken ≡ old.next → ((next : Prepared) → taken ≡ Some next → ⊥) → IsReserved g old edit → ⊥
+  none_prepared None is none reserved = subst (λ (o : Option Prepared). IsSomeAnd o (IsPrepared g old edit)) (sym is) reserved
+  none_prepared (Some next) is none reserved = none next refl
 
   pub prepared_one : (taken : Option Prepared) (next : Prepared) → taken ≡ old.next → taken ≡ Some next → IsReserved g old edit → IsPrepared g old edit next
   prepared_one taken next is some reserved = subst (λ (o : Option Prepared). IsSomeAnd o (IsPrepared g old edit)) (sym is ∙ some) reserved
