@@ -1,6 +1,6 @@
 //! Edits added to a log in memory, and read again.
 
-ghost use Rattle.std.specs.Prelude.{OnOk};
+ghost use Rattle.std.specs.Prelude.{IfOk, OnOk};
 ghost use Rattle.edit_log.specs.Logs.{IsEditLogReady};
 
 use edit_log::{EditLog, EditsFault};
@@ -89,17 +89,46 @@ fn floor_of(fold: &Folded) -> Result<Reading, Failed> {
 
 /// What reading a manifest of these bytes gives. Its head is taken as that of the one family.
 fn read(alloc: Global, bytes: &[u8]) -> Result<Reading, Failed> {
+    let start = new_fold(alloc)?;
     let mut disk = MemDisk::new(alloc, Vec::new(alloc)).map_err(|_| Failed)?;
     let file = written(&mut disk, bytes)?;
-    let (log, frames) = GateLog::of(alloc, file).map_err(|_| Failed)?;
-    let Some((_, later)) = frames.split_first() else {
+    let Ok((log, frames)) = GateLog::of(alloc, file) else {
         return Err(Failed);
     };
-    let start = new_fold(alloc)?;
+    let later = frames.get(1..).unwrap_or(&[]);
     match EditLog::read(alloc, log, start, later) {
-        Ok(edits) => floor_of(edits.fold()),
+        Ok(edits) => {
+            let reading = floor_of(edits.fold());
+            disk.retire(edits.into_file());
+            reading
+        }
         Err((_, EditsFault::BadEdit { at })) => Ok(Reading::Bad(at)),
         Err((_, EditsFault::NoMemory)) => Err(Failed),
+    }
+}
+
+/// A new manifest of the one family, without edits.
+fn new_edits(alloc: Global, disk: &mut MemDisk) -> Result<EditLog<MemFile>, Failed>
+    ensures { IfOk result (λ edits. IsEditLogReady (⟦<MemFile as DiskFile>⟧) edits) }
+{
+    let start = new_fold(alloc)?;
+    let file = disk.create(FILE)?;
+    let Ok(mut log) = GateLog::create(alloc, file) else {
+        return Err(Failed);
+    };
+    match log.reserve(HEAD.len()) {
+        Ok(()) => {}
+        Err(_) => {
+            disk.retire(log.into_file());
+            return Err(Failed);
+        }
+    }
+    match log.append(HEAD) {
+        Ok(()) => Ok(EditLog::of(log, start)),
+        Err(Failed) => {
+            disk.retire(log.into_file());
+            Err(Failed)
+        }
     }
 }
 
@@ -118,25 +147,32 @@ fn add_raise(alloc: Global, edits: &mut EditLog<MemFile>, floor: u64) -> Result<
     }
 }
 
-/// Adds raises to 8 and on, so many, to a new manifest, and answers its bytes.
-fn raised(alloc: Global, count: u64) -> Result<Vec<u8>, Failed> {
-    let mut disk = MemDisk::new(alloc, Vec::new(alloc)).map_err(|_| Failed)?;
-    let file = disk.create(FILE)?;
-    let mut log = GateLog::create(alloc, file).map_err(|_| Failed)?;
-    log.reserve(HEAD.len()).map_err(|_| Failed)?;
-    log.append(HEAD)?;
-    let mut edits = EditLog::of(log, new_fold(alloc)?);
-    for floor in 8..8 + count {
-        add_raise(alloc, &mut edits, floor)?;
+/// Adds raises to 8, 9 and on, below `end`.
+fn add_raises(alloc: Global, edits: &mut EditLog<MemFile>, end: u64) -> Result<(), Failed>
+    requires { IsEditLogReady (⟦<MemFile as DiskFile>⟧) edits.old }
+{
+    for floor in 8..end {
+        add_raise(alloc, edits, floor)?;
     }
+    Ok(())
+}
+
+/// The bytes of a new manifest with raises to 8, 9 and on, below `end`.
+fn raised(alloc: Global, end: u64) -> Result<Vec<u8>, Failed> {
+    let mut disk = MemDisk::new(alloc, Vec::new(alloc)).map_err(|_| Failed)?;
+    let mut edits = new_edits(alloc, &mut disk)?;
+    let added = add_raises(alloc, &mut edits, end);
     disk.retire(edits.into_file());
-    let bytes = disk.contents(FILE).ok_or(Failed)?;
-    bytes.to_vec(alloc).map_err(|_| Failed)
+    added?;
+    match disk.contents(FILE) {
+        Some(bytes) => bytes.to_vec(alloc).map_err(|_| Failed),
+        None => Err(Failed),
+    }
 }
 
 #[test]
 fn a_raise_has_these_bytes_behind_its_head(rt: HostRuntime) {
-    let bytes = raised(rt.alloc(), 1);
+    let bytes = raised(rt.alloc(), 9);
     assert!(rt; bytes.is_ok());
     if let Ok(bytes) = bytes {
         assert_eq!(rt; bytes.as_slice(), RAISED);
@@ -150,11 +186,11 @@ fn a_raise_is_read_behind_its_head(rt: HostRuntime) {
 
 #[test]
 fn each_front_of_frames_is_read(rt: HostRuntime) {
-    for count in 0..4 {
-        let bytes = raised(rt.alloc(), count);
+    for end in 8..12 {
+        let bytes = raised(rt.alloc(), end);
         assert!(rt; bytes.is_ok());
         if let Ok(bytes) = bytes {
-            let floor = if count == 0 { 0 } else { 7 + count };
+            let floor = if end == 8 { 0 } else { end - 1 };
             assert_eq!(rt; read(rt.alloc(), &bytes), Ok(Reading::Floor(floor)));
         }
     }
