@@ -38,6 +38,213 @@ const GOOD: Row = Row {
     remove: &[3],
 };
 
+const TABLE_3: TableAt = TableAt {
+    level: 1,
+    number: 3,
+};
+
+/// Edits that are accepted too.
+const ACCEPTED: &[(&str, Row)] = &[
+    (
+        "the greatest next file",
+        Row {
+            next_file: 1 << 63,
+            ..GOOD
+        },
+    ),
+    (
+        "the greatest last sequence",
+        Row {
+            last: (1 << 56) - 1,
+            ..GOOD
+        },
+    ),
+    (
+        "both old logs dropped, two new ones",
+        Row {
+            add_logs: &[7, 8],
+            drop_logs: &[2, 4],
+            ..GOOD
+        },
+    ),
+    (
+        "through as far as the last sequence",
+        Row { through: 7, ..GOOD },
+    ),
+    (
+        "both tables removed",
+        Row {
+            remove: &[3, 5],
+            ..GOOD
+        },
+    ),
+    (
+        "a table that the edit removes",
+        Row {
+            add: &[TABLE_3],
+            ..GOOD
+        },
+    ),
+    (
+        "a table on the lowest level",
+        Row {
+            add: &[TableAt {
+                level: 6,
+                number: 9,
+            }],
+            ..GOOD
+        },
+    ),
+];
+
+/// The good edit, with one condition broken in each.
+const REFUSED: &[(&str, Row)] = &[
+    (
+        "the next file falls",
+        Row {
+            next_file: 9,
+            add: &[],
+            ..GOOD
+        },
+    ),
+    (
+        "the next file passes its limit",
+        Row {
+            next_file: (1 << 63) + 1,
+            ..GOOD
+        },
+    ),
+    ("the last sequence falls", Row { last: 6, ..GOOD }),
+    (
+        "the last sequence passes its limit",
+        Row {
+            last: 1 << 56,
+            ..GOOD
+        },
+    ),
+    (
+        "added logs don't ascend",
+        Row {
+            add_logs: &[8, 7],
+            ..GOOD
+        },
+    ),
+    (
+        "an added log is live",
+        Row {
+            add_logs: &[4],
+            ..GOOD
+        },
+    ),
+    (
+        "an added log isn't below the next file",
+        Row {
+            add_logs: &[10],
+            ..GOOD
+        },
+    ),
+    (
+        "the dropped log isn't the oldest",
+        Row {
+            drop_logs: &[4],
+            ..GOOD
+        },
+    ),
+    (
+        "no log stays live",
+        Row {
+            add_logs: &[],
+            drop_logs: &[2, 4],
+            ..GOOD
+        },
+    ),
+    (
+        "there is no such family",
+        Row {
+            family: 2,
+            add: &[],
+            remove: &[],
+            ..GOOD
+        },
+    ),
+    ("the floor falls", Row { floor: 3, ..GOOD }),
+    ("through falls", Row { through: 3, ..GOOD }),
+    (
+        "through passes the last sequence",
+        Row { through: 8, ..GOOD },
+    ),
+    (
+        "removed tables don't ascend",
+        Row {
+            remove: &[5, 3],
+            ..GOOD
+        },
+    ),
+    (
+        "a removed table is another family's",
+        Row {
+            remove: &[6],
+            ..GOOD
+        },
+    ),
+    (
+        "a level is too low",
+        Row {
+            add: &[TableAt {
+                level: 7,
+                number: 9,
+            }],
+            ..GOOD
+        },
+    ),
+    (
+        "an added table isn't below the next file",
+        Row {
+            add: &[TableAt {
+                level: 0,
+                number: 10,
+            }],
+            ..GOOD
+        },
+    ),
+    (
+        "an added table is live",
+        Row {
+            add: &[TableAt {
+                level: 0,
+                number: 5,
+            }],
+            ..GOOD
+        },
+    ),
+    (
+        "an added table is live in another family",
+        Row {
+            add: &[TableAt {
+                level: 0,
+                number: 6,
+            }],
+            ..GOOD
+        },
+    ),
+    (
+        "added tables don't ascend",
+        Row {
+            add: &[
+                TableAt {
+                    level: 0,
+                    number: 9,
+                },
+                TableAt {
+                    level: 0,
+                    number: 8,
+                },
+            ],
+            ..GOOD
+        },
+    ),
+];
+
 fn edit(alloc: Global, row: &Row) -> Result<Edit, Fail> {
     let family = FamilyEdit {
         family: Family(row.family),
@@ -102,235 +309,26 @@ fn fold(alloc: Global) -> Result<Folded, Fail> {
     })
 }
 
-fn is_accepted(alloc: Global, row: Row) -> Result<bool, Fail> {
-    let edit = edit(alloc, &row)?;
+fn is_accepted(alloc: Global, row: &Row) -> Result<bool, Fail> {
+    let edit = edit(alloc, row)?;
     let fold = fold(alloc)?;
     Ok(fold.accepts(&edit))
 }
 
 #[test]
-fn a_good_edit_is_accepted(rt: HostRuntime) -> Result<(), Fail> {
-    assert!(rt; is_accepted(rt.alloc(), GOOD)?);
+fn good_edits_are_accepted(rt: HostRuntime) -> Result<(), Fail> {
+    assert!(rt; is_accepted(rt.alloc(), &GOOD)?);
+    for (what, row) in ACCEPTED {
+        assert!(rt; is_accepted(rt.alloc(), row)?, "{what}");
+    }
     Ok(())
 }
 
 #[test]
-fn no_number_falls_or_passes_its_limit(rt: HostRuntime) -> Result<(), Fail> {
-    let alloc = rt.alloc();
-    assert!(rt;
-        is_accepted(
-            alloc,
-            Row {
-                next_file: 1 << 63,
-                ..GOOD
-            }
-        )?
-    );
-    assert!(rt;
-        !is_accepted(
-            alloc,
-            Row {
-                next_file: (1 << 63) + 1,
-                ..GOOD
-            }
-        )?
-    );
-    assert!(rt;
-        !is_accepted(
-            alloc,
-            Row {
-                next_file: 9,
-                add: &[],
-                ..GOOD
-            }
-        )?
-    );
-    assert!(rt;
-        is_accepted(
-            alloc,
-            Row {
-                last: (1 << 56) - 1,
-                ..GOOD
-            }
-        )?
-    );
-    assert!(rt;
-        !is_accepted(
-            alloc,
-            Row {
-                last: 1 << 56,
-                ..GOOD
-            }
-        )?
-    );
-    assert!(rt; !is_accepted(alloc, Row { last: 6, ..GOOD })?);
-    Ok(())
-}
-
-#[test]
-fn logs_are_added_behind_and_dropped_in_front(rt: HostRuntime) -> Result<(), Fail> {
-    let alloc = rt.alloc();
-    assert!(rt;
-        is_accepted(
-            alloc,
-            Row {
-                add_logs: &[7, 8],
-                drop_logs: &[2, 4],
-                ..GOOD
-            }
-        )?
-    );
-    assert!(rt;
-        !is_accepted(
-            alloc,
-            Row {
-                add_logs: &[8, 7],
-                ..GOOD
-            }
-        )?
-    );
-    assert!(rt;
-        !is_accepted(
-            alloc,
-            Row {
-                add_logs: &[4],
-                ..GOOD
-            }
-        )?
-    );
-    assert!(rt;
-        !is_accepted(
-            alloc,
-            Row {
-                add_logs: &[10],
-                ..GOOD
-            }
-        )?
-    );
-    assert!(rt;
-        !is_accepted(
-            alloc,
-            Row {
-                drop_logs: &[4],
-                ..GOOD
-            }
-        )?
-    );
-    assert!(rt;
-        !is_accepted(
-            alloc,
-            Row {
-                add_logs: &[],
-                drop_logs: &[2, 4],
-                ..GOOD
-            }
-        )?
-    );
-    Ok(())
-}
-
-#[test]
-fn a_family_goes_on(rt: HostRuntime) -> Result<(), Fail> {
-    let alloc = rt.alloc();
-    assert!(rt;
-        !is_accepted(
-            alloc,
-            Row {
-                family: 2,
-                add: &[],
-                remove: &[],
-                ..GOOD
-            }
-        )?
-    );
-    assert!(rt; !is_accepted(alloc, Row { floor: 3, ..GOOD })?);
-    assert!(rt; !is_accepted(alloc, Row { through: 3, ..GOOD })?);
-    assert!(rt; is_accepted(alloc, Row { through: 7, ..GOOD })?);
-    assert!(rt; !is_accepted(alloc, Row { through: 8, ..GOOD })?);
-    Ok(())
-}
-
-#[test]
-fn removed_tables_are_live_in_the_family(rt: HostRuntime) -> Result<(), Fail> {
-    let alloc = rt.alloc();
-    assert!(rt;
-        is_accepted(
-            alloc,
-            Row {
-                remove: &[3, 5],
-                ..GOOD
-            }
-        )?
-    );
-    assert!(rt;
-        !is_accepted(
-            alloc,
-            Row {
-                remove: &[5, 3],
-                ..GOOD
-            }
-        )?
-    );
-    assert!(rt;
-        !is_accepted(
-            alloc,
-            Row {
-                remove: &[6],
-                ..GOOD
-            }
-        )?
-    );
-    Ok(())
-}
-
-/// Does the fold accept the good edit with one added table in place of its own?
-fn takes_table(alloc: Global, level: u32, number: u64) -> Result<bool, Fail> {
-    let mut edit = edit(alloc, &GOOD)?;
-    let add = [TableAt { level, number }].to_vec(alloc)?;
-    edit.family = Some(FamilyEdit {
-        family: Family(0),
-        floor: Ts(5),
-        through: Seq(5),
-        add: Items::of(add),
-        remove: Items::of([3].to_vec(alloc)?),
-    });
-    let fold = fold(alloc)?;
-    Ok(fold.accepts(&edit))
-}
-
-#[test]
-fn added_tables_are_new(rt: HostRuntime) -> Result<(), Fail> {
-    let alloc = rt.alloc();
-    assert!(rt; takes_table(alloc, 6, 9)?);
-    assert!(rt; !takes_table(alloc, 7, 9)?);
-    assert!(rt; !takes_table(alloc, 0, 10)?);
-    assert!(rt; !takes_table(alloc, 0, 5)?);
-    assert!(rt; !takes_table(alloc, 0, 6)?);
-    assert!(rt; takes_table(alloc, 1, 3)?);
-    Ok(())
-}
-
-#[test]
-fn added_tables_ascend(rt: HostRuntime) -> Result<(), Fail> {
-    const BACKWARDS: &[TableAt] = &[
-        TableAt {
-            level: 0,
-            number: 9,
-        },
-        TableAt {
-            level: 0,
-            number: 8,
-        },
-    ];
-    assert!(rt;
-        !is_accepted(
-            rt.alloc(),
-            Row {
-                add: BACKWARDS,
-                ..GOOD
-            }
-        )?
-    );
+fn each_condition_refuses(rt: HostRuntime) -> Result<(), Fail> {
+    for (what, row) in REFUSED {
+        assert!(rt; !is_accepted(rt.alloc(), row)?, "{what}");
+    }
     Ok(())
 }
 
