@@ -87,6 +87,7 @@ impl<F: DiskFile> EditLog<F> {
     pub fn reserve(&mut self, alloc: Global, edit: &Edit) -> Result<(), NoMemory>
         ensures reserved { OnOk result (IsReserved F.DiskFile self.new edit.now) }
         ensures file { edit_file self.new ≡ edit_file self.old }
+        ensures end { edit_end self.new ≡ edit_end self.old }
         ensures fold { edit_fold self.new ≡ edit_fold self.old }
         ensures shows { (head : List ℕ) (start : Fold) → ShowsEdits F.DiskFile self.old head start → ShowsEdits F.DiskFile self.new head start }
         ensures rests { (head : List ℕ) (start : Fold) → EditsRest F.DiskFile self.old head start → EditsRest F.DiskFile self.new head start }
