@@ -32,6 +32,14 @@ returns-in_default-clause-moments g c unmade =
     let file_now = λ (x : _) (image : Image) (left : f.left_since x (f.moment x) image). (g.met.F.DiskFile g.world.𝓛 g.world.𝓜 g.world.𝓡 ((λ s x. x), (λ x. x), (λ x. x), λ x. x)).only_now x image left in
     at_rest_now d f disk_now file_now c.args.head.now.families c.args.disk.now unmade
 
+pub returns-in_default-2-clause-moments : goal.returns-in_default-2-clause-moments
+returns-in_default-2-clause-moments g c unmade =
+    let d = g.D.Disk in
+    let f = g.F.DiskFile in
+    let disk_now = λ (x : _) (n : FileName) (image : Image) (left : d.left_since x (d.moment x) n image). (g.met.D.Disk g.world.𝓛 g.world.𝓜 g.world.𝓡 ((λ s x. x), (λ x. x), (λ x. x), λ x. x)).only_now x n image left in
+    let file_now = λ (x : _) (image : Image) (left : f.left_since x (f.moment x) image). (g.met.F.DiskFile g.world.𝓛 g.world.𝓜 g.world.𝓡 ((λ s x. x), (λ x. x), (λ x. x), λ x. x)).only_now x image left in
+    at_rest_now d f disk_now file_now c.args.head.now.families c.args.disk.now unmade
+
 pub returns-in-Err-clause-moments : goal.returns-in-Err-clause-moments
 returns-in-Err-clause-moments g c unmade =
     let d = g.D.Disk in
@@ -152,3 +160,27 @@ returns-clause-stopped g c told none =
     let current : d.stands new Current ≡ d.stands c.empty_current.new.disk Current =
     c.retire.ensures.others.same Current (λ is. current_isn't_first (is ∙ name)) ∙ c.make_empty.ensures.touches.same Current (λ is. cc) ∙ c.make_log.ensures.touches.same Current (λ is. cc) in
     none_or_all (d.stands new) families (d.stands new Made) refl (ap chosen_by current ∙ c.in-Ok-empty_current.ensures.chooses told) (subst (λ (k : Image). HasFold k (fold_of families)) (sym first) fold)
+
+pub returns-in-Ok-make_empty-clause-made : goal.returns-in-Ok-make_empty-clause-made
+returns-in-Ok-make_empty-clause-made g c told =
+    let d = g.D.Disk in
+    let f = g.F.DiskFile in
+    let families = c.args.head.now.families in
+    let made = c.in_ok-log.ensures in
+    let told_one = subst IsTrue (sym c.empty_current.ensures.touches.told) told in
+    let told_two = subst IsTrue (sym c.make_log.ensures.touches.told) told_one in
+    let rest = made.at_rest told_one in
+    let head = head_of families c.as_slice.result.now c.deref.result.now c.in-Ok.body.items c.requires c.as_slice.ensures c.in-Ok.ensures.text c.in-Ok.ensures.named c.deref.ensures.value in
+    let file = c.manifest_of.ensures.file in
+    let current : d.stands c.make_empty.new.disk Current ≡ d.stands c.empty_current.new.disk Current =
+    c.make_empty.ensures.touches.same Current (λ is. cc) ∙ c.make_log.ensures.touches.same Current (λ is. cc) in
+    record {
+      name = ap f.name file ∙ made.name;
+      rests = ?;
+      fold = ?;
+      bytes = ap f.seen file ∙ made.written told_one ∙ ?;
+      current = current ∙ c.in-Ok-empty_current.ensures.emptied told;
+      chosen = ap chosen_by current ∙ c.in-Ok-empty_current.ensures.chooses told;
+      made = c.in-Ok-make_empty.ensures.empty told_two;
+      durable = c.in-Ok-make_empty.ensures.durable told_two;
+    }
