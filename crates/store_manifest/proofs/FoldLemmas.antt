@@ -8,7 +8,7 @@ use Rattle.gate_log.specs.declared.fault.FramesFault.{FramesFault}
 use Rattle.gate_log.specs.declared.fault.FramesFault.TheVariants.{BadFrame}
 use Rattle.udt_model.specs.declared.line.FamilyHead.{FamilyHead}
 use Rattle.store_manifest.specs.Heads.{IsHead}
-use Rattle.manifest_fold.specs.Bodies.{LeadsTo, LeadAll}
+use Rattle.manifest_fold.specs.Bodies.{LeadsTo, LeadsNowhere, LeadAll}
 use Rattle.manifest_fold.proofs.Prefixes.{front_leads, one_end}
 use Rattle.edit_log.specs.Replays.{IsRefusedAt}
 use Rattle.store_manifest.specs.Folds.{IsManifest, AreSoundFrames, IsOutside, fold_of}
@@ -24,11 +24,20 @@ pub bad_head : (frames : List Placed) (first : Placed) (later : List Placed) (bo
 bad_head frames first later body is same none =
     record { before = []; body = first.bytes; after = later; is = is; sound = inl refl; bad = λ fold means. none means.0 (rw same means.1) }
 
+-- no fold is meant by a head and edits of which the last is refused
+still_refused : (first : List ℕ) (families : List FamilyHead) (bodies : List (List ℕ)) (body : List ℕ) (end : Folded) → IsHead first families → LeadAll (fold_of families) bodies end → LeadsNowhere end body
+    → (fold : Folded) → IsManifest (first ∷ (bodies ++ body ∷ [])) fold → ⊥
+still_refused first families bodies body end head leads nowhere fold means =
+    let start = fold_of families in
+    let one = head_once first means.0 families means.1 head in
+    let all = subst (λ (fs : List FamilyHead). LeadAll (fold_of fs) (bodies ++ body ∷ []) fold) one means.2 in
+    let front = front_leads bodies (body ∷ []) start fold all in
+    let mid = one_end bodies start front.0 end front.1 leads in
+    nowhere front.2.0 (subst (λ (m : Folded). LeadsTo m body front.2.0) mid front.2.1)
+
 -- behind a head the first edit that is refused is the first frame outside the grammar
 pub edits_outside : (frames : List Placed) (first : Placed) (later : List Placed) (body : List ℕ) (families : List FamilyHead) (at : ℕ) → frames ≡ first ∷ later → body ≡ first.bytes → IsHead body families → IsRefusedAt (fold_of families) later at → IsOutside frames at
 edits_outside frames first later body families at is same head refused =
-    let start = fold_of families in
-    let bodies = map body_of refused.before in
     let here : IsHead first.bytes families = subst (λ (b : List ℕ). IsHead b families) same head in
     record {
       before = first ∷ refused.before;
@@ -36,12 +45,7 @@ edits_outside frames first later body families at is same head refused =
       after = refused.after;
       is = is ∙ ap (λ (l : List Placed). first ∷ l) refused.is;
       sound = inr (refused.fold, (families, here, refused.sound));
-      bad = λ fold means.
-        let one = head_once first.bytes means.0 families means.1 here in
-        let all = subst (λ (fs : List FamilyHead). LeadAll (fold_of fs) (bodies ++ refused.body ∷ []) fold) one means.2 in
-        let front = front_leads bodies (refused.body ∷ []) start fold all in
-        let mid = one_end bodies start front.0 refused.fold front.1 refused.sound in
-        refused.bad front.2.0 (subst (λ (m : Folded). LeadsTo m refused.body front.2.0) mid front.2.1);
+      bad = still_refused first.bytes families (map body_of refused.before) refused.body refused.fold here refused.sound refused.bad;
     }
 
 -- a head and edits that lead on mean the fold to which they lead
