@@ -1,6 +1,6 @@
 //! The table of the put of `a` at 5 with sequence 1 and value `v`, with timestamps kept.
 
-use crate::tests::writing::{TABLE, is_bad, put, read, write};
+use crate::tests::writing::{TABLE, is_bad, is_hit, is_sequence, is_stamp, put, read, write};
 use block_table::{Table, TableWriteFault, TableWriter};
 use merge_cursor::Cursor;
 use std::alloc::Global;
@@ -34,7 +34,9 @@ fn a_writer_tells_the_bytes_of_its_blocks(rt: HostRuntime) -> Result<(), Fail> {
     let alloc = rt.alloc();
     let mut writer = TableWriter::new(alloc, Family(0), Form::Persist, Ts(0))?;
     assert_eq!(rt; writer.bytes(), 0);
-    writer.push(alloc, &version(alloc)?)?;
+    let v = version(alloc)?;
+    assert!(rt; is_stamp(Form::Persist, v.ts) && is_sequence(v.seq));
+    writer.push(alloc, &v)?;
     assert_eq!(rt; writer.bytes(), 34);
     Ok(())
 }
@@ -52,18 +54,31 @@ fn has_properties(table: &Table) -> bool {
         && p.collected_by == Ts(0)
 }
 
+/// A look-up at the version's own numbers, and a walk, show it.
+fn shows(alloc: Global, table: &Table, v: &Version) -> Result<bool, Fail> {
+    let found = match table.find(b"a", v.ts, v.seq) {
+        Some(hit) => is_hit(v, &hit),
+        None => false,
+    };
+    let cursor = table.cursor(alloc)?;
+    let stands = match cursor.at() {
+        Some((key, hit)) => key.key == b"a".as_slice() && is_hit(v, &hit),
+        None => false,
+    };
+    Ok(found && stands)
+}
+
 #[test]
 fn it_is_read_looked_up_and_walked(rt: HostRuntime) -> Result<(), Fail> {
     let alloc = rt.alloc();
     let table = read(alloc, IMAGE)??;
     assert!(rt; has_properties(&table));
     assert!(rt; table.newest(b"a") == Some(Ts(5)) && table.newest(b"b").is_none());
-    assert!(rt; table.find(b"a", Ts(5), Seq(1)).is_some());
+    assert!(rt; shows(alloc, &table, &version(alloc)?)?);
     assert!(rt; table.find(b"a", Ts(4), Seq(1)).is_none());
     assert!(rt; table.find(b"a", Ts(5), Seq(0)).is_none());
     assert!(rt; table.find(b"b", Ts(5), Seq(1)).is_none());
     let mut cursor = table.cursor(alloc)?;
-    assert!(rt; cursor.at().is_some());
     cursor.next();
     assert!(rt; cursor.at().is_none());
     Ok(())
