@@ -7,6 +7,7 @@ ghost use Rattle.ts_key.specs.Items.{item_of, items_of};
 ghost use Rattle.ts_key.specs.Lists.{IsSorted};
 ghost use Rattle.ts_key.specs.Order.{sort_cmp};
 ghost use Rattle.ts_key.specs.StoredKeys.{IsStamp, IsSequence};
+ghost use Rattle.ts_key.specs.declared.numbers.Family.{Family as FamilyOf};
 
 use block_table::{Table, TableFault, TableWriteFault, write_table};
 use bytes::Bytes;
@@ -64,6 +65,14 @@ fn are_of(family: Family, versions: &[Version]) -> bool
     versions.iter().all(|v| v.family == family)
 }
 
+/// All versions are of one family, the first one's.
+fn are_of_one_family(versions: &[Version]) -> bool
+    requires { 0 < length versions.now }
+    ensures { OnTrue result ((family : FamilyOf) × All (λ v. v.family ≡ family) versions.now) }
+{
+    are_of(versions[0].family, versions)
+}
+
 fn comes_before(a: &Version, b: &Version) -> bool
     ensures { OnTrue result (sort_cmp (item_of a.now).sort_key (item_of b.now).sort_key ≡ Less) }
 {
@@ -91,8 +100,14 @@ pub fn write(
     form: Form,
     collected_by: Ts,
 ) -> Result<Result<Table, TableWriteFault>, Fail> {
-    if versions.is_empty() || !are_of(versions[0].family, versions) || !are_sorted(versions) {
-        return Err(Fail::new("these versions are no table's"));
+    if versions.is_empty() {
+        return Err(Fail::new("no version"));
+    }
+    if !are_of_one_family(versions) {
+        return Err(Fail::new("these versions are of several families"));
+    }
+    if !are_sorted(versions) {
+        return Err(Fail::new("these versions aren't in the stored order"));
     }
     if !are_stamps(form, versions) || !are_sequences(versions) {
         return Err(Fail::new("these versions have no spelling"));
