@@ -199,9 +199,18 @@ impl Script {
         self.views.get(n as usize).copied()
     }
 
+    fn view_count(&self) -> u64 {
+        self.views.len() as u64
+    }
+
+    fn snapshot_count(&self) -> u64 {
+        self.snaps.len() as u64
+    }
+
     /// A snapshot, in half of the calls, where there is one.
     fn pick_snapshot(&mut self) -> Option<Held> {
-        let n = self.pick(self.snaps.len() as u64);
+        let count = self.snapshot_count();
+        let n = self.pick(count);
         if self.pick(2) == 0 {
             return None;
         }
@@ -231,7 +240,8 @@ impl Script {
     }
 
     fn get_in_view(&mut self, rt: &impl Abort, alloc: Global) -> Result<(), Fail> {
-        let n = self.pick(self.views.len() as u64);
+        let count = self.view_count();
+        let n = self.pick(count);
         let Some(view) = self.view_at(n) else {
             return Ok(());
         };
