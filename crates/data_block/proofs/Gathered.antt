@@ -1,14 +1,11 @@
 -- One more block of an image.
-use Rattle.std.proofs.Common.{◌≡◌, ℕ, ◌+◌, ◌≤◌, Bool, List, ◌++◌, length, take, refl, sym, ap, subst, ◌∙◌}
-use Rattle.std.specs.Prelude.{slice_range, IsTrue, ◌↔◌, Err}
+use Rattle.std.proofs.Common.{◌≡◌, ℕ, Bool, List, ◌++◌, length, take, refl, sym, ap, subst, ◌∙◌}
+use Rattle.std.specs.Prelude.{IsTrue, ◌↔◌, Err}
 use Rattle.ts_key.specs.Items.{Item}
 use Rattle.ts_key.specs.declared.version.Form.{Form}
 use Rattle.data_block.specs.declared.index.Index.{Index}
-use Rattle.data_block.specs.declared.gather.BlockCut.{BlockCut}
 use Rattle.data_block.specs.declared.block.BlockFault.{BlockFault}
 use Rattle.data_block.specs.declared.block.BlockFault.TheVariants.{Bad, NoMemory}
-use Rattle.data_block.specs.Grammar.{block_entries}
-use Rattle.data_block.specs.Index.{IsWithin}
 use Rattle.data_block.specs.Regions.{items_in}
 use Rattle.data_block.specs.Faults.{IsIndexOf, ReadsImage}
 use Rattle.data_block.specs.Gathered.{ComesAfter, HasGathered, GathersBlock}

@@ -1,12 +1,11 @@
 -- What the parts of an image that were read say of the whole.
-use Rattle.std.proofs.Common.{◌≡◌, ℕ, ◌≤◌, List, [], ◌++◌, length, take, drop, All, sym, ap, subst, ◌∙◌, length-append, length-take, arith}
+use Rattle.std.proofs.Common.{◌≡◌, ℕ, List, [], ◌++◌, length, take, drop, sym, ap, subst, ◌∙◌, length-append, length-take, arith}
 use Rattle.std.specs.Prelude.{None}
 use Rattle.std.proofs.lemmas.List.{take-append-drop, drop_at, append-nil}
 use Rattle.ts_key.specs.Items.{Item}
 use Rattle.ts_key.specs.declared.version.Form.{Form}
 use Rattle.data_block.specs.declared.index.Index.{Index}
-use Rattle.data_block.specs.Grammar.{numbers, block, block_entries, block_restarts, AreShort, IsBlock}
-use Rattle.data_block.specs.Index.{IsWithin}
+use Rattle.data_block.specs.Grammar.{numbers, block_entries, block_restarts, AreShort}
 use Rattle.data_block.specs.Regions.{IsRun, StopsAt, ReadsRegion, items_in}
 use Rattle.data_block.specs.Faults.{EndsAt, IsBlockFault, IsIndexOf}
 use Rattle.data_block.specs.Faults.IsBlockFault.{bad_entry, bad_tail}

@@ -1,5 +1,5 @@
 -- How many bytes the block of what was written has.
-use Rattle.std.proofs.Common.{◌≡◌, ℕ, ◌+◌, ◌*◌, List, ◌++◌, length, ap, length-append, arith}
+use Rattle.std.proofs.Common.{◌≡◌, ℕ, ◌+◌, ◌*◌, List, length, ap, length-append, arith}
 use Rattle.std.specs.List.{flat_map}
 use Rattle.ts_key.specs.Numbers.{number_bytes}
 use Rattle.ts_key.specs.Items.{Item}
