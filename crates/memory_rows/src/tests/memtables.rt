@@ -8,7 +8,7 @@ use std::test::Fail;
 use ts_key::{Family, Seq, Ts, Version};
 
 /// The memtable with one version more.
-pub fn with_put(alloc: Global, mem: &Mem, key: &[u8], ts: u64, seq: u64) -> Result<Mem, Fail> {
+fn with_put(alloc: Global, mem: &Mem, key: &[u8], ts: u64, seq: u64) -> Result<Mem, Fail> {
     let batch = [put(alloc, mem.family(), key, ts, seq)?];
     Ok(mem.with(&batch)?)
 }
