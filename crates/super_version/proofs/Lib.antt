@@ -3,3 +3,5 @@ pub mod Frames
 pub mod Greatest
 pub mod Placing
 pub mod Written
+pub mod Orders
+pub mod Numbered

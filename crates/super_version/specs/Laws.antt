@@ -1,0 +1,28 @@
+-- Laws of the changes.
+use Rattle.std.specs.Prelude.{◌≡◌, ℕ, ◌≤◌, List, ◌∷◌, filter}
+use Rattle.std.specs.List.{AllByRecursion}
+use Rattle.ts_key.specs.declared.batch.WriteOp.{WriteOp}
+use Rattle.ts_key.specs.declared.numbers.Seq.{Seq}
+use Rattle.ts_key.specs.declared.numbers.Ts.{Ts}
+use Rattle.super_version.specs.declared.family.FamilyState.{FamilyState}
+use Rattle.super_version.specs.declared.version.SuperVersion.{SuperVersion}
+use Rattle.super_version.specs.Changes.{ChangesFamily, with_compaction, with_floor, with_flush, with_seal}
+use Rattle.super_version.specs.Levels.{AreInOrder, is_kept, placed_all, properties}
+use Rattle.super_version.specs.Live.{Live}
+use Rattle.super_version.specs.Numbers.{BearsNumber, IsTableOf, StandInPlaces}
+use Rattle.super_version.specs.Writes.{AddsBatch}
+
+-- Tables in order stay so: on level 0 behind one with a greatest sequence that is at least theirs, and on every level where tables
+-- leave and others are put where they belong.
+pub record OrderStays : Type 0 where
+  pub front : (t : Live) (tables : List Live) → AllByRecursion (λ (o : Live). (properties o).greatest_seq.0 ≤ (properties t).greatest_seq.0) tables → AreInOrder 0 tables → AreInOrder 0 (t ∷ tables)
+  pub compaction : (level : ℕ) (gone : List ℕ) (added tables : List Live) → AreInOrder level tables → AreInOrder level (placed_all level added (filter (is_kept gone) tables))
+
+-- Where all memtables and tables bear the numbers of their places, they do after each change whose tables are of the family.
+pub record NumbersStay : Type 0 where
+  pub floor : (n : ℕ) (floor : Ts) (f : FamilyState) → BearsNumber n f → BearsNumber n (with_floor floor f)
+  pub seal : (n : ℕ) (f : FamilyState) → BearsNumber n f → BearsNumber n (with_seal f)
+  pub flush : (n gone : ℕ) (through : Seq) (floor : Ts) (added : Live) (f : FamilyState) → IsTableOf n added → BearsNumber n f → BearsNumber n (with_flush gone through floor added f)
+  pub compaction : (n : ℕ) (gone : List ℕ) (level : ℕ) (added : List Live) (f : FamilyState) → AllByRecursion (IsTableOf n) added → BearsNumber n f → BearsNumber n (with_compaction gone level added f)
+  pub family : (n : ℕ) (change : FamilyState → FamilyState) (old new : SuperVersion) → ChangesFamily n change old new → ((f : FamilyState) → BearsNumber n f → BearsNumber n (change f)) → StandInPlaces 0 old.families → StandInPlaces 0 new.families
+  pub write : (batch : List WriteOp) (old new : SuperVersion) → AddsBatch batch old new → StandInPlaces 0 old.families → StandInPlaces 0 new.families

@@ -1,0 +1,14 @@
+//! Laws of the changes.
+ghost use Rattle.super_version.specs.Laws.{NumbersStay, OrderStays};
+
+/// Tables in order stay so. On level 0 they do behind a table that comes in front with a greatest sequence that is at least
+/// theirs, as a flush puts it there; on every level they do where a compaction takes tables out and puts others in.
+pub fn levels_stay_in_order()
+    ensures { OrderStays }
+{}
+
+/// Where all memtables and tables of each family bear the number of its place, they do after every write, and after each
+/// change of a family whose tables are of the family.
+pub fn numbers_stay()
+    ensures { NumbersStay }
+{}
