@@ -5,3 +5,4 @@ pub mod Placing
 pub mod Written
 pub mod Orders
 pub mod Numbered
+pub mod Seen
