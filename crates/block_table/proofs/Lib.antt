@@ -9,3 +9,4 @@ pub mod Tallying
 pub mod Newest
 pub mod Reading
 pub mod Pushing
+pub mod Unique

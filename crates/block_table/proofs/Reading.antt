@@ -93,7 +93,7 @@ few_versions form at (vs ∷ cuts) h = (h.0.versions, few_versions form (at + le
 
 module _ (image b i p : List ℕ) (is : image ≡ with_footer b i p) (small : length image < 2 ^ 64) where
   -- the parts of an image that is a table
-  told : (t : Contents) (h : IsTable t image) → (b ≡ blocks t.form h.cuts) × (i ≡ index (handles t.form 0 h.cuts)) × (p ≡ properties (properties_of t))
+  pub told : (t : Contents) (h : IsTable t image) → (b ≡ blocks t.form h.cuts) × (i ≡ index (handles t.form 0 h.cuts)) × (p ≡ properties (properties_of t))
   told t h =
       let len : length (with_footer b i p) ≡ length image = ap length (sym is) in
       parts_once b i p (blocks t.form h.cuts) (index (handles t.form 0 h.cuts)) (properties (properties_of t)) (sym is ∙ h.spelled) (omega arith)
@@ -101,7 +101,7 @@ module _ (image b i p : List ℕ) (is : image ≡ with_footer b i p) (small : le
   fits_of : (t : Contents) → IsTable t image → FitsHead (properties_of t)
   fits_of t h = record { family = h.blocks.family; collected_by = h.blocks.collected_by }
 
-  own_handles : (t : Contents) (h : IsTable t image) → AreHandles (handles t.form 0 h.cuts)
+  pub own_handles : (t : Contents) (h : IsTable t image) → AreHandles (handles t.form 0 h.cuts)
   own_handles t h =
       let short = h.blocks.short in
       let n : length (handles t.form 0 h.cuts) ≡ length h.cuts = length-handles t.form 0 h.cuts in

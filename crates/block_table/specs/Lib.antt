@@ -10,3 +10,4 @@ pub mod Parts
 pub mod Indexes
 pub mod Gathering
 pub mod Reads
+pub mod Laws

@@ -6,6 +6,7 @@ mod file;
 mod gather;
 mod handle;
 mod index;
+mod laws;
 mod parts;
 pub mod properties;
 mod spelling;
@@ -15,6 +16,7 @@ pub mod write;
 pub mod writer;
 
 pub use fault::{TableFault, TableWriteFault};
+pub use laws::tables_are_unique;
 pub use properties::Properties;
 pub use table::{Table, TableCursor};
 pub use write::write_table;

@@ -156,7 +156,7 @@ impl TableWriter {
         Ok(())
     }
 
-    /// Adds a version, which the form can spell.
+    /// Adds a version of the writer's family, which the form can spell. The family of `v` isn't looked at.
     pub fn push(&mut self, alloc: Global, v: &Version) -> Result<(), NoMemory>
         requires stamp { IsStamp self.old.form v.now.ts.0 }
         requires sequence { IsSequence v.now.seq.0 }

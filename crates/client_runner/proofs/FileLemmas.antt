@@ -37,15 +37,15 @@ files_there : (lines : List Line) → All IsBuiltLine lines → All HasFiles lin
 files_there lines built = λ k d within. has_files (slice_index_or lines k d).reply (built k d within).reply
 
 -- commands that are transcribed give the transcript of a file that spells them
-pub ready_of : (bytes : List ℕ) (commands : List Command) (r : Ready) → IsFile bytes commands → ((other : List Command) → IsFile bytes other → other ≡ commands) → IsTranscribed commands r → IsReady bytes r
-ready_of bytes commands r spelled only p = record {
+pub transcribed_file : (bytes : List ℕ) (commands : List Command) (r : Ready) → IsFile bytes commands → ((other : List Command) → IsFile bytes other → other ≡ commands) → IsTranscribed commands r → IsReady bytes r
+transcribed_file bytes commands r spelled only p = record {
   transcript = record { commands = commands; lines = r.lines.items; spelled = spelled; only = only; history = p.history; sound = p.sound; files = files_there r.lines.items p.built; printed = ap (λ (t : List ℕ). t ++ print_lines r.lines.items) p.header };
   built = p.built;
   room = p.room;
 }
 
 pub tried_of : (standing : Standing) (commands : List Command) (r : Ready) → IsReadAs standing commands → IsTranscribed commands r → IsTried standing r
-tried_of standing commands r read p = record { bytes = read.bytes; stands = read.stands; ready = ready_of read.bytes commands r read.spelled read.only p }
+tried_of standing commands r read p = record { bytes = read.bytes; stands = read.stands; ready = transcribed_file read.bytes commands r read.spelled read.only p }
 
 -- what is said of the bytes that were read is said of those that stand there
 pub told_of : (P : List ℕ → Type 0) (standing : Standing) (bytes : List ℕ) → IsStanding standing (Some bytes) → P bytes → Told standing P
@@ -61,14 +61,14 @@ stop_of standing before now bytes NoMemory stands h = tt
 stop_of standing before now bytes stop stands h = absurd h
 
 -- the stop of a fault of reading has its cause
-pub stop_of_fault : (bytes : List ℕ) (fault : ReadFault) → IsReadFault bytes fault → IsReadyStop bytes (stop_of_read fault)
-stop_of_fault bytes faults.TooLong (inl h) = h
-stop_of_fault bytes faults.TooLong (inr want) = absurd (cc want)
-stop_of_fault bytes (faults.TooMany n) (inl h) = h
-stop_of_fault bytes (faults.TooMany n) (inr want) = absurd (cc want)
-stop_of_fault bytes (faults.BadLine n) (inl h) = h
-stop_of_fault bytes (faults.BadLine n) (inr want) = absurd (cc want)
-stop_of_fault bytes faults.NoMemory h = tt
+pub fault_stops : (bytes : List ℕ) (fault : ReadFault) → IsReadFault bytes fault → IsReadyStop bytes (stop_of_read fault)
+fault_stops bytes faults.TooLong (inl h) = h
+fault_stops bytes faults.TooLong (inr want) = absurd (cc want)
+fault_stops bytes (faults.TooMany n) (inl h) = h
+fault_stops bytes (faults.TooMany n) (inr want) = absurd (cc want)
+fault_stops bytes (faults.BadLine n) (inl h) = h
+fault_stops bytes (faults.BadLine n) (inr want) = absurd (cc want)
+fault_stops bytes faults.NoMemory h = tt
 
 -- the message that was said is the stop's, or that of want of memory
 pub said_stop : (standing : Standing) (before now : ℕ) (path : List ℕ) (stop : Stop) (status : Status) (text : List ℕ) → IsFileStop standing before now stop → IsMessage path stop status text → StopsAt standing before now path status text

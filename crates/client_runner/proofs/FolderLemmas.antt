@@ -3,18 +3,18 @@ use Rattle.std.proofs.Common.{◌≡◌, ℕ, Some, None, ◌⊎◌, refl, inl, 
 use Rattle.udt_disk.specs.Causes.{Rose}
 use Rattle.udt_disk.specs.Joint.{Folder}
 use Rattle.udt_disk.specs.OpensFolder.{Holding}
-use Rattle.manifest.specs.declared.fold.Folded.{Folded}
-use Rattle.manifest.specs.Folders.{Means}
-use Rattle.manifest.specs.Folders.Meaning.{no_store, bad_at, store}
-use Rattle.manifest.proofs.Meanings.{means_once}
-use Rattle.recovery.specs.Fault.{RefusesOpening}
+use Rattle.head_manifest.specs.declared.fold.Folded.{Folded}
+use Rattle.head_manifest.specs.Folders.{Means}
+use Rattle.head_manifest.specs.Folders.Meaning.{no_store, bad_at, store}
+use Rattle.head_manifest.proofs.Meanings.{means_once}
+use Rattle.plain_recovery.specs.Fault.{RefusesOpening}
 use Rattle.client_runner.specs.Runs.{stop_of_opening}
 use Rattle.client_runner.specs.Stops.{IsOpenStop}
-use Rattle.recovery.specs.declared.fault.OpenFault.{OpenFault}
-use Rattle.recovery.specs.declared.fault.OpenFault.TheVariants as opening
+use Rattle.plain_recovery.specs.declared.fault.OpenFault.{OpenFault}
+use Rattle.plain_recovery.specs.declared.fault.OpenFault.TheVariants as opening
 use Rattle.client_runner.specs.declared.status.Stop.{Stop}
 use Rattle.client_runner.specs.declared.status.Stop.TheVariants.{NoStore, BadManifest, BadLog, DiskFault, NoMemory}
-use Rattle.recovery.proofs.OneRefusal.{IsToldRefusal}
+use Rattle.plain_recovery.proofs.OneRefusal.{IsToldRefusal}
 
 pub not_store : (folder : Folder) (fold : Folded) → Means folder no_store → Means folder (store fold) → ⊥
 not_store folder fold none some = cc (means_once folder no_store (store fold) none some)

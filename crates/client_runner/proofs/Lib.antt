@@ -3,8 +3,15 @@ pub mod FlowLemmas
 pub mod Transcribing
 pub mod OutputLemmas
 pub mod SyncLemmas
-pub mod RunLemmas
+pub mod LiveLog
+pub mod Closing
+pub mod MadeLines
+pub mod RunParts
+pub mod OpenedRun
+pub mod SameFolders
 pub mod GivenBack
+pub mod GivenRuns
+pub mod GivenMakings
 pub mod HostLemmas
 pub mod FaultLemmas
 pub mod FileLemmas

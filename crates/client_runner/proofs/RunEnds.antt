@@ -15,17 +15,17 @@ use Rattle.client_runner.specs.Works.{IsFileWork, IsRunWork}
 use Rattle.client_lang.specs.declared.grammar.lines.ReadFault.TheVariants as faults
 use Rattle.client_lang.specs.Grammar.{IsFile}
 use Rattle.client_runner.specs.Left.{Crashes, status_of_lines, tells_fault}
-use Rattle.recovery.specs.Fault.{RefusesOpening}
+use Rattle.plain_recovery.specs.Fault.{RefusesOpening}
 use Rattle.client_runner.specs.Runs.{stop_of_opening}
 use Rattle.client_runner.specs.Stops.{IsFileStop, message, status_of}
-use Rattle.recovery.specs.Stores.{FolderStands}
-use Rattle.recovery.specs.declared.fault.OpenFault.{OpenFault}
-use Rattle.recovery.specs.declared.fault.OpenFault.TheVariants as opening
+use Rattle.plain_recovery.specs.Stores.{FolderStands}
+use Rattle.plain_recovery.specs.declared.fault.OpenFault.{OpenFault}
+use Rattle.plain_recovery.specs.declared.fault.OpenFault.TheVariants as opening
 use Rattle.client_runner.specs.declared.status.Status.{Status}
 use Rattle.client_runner.specs.declared.status.Status.TheVariants as statuses
 use Rattle.client_runner.specs.declared.status.Stop.{Stop}
 use Rattle.client_runner.specs.declared.status.Stop.TheVariants.{NoFile, TooLong, TooMany, BadLine, SourceFault, NoStore, BadManifest, BadLog, NoMemory}
-use Rattle.recovery.proofs.OneRefusal.{IsToldRefusal, one_opening_refusal, refused_stands_for_none}
+use Rattle.plain_recovery.proofs.OneRefusal.{IsToldRefusal, one_opening_refusal, refused_stands_for_none}
 use Rattle.client_runner.proofs.FileLemmas.{not_refused, no_stop, not_missing, not_read, told_stop}
 use Rattle.client_runner.proofs.FolderLemmas.{IsOther, missing_met, opening_met}
 

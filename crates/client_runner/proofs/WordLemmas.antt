@@ -7,7 +7,7 @@ use Rattle.ts_key.specs.Names.{is_name}
 use Rattle.ts_key.specs.declared.version.Form.{Form}
 use Rattle.ts_key.specs.declared.numbers.Ts.{Ts}
 use Rattle.udt_model.specs.declared.line.FamilyHead.{FamilyHead}
-use Rattle.manifest.specs.Heads.{AreNew, IsNewFamily, IsNamed}
+use Rattle.head_manifest.specs.Heads.{AreNew, IsNewFamily, IsNamed}
 use Rattle.client_runner.specs.Commands.{IsHelpCommand, IsVersionCommand, IsTryCommand, IsInitCommand, IsRunCommand, IsInitWord, family_word, IsNamePart, IsFamilyWord, AreFamilyWords, AreHeadWords}
 
 -- ---- the words of families

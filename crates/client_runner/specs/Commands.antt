@@ -2,7 +2,7 @@
 use Rattle.std.specs.Prelude.{◌≡◌, ℕ, List, [], ◌∷◌, ◌++◌, All, map, codes, Option, Some, None}
 use Rattle.std.specs.Str.{IsUtf8}
 use Rattle.udt_model.specs.declared.line.FamilyHead.{FamilyHead}
-use Rattle.manifest.specs.Heads.{AreNew, IsNewFamily, IsNamed}
+use Rattle.head_manifest.specs.Heads.{AreNew, IsNewFamily, IsNamed}
 use Rattle.client_runner.specs.declared.words.Command.{Command}
 use Rattle.client_runner.specs.declared.words.Command.TheVariants.{Help, Version, Try, Init, Run}
 

@@ -8,9 +8,9 @@ use Rattle.client_runner.specs.Commands.{IsTryCommand, IsInitCommand, IsRunComma
 use Rattle.client_lang.specs.Grammar.{IsFile}
 use Rattle.udt_model.specs.declared.line.FamilyHead.{FamilyHead}
 use Rattle.udt_model.specs.State.{State}
-use Rattle.manifest.specs.Folders.{Means}
-use Rattle.manifest.specs.Folders.Meaning.{no_store}
-use Rattle.recovery.specs.Stores.{FolderStands}
+use Rattle.head_manifest.specs.Folders.{Means}
+use Rattle.head_manifest.specs.Folders.Meaning.{no_store}
+use Rattle.plain_recovery.specs.Stores.{FolderStands}
 use Rattle.client_runner.specs.declared.status.Status.{Status}
 use Rattle.client_runner.specs.declared.status.Status.TheVariants as statuses
 

@@ -13,10 +13,10 @@ use Rattle.udt_model.specs.declared.reply.Reply.TheVariants.{DroppedFault, Fault
 use Rattle.udt_model.specs.State.{State}
 use Rattle.udt_model.specs.Histories.{Point, start}
 use Rattle.udt_model.specs.Crashes.{IsOutcome, course_start, course_behind, settled}
-use Rattle.manifest.specs.Folders.{Means}
-use Rattle.manifest.specs.Folders.Meaning.{no_store}
-use Rattle.recovery.specs.Stores.{FolderStands}
-use Rattle.recovery.specs.Making.{new_state, IsMakingName}
+use Rattle.head_manifest.specs.Folders.{Means}
+use Rattle.head_manifest.specs.Folders.Meaning.{no_store}
+use Rattle.plain_recovery.specs.Stores.{FolderStands}
+use Rattle.plain_recovery.specs.Making.{new_state, IsMakingName}
 use Rattle.client_runner.specs.declared.status.Status.{Status}
 use Rattle.client_runner.specs.declared.status.Status.TheVariants as statuses
 

@@ -12,10 +12,10 @@ use Rattle.client_lang.specs.declared.grammar.lines.ReadFault.TheVariants as fau
 use Rattle.client_lang.specs.Faults.{Refuses}
 use Rattle.client_lang.specs.Grammar.{IsFile}
 use Rattle.udt_model.specs.declared.line.FamilyHead.{FamilyHead}
-use Rattle.manifest.specs.Folders.{Means}
-use Rattle.manifest.specs.Folders.Meaning.{bad_at, store}
-use Rattle.manifest.specs.declared.fold.Folded.{Folded}
-use Rattle.recovery.specs.Fault.{IsBadLog}
+use Rattle.head_manifest.specs.Folders.{Means}
+use Rattle.head_manifest.specs.Folders.Meaning.{bad_at, store}
+use Rattle.head_manifest.specs.declared.fold.Folded.{Folded}
+use Rattle.plain_recovery.specs.Fault.{IsBadLog}
 use Rattle.client_runner.specs.Stops.{message}
 use Rattle.client_runner.specs.declared.words.TheConstants.{HELP, VERSION}
 use Rattle.client_runner.specs.declared.status.Status.{Status}

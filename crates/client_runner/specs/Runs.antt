@@ -16,20 +16,20 @@ use Rattle.client_lang.specs.Print.{IsBuiltCommand, IsBuiltLine, print_header}
 use Rattle.solo_runner.specs.Expand.{IsRunHistory}
 use Rattle.client_runner.specs.Left.{IsLeft}
 use Rattle.udt_disk.specs.Moments.{IsClean}
-use Rattle.recovery.specs.Opening.{IsOpened}
-use Rattle.recovery.specs.Fault.{RefusesOpening}
+use Rattle.plain_recovery.specs.Opening.{IsOpened}
+use Rattle.plain_recovery.specs.Fault.{RefusesOpening}
 use Rattle.client_runner.specs.Output.{HasRoomForLines}
-use Rattle.manifest.specs.Manifest.{manifest_file}
+use Rattle.head_manifest.specs.Manifest.{manifest_file}
 use Rattle.udt_disk.specs.Moments.{OnlyReads, alone, holding}
 use Rattle.wal.specs.Wals.{wal_file}
-use Rattle.recovery.specs.declared.opening.Parts.{Parts}
+use Rattle.plain_recovery.specs.declared.opening.Parts.{Parts}
 use Rattle.solo_runner.specs.Sessions.{HasSession}
 use Rattle.solo_runner.specs.Solo.{AreSoundUnless}
 use Rattle.solo_runner.specs.declared.logged.LoggedStore.{LoggedStore}
-use Rattle.recovery.specs.Stores.{FolderStands}
+use Rattle.plain_recovery.specs.Stores.{FolderStands}
 use Rattle.client_runner.specs.declared.output.Ready.{Ready}
-use Rattle.recovery.specs.declared.fault.OpenFault.{OpenFault}
-use Rattle.recovery.specs.declared.fault.OpenFault.TheVariants as faults
+use Rattle.plain_recovery.specs.declared.fault.OpenFault.{OpenFault}
+use Rattle.plain_recovery.specs.declared.fault.OpenFault.TheVariants as faults
 use Rattle.client_runner.specs.declared.status.Stop.{Stop}
 use Rattle.client_runner.specs.declared.status.Stop.TheVariants.{NoStore, BadManifest, BadLog, DiskFault, NoMemory}
 

@@ -7,10 +7,10 @@ use Rattle.udt_disk.specs.OpensFolder.{Holding}
 use Rattle.client_lang.specs.declared.grammar.lines.ReadFault.TheVariants as faults
 use Rattle.client_lang.specs.Faults.{Refuses}
 use Rattle.client_lang.specs.Print.{line_of}
-use Rattle.manifest.specs.declared.fold.Folded.{Folded}
-use Rattle.manifest.specs.Folders.{Means}
-use Rattle.manifest.specs.Folders.Meaning.{no_store, bad_at, store}
-use Rattle.recovery.specs.Fault.{IsBadLog}
+use Rattle.head_manifest.specs.declared.fold.Folded.{Folded}
+use Rattle.head_manifest.specs.Folders.{Means}
+use Rattle.head_manifest.specs.Folders.Meaning.{no_store, bad_at, store}
+use Rattle.plain_recovery.specs.Fault.{IsBadLog}
 use Rattle.client_runner.specs.Left.{TellsFolder, TellsNoneOr}
 use Rattle.client_runner.specs.declared.status.Status.{Status}
 use Rattle.client_runner.specs.declared.status.Status.TheVariants as statuses

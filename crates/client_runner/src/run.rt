@@ -13,14 +13,14 @@ ghost use Rattle.client_lang.specs.Stamps.{IsStampedCommand};
 ghost use Rattle.client_runner.specs.Hosts.{UsesFolder, StaysElsewhere, FileStaysOrGoes};
 ghost use Rattle.client_runner.specs.HostRuns.{IsRunAt, IsRunFrom, IsStoppedAt, IsStoppedFrom};
 ghost use Rattle.client_runner.specs.Left.{crashes, status_of_lines as status_of_list, tells_fault as reply_tells};
-ghost use Rattle.solo_runner.specs.LoggedStores.{IsInStep, state_of, wal_of};
+ghost use Rattle.solo_runner.specs.LoggedStores.{IsInStep, store_state, wal_of};
 ghost use Rattle.client_runner.specs.Runs.{CanRun, HasRunOver, HasRunParts, IsRunReady, IsRunRefused, stop_of_opening};
 
 use crate::output::{Ready, header_of, ready_of};
 use crate::reading::read_commands;
 use crate::status::{Status, Stop};
 use client_lang::Command;
-use recovery::{OpenFault, Parts, open_store};
+use plain_recovery::{OpenFault, Parts, open_store};
 use solo_runner::{LoggedStore, PlainStore, run_and_sync};
 use std::alloc::{AllocError, Global};
 use ts_key::NoMemory;
@@ -64,7 +64,7 @@ fn run_over<F: DiskFile>(
     header: Vec<u8>,
 ) -> Result<Ready, NoMemory>
     requires can_run { CanRun commands.items lines }
-    requires in_step { IsInStep F.DiskFile (wal_of store.old) (state_of store.old) }
+    requires in_step { IsInStep F.DiskFile (wal_of store.old) (store_state store.old) }
     ensures { HasRunOver F.DiskFile store.old store.new commands.items header.items result }
 {
     let lines = run_and_sync(store, commands, lines);

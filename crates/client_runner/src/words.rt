@@ -11,7 +11,7 @@ ghost use Rattle.client_runner.specs.Commands.{
   IsNamePart,
 };
 
-use manifest::Head;
+use head_manifest::Head;
 use std::alloc::{AllocError, Global};
 use ts_key::{Form, Name, NameFault, NoMemory, Ts};
 use udt_disk::Text;

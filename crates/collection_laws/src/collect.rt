@@ -171,8 +171,8 @@ fn place_of(versions: &[Version], v: &Version) -> usize
     }
 }
 
-/// The versions in the stored order.
-fn in_order(alloc: Global, versions: Vec<Version>) -> Result<Vec<Version>, NoMemory>
+/// The versions in the stored order, in the time of their square.
+pub fn in_order(alloc: Global, versions: Vec<Version>) -> Result<Vec<Version>, NoMemory>
     ensures { IfOk result (λ ordered. ordered.items ≡ stored versions.items) }
 {
     let mut rest = versions;

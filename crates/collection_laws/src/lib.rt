@@ -3,4 +3,4 @@
 
 mod collect;
 
-pub use collect::plain_collect;
+pub use collect::{in_order, plain_collect};

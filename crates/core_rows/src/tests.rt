@@ -3,3 +3,4 @@
 mod events;
 mod refusals;
 mod rows;
+mod script;

@@ -13,7 +13,7 @@ use Rattle.udt_model.specs.Acts.Act.{compact_end, flush_end, flush_start, raise,
 use Rattle.udt_model.specs.Steps.{IsReplyTo, after}
 use Rattle.udt_model.specs.Crashes.{Course, Failing, IsChanged, IsFailed, IsOutcome, IsOutcomeUnder, course_after, cut_at, ends_after, failing_after, is_change, syncs}
 use Rattle.manifest_edit.specs.declared.edit.Edit.{Edit}
-use Rattle.manifest_fold.specs.declared.limits.TheConstants.{FILE_LIMIT}
+use Rattle.manifest_fold.specs.declared.limits.TheConstants.{FILE_NUMBER_LIMIT}
 use Rattle.floor_laws.specs.Sound.{IsSoundCourse}
 use Rattle.floor_laws.proofs.Courses.{course_sound}
 use Rattle.floor_laws.proofs.Told.{sound_after}
@@ -40,7 +40,7 @@ act_holds m c s waiting number act reply edit h r is_sync ends may =
     edit_holds_on m c (with_batches s waiting) edit next k may d (edit_course m c (with_batches s waiting) edit next k may d ends low (course_sound m c number act reply h.sound h.course.sound r))
 
 module _ (m : State) (c : Course) (s : Says) (waiting : List Numbered) (number : ℕ) (family : Family) (log : ℕ)
-    (h : Holds m c s waiting) (r : IsReplyTo m (flush_start family) (OkAt m.last.0)) (new : s.fold.next_file ≤ log) (most : log + 1 ≤ FILE_LIMIT) (empty : s.logs log ≡ []) where
+    (h : Holds m c s waiting) (r : IsReplyTo m (flush_start family) (OkAt m.last.0)) (new : s.fold.next_file ≤ log) (most : log + 1 ≤ FILE_NUMBER_LIMIT) (empty : s.logs log ≡ []) where
   abbrev sealed : State
   sealed = after m number (flush_start family) (OkAt m.last.0)
 

@@ -7,7 +7,8 @@ use Rattle.manifest_edit.specs.Edits.{IsEdit}
 use Rattle.manifest_fold.specs.declared.fold.Folded.{Folded}
 use Rattle.manifest_fold.specs.Folds.{IsAccepted, fold_with}
 use Rattle.manifest_fold.specs.Bodies.{LeadAll}
-use Rattle.engine_laws.specs.Manifests.{HasFold, IsManifest}
+use Rattle.manifest.specs.Files.{HasFold}
+use Rattle.manifest.specs.Folds.{IsManifest}
 
 lead_more : (start fold : Folded) (bodies : List (List ℕ)) (edit : Edit) (body : List ℕ) → LeadAll start bodies fold → IsEdit body edit → IsAccepted fold edit → LeadAll start (bodies ++ body ∷ []) (fold_with fold edit)
 lead_more start fold [] edit body h spelled accepted = (fold_with fold edit, record { edit = edit; spelled = spelled; accepted = subst (λ z. IsAccepted z edit) h accepted; is = subst (λ z. fold_with fold edit ≡ fold_with z edit) h refl }, refl)

@@ -14,9 +14,9 @@ use Rattle.udt_model.specs.Acts.{Act}
 use Rattle.udt_model.specs.Steps.{IsTold, after, is_running}
 use Rattle.udt_model.specs.Crashes.{Course, IsOutcome, IsOutcomeUnder, is_change, settled}
 use Rattle.manifest_edit.specs.declared.edit.Edit.{Edit}
+use Rattle.manifest.specs.Folders.{IsManifestName}
 use Rattle.engine_laws.specs.Standing.{Grammar, Reads, Says, StandsForSome}
 use Rattle.engine_laws.specs.Engine.{Holds, IsOutcomeOr, MayEdit, with_batches, with_edit}
-use Rattle.engine_laws.specs.Moves.{IsManifestName}
 use Rattle.engine_laws.specs.Joints.{IsNowLast}
 use Rattle.engine_laws.specs.JointLaws.{EditCall, RestIn}
 use Rattle.engine_laws.proofs.Resting.{stands_rest}

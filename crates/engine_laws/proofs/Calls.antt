@@ -15,10 +15,11 @@ use Rattle.udt_model.specs.Acts.Act.{write}
 use Rattle.udt_model.specs.Steps.{IsReplyTo, IsTold, after, is_running}
 use Rattle.udt_model.specs.Crashes.{Course, IsChanged, IsOutcome, IsOutcomeUnder, cut_at, is_change, settled}
 use Rattle.manifest_edit.specs.declared.edit.Edit.{Edit}
+use Rattle.manifest.specs.Folders.{IsManifestName}
 use Rattle.floor_laws.proofs.Told.{told_of}
 use Rattle.engine_laws.specs.Standing.{Grammar, Reads, Says, StandsForSome}
 use Rattle.engine_laws.specs.Engine.{AreSameKept, Holds, IsOnCourse, IsOutcomeOr, MayEdit, durable_last, next_batch, with_batches, with_edit}
-use Rattle.engine_laws.specs.Moves.{Appending, Images, IsManifestName, IsReady, IsSafe, Rests, Syncing}
+use Rattle.engine_laws.specs.Moves.{Appending, Images, IsReady, IsSafe, Rests, Syncing}
 use Rattle.engine_laws.proofs.Resting.{stands_rest, whole_outcome, whole_stands}
 use Rattle.engine_laws.proofs.Syncing.{sync_stands, write_holds_on}
 use Rattle.engine_laws.proofs.Editing.{edit_stands}

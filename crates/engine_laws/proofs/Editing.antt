@@ -17,10 +17,11 @@ use Rattle.manifest_fold.specs.declared.fold.FamilyFold.{FamilyFold}
 use Rattle.manifest_fold.specs.declared.fold.Folded.{Folded}
 use Rattle.manifest_fold.specs.Folds.{IsAccepted, fold_with, newest_log}
 use Rattle.ts_key.specs.declared.limits.TheConstants.{STAMP_SIZE}
+use Rattle.manifest.specs.Folds.{sizes_of}
 use Rattle.floor_laws.specs.Sound.{IsSoundCourse}
 use Rattle.floor_laws.proofs.Members.{In, In-contains, In-right, contains_In, All-In, filter_none, filter_within}
 use Rattle.floor_laws.proofs.Kept.{same_number}
-use Rattle.engine_laws.specs.Logs.{sizes_of, above, is_above, versions_of, last_of, last_over, batches_of}
+use Rattle.engine_laws.specs.Logs.{above, is_above, versions_of, last_of, last_over, batches_of}
 use Rattle.engine_laws.specs.Manifests.{IsWell}
 use Rattle.engine_laws.specs.Standing.{Says, StandsFor, family_said, live_batches}
 use Rattle.engine_laws.specs.Engine.{durable_last, with_edit, Holds, IsOnCourse, MayEdit}

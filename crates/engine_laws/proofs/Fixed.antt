@@ -1,7 +1,6 @@
 -- What the bytes of a folder fix: what they say, and so all of the states that it stands for but the versions that tables no longer tell.
-use Rattle.std.proofs.Common.{◌≡◌, ℕ, zero, suc, ◌<◌, ◌≤◌, ◌==◌, ◌&&◌, Bool, List, [], ◌∷◌, ◌++◌, map, drop, length, append_assoc, Some, None, refl, sym, ap, ◌∙◌, subst, arith}
-use Rattle.std.specs.Prelude.{All, Contains, flat_map, nat_le, nat_lt, slice_get}
-use Rattle.std.proofs.lemmas.List.Elements.{All-head, All-tail}
+use Rattle.std.proofs.Common.{◌≡◌, ℕ, zero, suc, ◌<◌, ◌≤◌, ◌==◌, ◌&&◌, Bool, List, [], ◌∷◌, map, length, Some, None, refl, sym, ap, ◌∙◌, subst, arith}
+use Rattle.std.specs.Prelude.{Contains, nat_le, nat_lt, slice_get}
 use Rattle.std.proofs.lemmas.Bool.{and_from, and_parts, le-leb}
 use Rattle.std.proofs.lemmas.List.{length-map}
 use Rattle.ts_key.specs.declared.numbers.Family.{Family}
@@ -10,101 +9,26 @@ use Rattle.ts_key.specs.declared.version.Version.{Version}
 use Rattle.udt_disk.specs.Crash.{Image}
 use Rattle.udt_disk.specs.Joint.{Folder}
 use Rattle.udt_disk.specs.declared.name.FileName.TheVariants.{Log, Table}
-use Rattle.gate_log.proofs.Reading.{only_log}
 use Rattle.wal.specs.declared.numbered.Numbered.{Numbered}
 use Rattle.wal.specs.Replays.{ReadsAs}
 use Rattle.wal.proofs.Logs.{log_holds_one}
 use Rattle.udt_model.specs.Versions.{AreWritten, between}
 use Rattle.udt_model.specs.State.{FamilyState, State, family_at}
-use Rattle.byteorder.specs.Endian.{little_bytes, little_number}
-use Rattle.byteorder.specs.Numbers.{little_number-reads_back}
-use Rattle.ts_key.specs.declared.numbers.Ts.{Ts}
-use Rattle.ts_key.specs.declared.version.Form.{Form}
-use Rattle.ts_key.specs.declared.version.Form.TheVariants.{Persist, Strip}
-use Rattle.udt_model.specs.declared.line.FamilyHead.{FamilyHead}
-use Rattle.manifest.specs.Folders.{chosen}
-use Rattle.manifest.specs.Heads.{family_text, form_code, head_text}
-use Rattle.manifest_edit.specs.declared.edit.Edit.{Edit}
-use Rattle.manifest_edit.specs.Edits.{IsEdit}
-use Rattle.manifest_edit.proofs.Parts.{edits_unique}
 use Rattle.manifest_fold.specs.declared.fold.Folded.{Folded}
-use Rattle.manifest_fold.specs.Folds.{fold_with}
-use Rattle.manifest_fold.specs.Bodies.{LeadAll, LeadsTo}
+use Rattle.manifest_fold.specs.Bodies.{LeadAll}
+use Rattle.manifest.specs.Files.{HasFold}
+use Rattle.manifest.specs.Folders.{chosen}
+use Rattle.manifest.specs.Folds.{IsManifest, family_fold, fold_of, sizes_of}
+use Rattle.manifest.proofs.Meanings.{fold_once}
 use Rattle.floor_laws.proofs.Members.{In, All-In, filter-In, filter_every, filter_within}
 use Rattle.floor_laws.proofs.Reopening.{written_fixed}
-use Rattle.engine_laws.specs.Logs.{above, is_above, last_over, sizes_of, versions_of}
-use Rattle.engine_laws.specs.Manifests.{HasFold, IsLive, IsManifest, IsStoreHead, family_fold, fold_of}
+use Rattle.engine_laws.specs.Logs.{above, is_above, last_over, versions_of}
+use Rattle.engine_laws.specs.Manifests.{IsLive}
 use Rattle.engine_laws.specs.Standing.{Alike, FolderStands, Grammar, IsOneSaid, Reads, Says, TableReads, TableSays, live_batches}
 use Rattle.engine_laws.specs.Engine.{AreSameKept, SameLive}
 use Rattle.engine_laws.proofs.Folding.{families_length}
 use Rattle.engine_laws.proofs.Calls.{same_settled}
 use Rattle.engine_laws.proofs.Keeping.{same_batches, same_families}
-
--- ---- one head of a manifest
-
--- parts that are as long
-front_same : (a b x y : List ℕ) → length a ≡ length b → a ++ x ≡ b ++ y → (a ≡ b) × (x ≡ y)
-front_same [] [] x y e same = (refl, same)
-front_same [] (n ∷ b) x y e same = absurd (omega (arith, e))
-front_same (n ∷ a) [] x y e same = absurd (omega (arith, e))
-front_same (n ∷ a) (k ∷ b) x y e same =
-    let r = front_same a b x y (omega (arith, e)) (cc) in
-    let h : n ≡ k = cc in
-    (ap (λ z. z ∷ a) h ∙ ap (λ z. k ∷ z) r.0, r.1)
-
-form_same : (a b : Form) → form_code a ≡ form_code b → a ≡ b
-form_same Persist Persist e = refl
-form_same Persist Strip e = absurd (omega (arith, e))
-form_same Strip Persist e = absurd (omega (arith, e))
-form_same Strip Strip e = refl
-
-family_same : (f g : FamilyHead) (x y : List ℕ) → f.floor.0 ≡ 0 → g.floor.0 ≡ 0 → family_text f ++ x ≡ family_text g ++ y → (f ≡ g) × (x ≡ y)
-family_same f g x y zf zg same =
-    let long : length f.name ≡ length g.name = cc in
-    let tails : (f.name ++ form_code f.form ∷ 8 ∷ []) ++ x ≡ (g.name ++ form_code g.form ∷ 8 ∷ []) ++ y = cc in
-    let r = front_same f.name g.name (form_code f.form ∷ 8 ∷ x) (form_code g.form ∷ 8 ∷ y) long (sym (append_assoc f.name (form_code f.form ∷ 8 ∷ []) x) ∙ tails ∙ append_assoc g.name (form_code g.form ∷ 8 ∷ []) y) in
-    let code : form_code f.form ≡ form_code g.form = let q = r.1 in cc in
-    let rest : x ≡ y = let q = r.1 in cc in
-    let form = form_same f.form g.form code in
-    let floor : f.floor ≡ g.floor = ap (λ z. let t : Ts = record { 0 = z } in t) (zf ∙ sym zg) in
-    (ap (λ z. let h : FamilyHead = record { name = z; form = f.form; floor = f.floor } in h) r.0 ∙ ap (λ z. let h : FamilyHead = record { name = g.name; form = z; floor = f.floor } in h) form ∙ ap (λ z. let h : FamilyHead = record { name = g.name; form = g.form; floor = z } in h) floor, rest)
-
-heads_same : (fs gs : List FamilyHead) → All (λ (f : FamilyHead). f.floor.0 ≡ 0) fs → All (λ (f : FamilyHead). f.floor.0 ≡ 0) gs → length fs ≡ length gs → flat_map family_text fs ≡ flat_map family_text gs → fs ≡ gs
-heads_same [] [] p q long same = refl
-heads_same [] (g ∷ gs) p q long same = absurd (omega (arith, long))
-heads_same (f ∷ fs) [] p q long same = absurd (omega (arith, long))
-heads_same (f ∷ fs) (g ∷ gs) p q long same =
-    let zero_floor : FamilyHead → Type 0 = λ h. h.floor.0 ≡ 0 in
-    let r = family_same f g (flat_map family_text fs) (flat_map family_text gs) (All-head zero_floor f fs p) (All-head zero_floor g gs q) same in
-    ap (λ z. z ∷ fs) r.0 ∙ ap (λ z. g ∷ z) (heads_same fs gs (All-tail zero_floor f fs p) (All-tail zero_floor g gs q) (omega (arith, long)) r.1)
-
--- a body is the head of one list of families at most
-head_once : (body : List ℕ) (fs gs : List FamilyHead) → IsStoreHead body fs → IsStoreHead body gs → fs ≡ gs
-head_once body fs gs p q =
-    let same : head_text fs ≡ head_text gs = sym p.is ∙ q.is in
-    let count : little_number 4 (little_bytes 4 (length fs) ++ flat_map family_text fs) ≡ little_number 4 (little_bytes 4 (length gs) ++ flat_map family_text gs) = ap (λ z. little_number 4 (drop 2 z)) same in
-    let long : length fs ≡ length gs = sym (little_number-reads_back 4 (length fs) (flat_map family_text fs) (let l = p.few in omega (arith, l))) ∙ count ∙ little_number-reads_back 4 (length gs) (flat_map family_text gs) (let l = q.few in omega (arith, l)) in
-    heads_same fs gs p.floors q.floors long (ap (drop 6) same)
-
--- ---- one fold of a manifest
-
-edit_once : (body : List ℕ) (v w : Edit) → IsEdit body v → IsEdit body w → v ≡ w
-edit_once body v w a b = (edits_unique v w [] [] a.sized b.sized (ap (λ z. z ++ []) (sym a.is ∙ b.is))).0
-
-leads_once : (fold a b : Folded) (body : List ℕ) → LeadsTo fold body a → LeadsTo fold body b → a ≡ b
-leads_once fold a b body x y = x.is ∙ ap (fold_with fold) (edit_once body x.edit y.edit x.spelled y.spelled) ∙ sym y.is
-
-all_once : (fold a b : Folded) (bodies : List (List ℕ)) → LeadAll fold bodies a → LeadAll fold bodies b → a ≡ b
-all_once fold a b [] x y = x ∙ sym y
-all_once fold a b (body ∷ bodies) x y = all_once x.0 a b bodies x.2 (subst (λ z. LeadAll z bodies b) (leads_once fold y.0 x.0 body y.1 x.1) y.2)
-
-pub manifest_once : (bodies : List (List ℕ)) (a b : Folded) → IsManifest bodies a → IsManifest bodies b → a ≡ b
-manifest_once [] a b x y = absurd x
-manifest_once (body ∷ bodies) a b x y = all_once (fold_of x.0) a b bodies x.2 (subst (λ z. LeadAll (fold_of z) bodies b) (head_once body y.0 x.0 y.1 x.1) y.2)
-
-fold_once : (image : Image) (a b : Folded) → HasFold image a → HasFold image b → a ≡ b
-fold_once None a b x y = absurd x
-fold_once (Some bytes) a b x y = manifest_once x.0 a b x.2 (subst (λ z. IsManifest z b) (only_log y.0 x.0 bytes y.1 x.1) y.2)
 
 -- ---- one account of a folder
 
@@ -118,7 +42,7 @@ manifest_few : (bodies : List (List ℕ)) (fold : Folded) → IsManifest bodies 
 manifest_few [] fold h = absurd h
 manifest_few (body ∷ bodies) fold h =
     let e : length (map family_fold h.0) ≡ length h.0 = simp length-map in
-    let l = h.1.few in
+    let l = h.1.new.few in
     all_few (fold_of h.0) fold bodies h.2 (omega (arith, e, l))
 
 fold_few : (image : Image) (fold : Folded) → HasFold image fold → length fold.families ≤ 16
@@ -136,8 +60,8 @@ table_once g (Some bytes) a b one p q = one bytes a b p q
 -- a folder says one thing of what is live
 pub reads_once : (g : Grammar) (folder : Folder) (a b : Says) → IsOneSaid g → Reads g folder a → Reads g folder b → SameLive a b
 reads_once g folder a b one p q =
-    let fold : a.fold ≡ b.fold = fold_once (folder (chosen folder)) a.fold b.fold p.means.has q.means.has in
-    let few : length (sizes_of a.fold) ≤ 16 = let e : length (sizes_of a.fold) ≡ length a.fold.families = simp length-map in let l = fold_few (folder (chosen folder)) a.fold p.means.has in omega (arith, e, l) in
+    let fold : a.fold ≡ b.fold = fold_once (folder (chosen folder)) a.fold b.fold p.means.1 q.means.1 in
+    let few : length (sizes_of a.fold) ≤ 16 = let e : length (sizes_of a.fold) ≡ length a.fold.families = simp length-map in let l = fold_few (folder (chosen folder)) a.fold p.means.1 in omega (arith, e, l) in
     record {
       fold = sym fold;
       logs = λ n i. sym (log_once (sizes_of a.fold) (a.logs n) (b.logs n) (folder (Log n)) few (p.logs n i)

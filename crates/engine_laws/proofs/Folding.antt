@@ -16,10 +16,11 @@ use Rattle.manifest_fold.specs.declared.fold.Folded.{Folded}
 use Rattle.manifest_fold.specs.declared.limits.TheConstants.{LOWEST_LEVEL}
 use Rattle.manifest_fold.specs.Folds.{IsAccepted, IsFree, IsFamilyEdit, IsPart, family_with, families_with, fold_with, is_live, newest_log, put_over}
 use Rattle.manifest_fold.specs.Bodies.{LeadAll}
+use Rattle.manifest.specs.Folds.{family_fold, fold_of}
 use Rattle.floor_laws.proofs.Members.{In, In-contains, contains_In, All-In, All-from, In-append, In-left, filter-In, any-In, In-any}
 use Rattle.floor_laws.proofs.Kept.{same_number}
 use Rattle.floor_laws.proofs.Tables.{Sorted}
-use Rattle.engine_laws.specs.Manifests.{IsLive, IsWell, family_fold, fold_of, number_of}
+use Rattle.engine_laws.specs.Manifests.{IsLive, IsWell, number_of}
 use Rattle.engine_laws.proofs.Places.{get-map, get-set, get-In, length-set}
 use Rattle.engine_laws.proofs.Ascending.{newest_of, rising_sorted, sorted_rising, sorted_append, sorted_drop, sorted_apart, drop-In}
 use Rattle.engine_laws.proofs.Placing.{placed-In, sorted_filter, sorted_placed}

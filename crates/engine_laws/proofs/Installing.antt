@@ -24,7 +24,7 @@ use Rattle.manifest_edit.specs.declared.edit.FamilyEdit.{FamilyEdit}
 use Rattle.manifest_edit.specs.declared.edit.Edit.{Edit}
 use Rattle.manifest_edit.specs.LiveTables.{has_table_number, place_tables, without_tables}
 use Rattle.manifest_fold.specs.declared.fold.FamilyFold.{FamilyFold}
-use Rattle.manifest_fold.specs.declared.limits.TheConstants.{FILE_LIMIT, LOWEST_LEVEL}
+use Rattle.manifest_fold.specs.declared.limits.TheConstants.{FILE_NUMBER_LIMIT, LOWEST_LEVEL}
 use Rattle.manifest_fold.specs.Folds.{IsFree, IsLogsEdit, IsPart, family_with, families_with, is_live, newest_log}
 use Rattle.floor_laws.specs.Sound.{IsSoundState}
 use Rattle.floor_laws.proofs.Members.{In, In-contains, contains_In, All-In, All-from, In-left, In-right, In-filter, filter-In, filter_every, In-map, map-In, any-In}
@@ -170,7 +170,7 @@ raise_may m c s number i floor old next h r there file =
 
 -- ---- a roll
 
-pub roll_may : (m next : State) (c : Course) (s : Says) (n : ℕ) → Holds m c s [] → s.fold.next_file ≤ n → n + 1 ≤ FILE_LIMIT → s.logs n ≡ [] → AreSameKept m next → IsSoundState next → MayEdit m s (roll_edit m.last n) next
+pub roll_may : (m next : State) (c : Course) (s : Says) (n : ℕ) → Holds m c s [] → s.fold.next_file ≤ n → n + 1 ≤ FILE_NUMBER_LIMIT → s.logs n ≡ [] → AreSameKept m next → IsSoundState next → MayEdit m s (roll_edit m.last n) next
 roll_may m next c s n h new most empty k sound =
     let edit = roll_edit m.last n in
     let top = newest_of s.fold.logs h.well.some (rising_sorted s.fold.logs h.well.sorted) in

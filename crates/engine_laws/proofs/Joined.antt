@@ -24,11 +24,13 @@ use Rattle.udt_model.specs.Steps.{IsReplyTo}
 use Rattle.udt_model.specs.Crashes.{Course, IsOutcome, IsOutcomeUnder}
 use Rattle.manifest_edit.specs.declared.edit.Edit.{Edit}
 use Rattle.manifest_fold.specs.Folds.{fold_with}
-use Rattle.engine_laws.specs.Logs.{sizes_of}
-use Rattle.engine_laws.specs.Manifests.{HasFold, IsWell}
+use Rattle.manifest.specs.Files.{HasFold}
+use Rattle.manifest.specs.Folders.{IsManifestName}
+use Rattle.manifest.specs.Folds.{sizes_of}
+use Rattle.engine_laws.specs.Manifests.{IsWell}
 use Rattle.engine_laws.specs.Standing.{Grammar, Reads, Says, StandsForSome}
 use Rattle.engine_laws.specs.Engine.{Holds, IsOutcomeOr, MayEdit, newest_of, next_batch, with_batches, with_edit}
-use Rattle.engine_laws.specs.Moves.{Appending, AreDead, AreImages, Images, IsManifestName, IsReady, Rests, Syncing}
+use Rattle.engine_laws.specs.Moves.{Appending, AreDead, AreImages, Images, IsReady, Rests, Syncing}
 use Rattle.engine_laws.specs.Joints.{IsNowLast, OneRan}
 use Rattle.engine_laws.proofs.Editing.{newest_live}
 use Rattle.engine_laws.proofs.Moving.{appended_rests, newest_log_is, not_live, rest_reads, rest_safe, synced_rests}

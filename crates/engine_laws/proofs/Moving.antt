@@ -11,19 +11,21 @@ use Rattle.wal.specs.declared.numbered.Numbered.{Numbered}
 use Rattle.wal.specs.Replays.{ReadsAs}
 use Rattle.udt_model.specs.State.{State}
 use Rattle.udt_model.specs.Crashes.{Course, IsOutcome}
-use Rattle.manifest.specs.Folders.{chosen, chosen_by}
 use Rattle.manifest_edit.specs.declared.edit.TableAt.{TableAt}
 use Rattle.manifest_edit.specs.declared.edit.FamilyEdit.{FamilyEdit}
 use Rattle.manifest_edit.specs.declared.edit.Edit.{Edit}
 use Rattle.manifest_fold.specs.declared.fold.FamilyFold.{FamilyFold}
 use Rattle.manifest_fold.specs.declared.fold.Folded.{Folded}
 use Rattle.manifest_fold.specs.Folds.{IsAccepted, IsPart, families_with, fold_with}
+use Rattle.manifest.specs.Files.{HasFold}
+use Rattle.manifest.specs.Folders.Meaning.{store}
+use Rattle.manifest.specs.Folders.{Means, IsManifestName, chosen, chosen_by}
+use Rattle.manifest.specs.Folds.{sizes_of}
 use Rattle.floor_laws.proofs.Members.{In, In-contains, contains_In}
-use Rattle.engine_laws.specs.Logs.{sizes_of}
-use Rattle.engine_laws.specs.Manifests.{HasFold, IsLive, MeansStore}
+use Rattle.engine_laws.specs.Manifests.{IsLive}
 use Rattle.engine_laws.specs.Standing.{FolderStands, Grammar, Reads, Says, TableReads}
 use Rattle.engine_laws.specs.Engine.{Holds, SameLive, newest_of, with_batches, with_edit}
-use Rattle.engine_laws.specs.Moves.{Appending, AreDead, AreImages, Chosen, Images, IsLiveName, IsManifestName, IsReady, IsSafe, LogRests, ManifestRests, Rests, TableRests, Syncing, TouchesOne, TouchesOnly, added_tables}
+use Rattle.engine_laws.specs.Moves.{Appending, AreDead, AreImages, Chosen, Images, IsLiveName, IsReady, IsSafe, LogRests, ManifestRests, Rests, TableRests, Syncing, TouchesOne, TouchesOnly, added_tables}
 use Rattle.engine_laws.proofs.Folding.{In_live, logs_In, table_from}
 use Rattle.engine_laws.proofs.Editing.{sizes_stay}
 use Rattle.engine_laws.proofs.Resting.{stands_rest}
@@ -52,11 +54,11 @@ log_same n k q = cc
 chosen_is : (images : Images) (manifest : FileName) (folder : Folder) → Chosen images manifest → AreImages images folder → chosen folder ≡ manifest
 chosen_is images manifest folder h left = h.chooses (folder Current) (left Current)
 
-means_of : (images : Images) (manifest : FileName) (folder : Folder) (fold : Folded) → Chosen images manifest → AreImages images folder → HasFold (folder manifest) fold → MeansStore folder fold
-means_of images manifest folder fold h left has = record {
-  made = h.made (folder Made) (left Made);
-  has = subst (λ z. HasFold (folder z) fold) (sym (chosen_is images manifest folder h left)) has;
-}
+means_of : (images : Images) (manifest : FileName) (folder : Folder) (fold : Folded) → Chosen images manifest → AreImages images folder → HasFold (folder manifest) fold → Means folder (store fold)
+means_of images manifest folder fold h left has = (
+  h.made (folder Made) (left Made),
+  subst (λ z. HasFold (folder z) fold) (sym (chosen_is images manifest folder h left)) has,
+)
 
 pub rest_reads : (g : Grammar) (images : Images) (manifest : FileName) (s : Says) (folder : Folder) → Rests g images manifest s → AreImages images folder → Reads g folder s
 rest_reads g images manifest s folder h left = record {
@@ -105,7 +107,7 @@ module _ (g : Grammar) (old new : Images) (manifest : FileName) (is : IsManifest
   pub syncing_reads : Syncing s waiting old new → (folder : Folder) → AreImages new folder → Reads g folder s ⊎ Reads g folder (with_batches s waiting)
   syncing_reads y folder left =
       let ch = chosen_stays (Log newest) y.touches (λ q. cc) (λ q. cc) in
-      let means : MeansStore folder s.fold = means_of new manifest folder s.fold ch left (r.manifests (folder manifest) (y.touches manifest (λ q. not_log manifest newest is (sym q)) (folder manifest) (left manifest))) in
+      let means : Means folder (store s.fold) = means_of new manifest folder s.fold ch left (r.manifests (folder manifest) (y.touches manifest (λ q. not_log manifest newest is (sym q)) (folder manifest) (left manifest))) in
       let tables : (i : Family) (f : FamilyFold) (t : TableAt) → IsLive s.fold i f t → TableReads g (folder (Table t.number)) (s.tables t.number) =
       λ i f t l. r.tables i f t l (folder (Table t.number)) (y.touches (Table t.number) (λ q. cc) (folder (Table t.number)) (left (Table t.number))) in
       elim (y.either (folder (Log newest)) (left (Log newest))) [
@@ -203,10 +205,10 @@ pub other_reads : (g : Grammar) (folder other : Folder) (s : Says) → ((n : Fil
 other_reads g folder other s same r =
     let current : chosen other ≡ chosen folder = ap chosen_by (same Current tt) in
     record {
-      means = record {
-        made = λ q. r.means.made (sym (same Made tt) ∙ q);
-        has = subst (λ z. HasFold (other z) s.fold) (sym current) (subst (λ z. HasFold z s.fold) (sym (same (chosen folder) (chosen-own (folder Current) s.fold))) r.means.has);
-      };
+      means = (
+        (λ q. r.means.0 (sym (same Made tt) ∙ q)),
+        subst (λ z. HasFold (other z) s.fold) (sym current) (subst (λ z. HasFold z s.fold) (sym (same (chosen folder) (chosen-own (folder Current) s.fold))) r.means.1),
+      );
       logs = λ n i. subst (λ z. ReadsAs (sizes_of s.fold) (s.logs n) z) (sym (same (Log n) i)) (r.logs n i);
       tables = λ i f t l. subst (λ z. TableReads g z (s.tables t.number)) (sym (same (Table t.number) (i, f, t, l, refl))) (r.tables i f t l);
     }

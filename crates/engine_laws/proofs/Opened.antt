@@ -16,13 +16,15 @@ use Rattle.wal.specs.declared.numbered.Numbered.{Numbered}
 use Rattle.wal.specs.Records.{IsLoggedBatch}
 use Rattle.wal.specs.Bodies.{AreBodiesOf}
 use Rattle.wal.specs.Replays.{ReadsAs}
-use Rattle.manifest.specs.Folders.{chosen}
 use Rattle.manifest_fold.specs.declared.fold.Folded.{Folded}
+use Rattle.manifest.specs.Files.{HasFold}
+use Rattle.manifest.specs.Folders.{chosen}
+use Rattle.manifest.specs.Folds.{IsManifest, family_fold, fold_of, sizes_of}
 use Rattle.floor_laws.proofs.Members.{In, In-contains, contains_In}
 use Rattle.floor_laws.proofs.Courses.{course_begins}
 use Rattle.floor_laws.proofs.Reopening.{sound_fresh}
-use Rattle.engine_laws.specs.Logs.{above, batches_of, last_of, last_over, sizes_of, versions_of}
-use Rattle.engine_laws.specs.Manifests.{HasFold, IsManifest, IsWell, family_fold, fold_of}
+use Rattle.engine_laws.specs.Logs.{above, batches_of, last_of, last_over, versions_of}
+use Rattle.engine_laws.specs.Manifests.{IsWell}
 use Rattle.engine_laws.specs.Standing.{FolderStands, Grammar, Reads, Says, StandsFor, TableSays, family_said, fresh_says, live_batches, new_state}
 use Rattle.engine_laws.specs.Engine.{Holds}
 use Rattle.engine_laws.proofs.Batches.{last_over_is}
@@ -61,7 +63,7 @@ last_within k fl (b ∷ bs) low h =
 -- what reading a folder tells of its fold and its batches
 module _ (g : Grammar) (folder : Folder) (s : Says) (r : Reads g folder s) where
   pub reads_well : IsWell s.fold
-  reads_well = fold_well (folder (chosen folder)) s.fold r.means.has
+  reads_well = fold_well (folder (chosen folder)) s.fold r.means.1
 
   pub reads_logged : All (IsLoggedBatch (length s.fold.families)) (live_batches s)
   reads_logged =

@@ -16,9 +16,10 @@ use Rattle.manifest_edit.specs.declared.edit.TableAt.{TableAt}
 use Rattle.manifest_edit.specs.declared.edit.Edit.{Edit}
 use Rattle.manifest_fold.specs.declared.fold.FamilyFold.{FamilyFold}
 use Rattle.manifest_fold.specs.Folds.{fold_with}
+use Rattle.manifest.specs.Folds.{sizes_of}
 use Rattle.floor_laws.proofs.Members.{In, contains_In, All-In, In-append, In-left, In-right, In-filter, filter-In}
 use Rattle.floor_laws.proofs.States.{some_same, written_of}
-use Rattle.engine_laws.specs.Logs.{batches_of, is_above, last_of, sizes_of, versions_of}
+use Rattle.engine_laws.specs.Logs.{batches_of, is_above, last_of, versions_of}
 use Rattle.engine_laws.specs.Manifests.{IsLive}
 use Rattle.engine_laws.specs.Standing.{Grammar, Reads, Says, StandsFor, TableReads, families_said, family_said, live_batches}
 use Rattle.engine_laws.specs.Engine.{Holds, IsEditTo, IsOutcomeOr, durable_last, with_edit}

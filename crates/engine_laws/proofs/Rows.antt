@@ -20,9 +20,9 @@ use Rattle.udt_model.specs.declared.read.Answer.TheVariants.{Found}
 use Rattle.udt_model.specs.declared.read.ModelRead.TheVariants.{Told}
 use Rattle.udt_model.specs.Crashes.{Course, course_after, course_start, settled}
 use Rattle.manifest_edit.specs.declared.edit.Edit.{Edit}
+use Rattle.manifest.specs.Folds.{family_fold}
 use Rattle.floor_laws.proofs.Members.{In-contains, contains_In, All-from}
 use Rattle.engine_laws.specs.Logs.{versions_of}
-use Rattle.engine_laws.specs.Manifests.{family_fold}
 use Rattle.engine_laws.specs.Standing.{Says, StandsFor, TableSays, family_said, fresh_says, new_state}
 use Rattle.engine_laws.specs.Engine.{Holds, MayEdit, next_batch, with_batches, with_edit}
 use Rattle.engine_laws.specs.Installs.{EndsFlush, LogsMayGo, flush_edit, roll_edit}

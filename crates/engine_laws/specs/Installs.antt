@@ -14,7 +14,7 @@ use Rattle.udt_model.specs.Steps.{IsReplyTo}
 use Rattle.manifest_edit.specs.declared.edit.TableAt.{TableAt}
 use Rattle.manifest_edit.specs.declared.edit.Edit.{Edit}
 use Rattle.manifest_fold.specs.declared.fold.FamilyFold.{FamilyFold}
-use Rattle.manifest_fold.specs.declared.limits.TheConstants.{FILE_LIMIT}
+use Rattle.manifest_fold.specs.declared.limits.TheConstants.{FILE_NUMBER_LIMIT}
 use Rattle.engine_laws.specs.Logs.{above, versions_of}
 use Rattle.engine_laws.specs.Manifests.{number_of}
 use Rattle.engine_laws.specs.Standing.{Fits, Says, table_of}
@@ -56,7 +56,7 @@ compact_edit last next family old add gone = record {
 -- the number of the engine's next file: the manifest's isn't above it, and each number that a table has had is below it
 pub record IsNextFile (m : State) (s : Says) (next : ℕ) : Type 0 where
   pub more : s.fold.next_file ≤ next
-  pub most : next ≤ FILE_LIMIT
+  pub most : next ≤ FILE_NUMBER_LIMIT
   pub used : All (λ n. n < next) m.used
 
 -- ---- which logs may be dropped

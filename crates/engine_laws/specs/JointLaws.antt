@@ -21,21 +21,18 @@ use Rattle.udt_model.specs.Crashes.{Course, IsOutcome, IsOutcomeUnder, is_change
 use Rattle.manifest_edit.specs.declared.edit.TableAt.{TableAt}
 use Rattle.manifest_edit.specs.declared.edit.Edit.{Edit}
 use Rattle.manifest_fold.specs.Folds.{IsAccepted, fold_with}
-use Rattle.engine_laws.specs.Logs.{sizes_of}
-use Rattle.engine_laws.specs.Manifests.{HasFold}
+use Rattle.manifest.specs.Files.{HasFold, IsEditImage}
+use Rattle.manifest.specs.Folders.{IsManifestName}
+use Rattle.manifest.specs.Folds.{sizes_of}
 use Rattle.engine_laws.specs.Standing.{Grammar, Reads, Says, StandsForSome}
 use Rattle.engine_laws.specs.Engine.{Holds, IsOutcomeOr, MayEdit, SameLive, newest_of, next_batch, with_batches, with_edit}
-use Rattle.engine_laws.specs.Moves.{AreDead, IsManifestName, IsReady, LogRests, Rests, TableRests, added_tables}
+use Rattle.engine_laws.specs.Moves.{AreDead, IsReady, LogRests, Rests, TableRests, added_tables}
 use Rattle.engine_laws.specs.Joints.{OneRan}
 use Rattle.engine_laws.specs.Laws.{IsNextWrite}
 
 -- what a sync leaves of the newest log: what was there, or all that waited behind it
 abbrev pub IsSyncImage : Says → List Numbered → Image → Type 0
 IsSyncImage s waiting = IsBeforeOrAfter (sizes_of s.fold) (s.logs (newest_of s)) waiting
-
--- what an append of an edit leaves of the manifest
-abbrev pub IsEditImage : Says → Edit → Image → Type 0
-IsEditImage s edit image = HasFold image s.fold ⊎ HasFold image (fold_with s.fold edit)
 
 module _ {D F : Type 0} (d : disk.Ghosts D F) (f : file.Ghosts F) where
   -- what the engine's files say rests on the disk and in the files that are held
@@ -78,7 +75,7 @@ module _ {D F : Type 0} (d : disk.Ghosts D F) (f : file.Ghosts F) where
   abbrev pub EditRunLeavesOutcomes : Grammar → Type 0
   EditRunLeavesOutcomes g = (manifest : FileName) (m next : State) (c : Course) (s : Says) (edit : Edit) (x : D) (before after : List F) (old ran : F)
       → IsManifestName manifest → Holds m c s [] → MayEdit m s edit next → RestIn g (holding x before) manifest s → IsReady g (MayLeave d f (holding x before)) s edit
-      → ManifestRan manifest before after old ran → Leaves f old ran (IsEditImage s edit) → Ran d f (λ folder. StandsForSome g folder (IsOutcomeOr m c next)) (holding x before) (holding x after)
+      → ManifestRan manifest before after old ran → Leaves f old ran (IsEditImage s.fold edit) → Ran d f (λ folder. StandsForSome g folder (IsOutcomeOr m c next)) (holding x before) (holding x after)
 
   -- where afterwards it may leave only the fold with the edit, all rests
   abbrev pub RestsEdited : Grammar → Type 0
@@ -142,7 +139,7 @@ module _ {D F : Type 0} (d : disk.Ghosts D F) (f : file.Ghosts F) where
     pub old : F
     pub old_after : F
     pub file : ManifestRan manifest made appended old old_after
-    pub appends : Leaves f old old_after (IsEditImage (with_batches s waiting) edit)
+    pub appends : Leaves f old old_after (IsEditImage s.fold edit)
     pub all_appended : (image : Image) → f.may_leave old_after image → HasFold image (fold_with s.fold edit)
     pub gone : List FileName
     pub gone_dead : AreDead manifest (fold_with s.fold edit) (Contains gone)

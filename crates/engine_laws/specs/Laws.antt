@@ -21,18 +21,20 @@ use Rattle.udt_model.specs.Acts.{Act}
 use Rattle.udt_model.specs.Acts.Act.{compact_end, flush_end, flush_start, raise, sync_all, write}
 use Rattle.udt_model.specs.Steps.{IsReplyTo, IsTold, after, is_running}
 use Rattle.udt_model.specs.Crashes.{Course, IsOutcome, IsOutcomeUnder, course_after, course_start, ends_after, is_change, syncs}
-use Rattle.manifest.specs.Folders.{chosen}
 use Rattle.manifest_edit.specs.declared.edit.TableAt.{TableAt}
 use Rattle.manifest_edit.specs.declared.edit.FamilyEdit.{FamilyEdit}
 use Rattle.manifest_edit.specs.declared.edit.Edit.{Edit}
 use Rattle.manifest_edit.specs.Edits.{IsEdit}
 use Rattle.manifest_fold.specs.declared.fold.FamilyFold.{FamilyFold}
 use Rattle.manifest_fold.specs.declared.fold.Folded.{Folded}
-use Rattle.manifest_fold.specs.declared.limits.TheConstants.{FILE_LIMIT}
+use Rattle.manifest_fold.specs.declared.limits.TheConstants.{FILE_NUMBER_LIMIT}
 use Rattle.manifest_fold.specs.Folds.{IsAccepted, fold_with}
+use Rattle.manifest.specs.Files.{IsEditImage}
+use Rattle.manifest.specs.Folders.{chosen}
+use Rattle.manifest.specs.Folds.{IsManifest}
 use Rattle.floor_laws.specs.Sound.{IsSoundCourse, IsSoundState}
 use Rattle.engine_laws.specs.Logs.{versions_of}
-use Rattle.engine_laws.specs.Manifests.{HasFold, IsLive, IsManifest, IsWell}
+use Rattle.engine_laws.specs.Manifests.{IsLive, IsWell}
 use Rattle.engine_laws.specs.Standing.{Alike, FolderStands, Grammar, IsOneSaid, Reads, Says, StandsFor, StandsForSome, TableSays, families_said, fresh_says, live_batches, new_state}
 use Rattle.engine_laws.specs.Engine.{AreSameKept, Holds, IsEditTo, IsOutcomeOr, MayEdit, SameLive, next_batch, with_batches, with_edit, with_log, with_table}
 use Rattle.engine_laws.specs.Moves.{IsLiveName}
@@ -119,7 +121,7 @@ HoldsEdited = (m : State) (c d : Course) (s : Says) (edit : Edit) (next : State)
 -- an append of an edit's body leaves the fold before it, or with it
 abbrev pub AppendLeavesFolds : Type 0
 AppendLeavesFolds = (bodies : List (List ℕ)) (fold : Folded) (edit : Edit) (body : List ℕ) (image : Image)
-    → IsManifest bodies fold → IsEdit body edit → IsAccepted fold edit → IsWithOrWithout bodies body image → HasFold image fold ⊎ HasFold image (fold_with fold edit)
+    → IsManifest bodies fold → IsEdit body edit → IsAccepted fold edit → IsWithOrWithout bodies body image → IsEditImage fold edit image
 
 -- ---- what is held
 
@@ -176,7 +178,7 @@ RaiseMayBeMade = (m : State) (c : Course) (s : Says) (number : ℕ) (family : Fa
 -- the edit that adds a log without batches may be made, and leads to any sound state that says the same of what is kept
 abbrev pub RollMayBeMade : Type 0
 RollMayBeMade = (m next : State) (c : Course) (s : Says) (log : ℕ)
-    → Holds m c s [] → s.fold.next_file ≤ log → log + 1 ≤ FILE_LIMIT → s.logs log ≡ [] → AreSameKept m next → IsSoundState next → MayEdit m s (roll_edit m.last log) next
+    → Holds m c s [] → s.fold.next_file ≤ log → log + 1 ≤ FILE_NUMBER_LIMIT → s.logs log ≡ [] → AreSameKept m next → IsSoundState next → MayEdit m s (roll_edit m.last log) next
 
 -- the edit of a flush may be made, where the logs that it drops may go, and leads to the flushed state
 abbrev pub FlushMayBeMade : Type 0
@@ -199,13 +201,13 @@ HoldsBehindAct = (m : State) (c : Course) (s : Says) (waiting : List Numbered) (
 -- behind a seal, which is a sync and the edit of a new log, it holds the state with the flush that starts
 abbrev pub HoldsSealed : Type 0
 HoldsSealed = (m : State) (c : Course) (s : Says) (waiting : List Numbered) (number : ℕ) (family : Family) (log : ℕ)
-    → Holds m c s waiting → IsReplyTo m (flush_start family) (OkAt m.last.0) → s.fold.next_file ≤ log → log + 1 ≤ FILE_LIMIT → s.logs log ≡ []
+    → Holds m c s waiting → IsReplyTo m (flush_start family) (OkAt m.last.0) → s.fold.next_file ≤ log → log + 1 ≤ FILE_NUMBER_LIMIT → s.logs log ≡ []
     → Holds (after m number (flush_start family) (OkAt m.last.0)) (course_after m number c (flush_start family) (OkAt m.last.0)) (with_edit (with_batches s waiting) (roll_edit m.last log)) []
 
 -- and so on the course on which all is synced
 abbrev pub HoldsSealedSynced : Type 0
 HoldsSealedSynced = (m : State) (c : Course) (s : Says) (waiting : List Numbered) (number : ℕ) (family : Family) (log : ℕ)
-    → Holds m c s waiting → IsReplyTo m (flush_start family) (OkAt m.last.0) → s.fold.next_file ≤ log → log + 1 ≤ FILE_LIMIT → s.logs log ≡ []
+    → Holds m c s waiting → IsReplyTo m (flush_start family) (OkAt m.last.0) → s.fold.next_file ≤ log → log + 1 ≤ FILE_NUMBER_LIMIT → s.logs log ≡ []
     → Holds (after m number (flush_start family) (OkAt m.last.0)) (record c { synced = m.last.0 }) (with_edit (with_batches s waiting) (roll_edit m.last log)) []
 
 -- what a crash may leave under an act is an outcome still when the disk failed under it, until the folder is opened again

@@ -1,12 +1,9 @@
 -- The batches of several live logs, and the versions that they make.
-use Rattle.std.specs.Prelude.{ℕ, ◌+◌, ◌-◌, Bool, ◌==◌, ◌&&◌, nat_lt, max, List, [], ◌∷◌, ◌++◌, length, map, filter}
-use Rattle.ts_key.specs.declared.limits.TheConstants.{STAMP_SIZE}
+use Rattle.std.specs.Prelude.{ℕ, ◌+◌, ◌-◌, Bool, ◌==◌, ◌&&◌, nat_lt, max, List, [], ◌∷◌, ◌++◌, length, filter}
 use Rattle.ts_key.specs.declared.numbers.Family.{Family}
 use Rattle.ts_key.specs.declared.version.Version.{Version}
 use Rattle.udt_model.specs.Versions.{logged}
 use Rattle.wal.specs.declared.numbered.Numbered.{Numbered}
-use Rattle.manifest_fold.specs.declared.fold.FamilyFold.{FamilyFold}
-use Rattle.manifest_fold.specs.declared.fold.Folded.{Folded}
 
 -- the versions that batches make
 abbrev pub versions_of : List Numbered → List Version
@@ -26,10 +23,6 @@ last_over last batches = max last (last_of 0 batches)
 abbrev pub batches_of : (ℕ → List Numbered) → List ℕ → List Numbered
 batches_of logs [] = []
 batches_of logs (n ∷ ns) = logs n ++ batches_of logs ns
-
--- the size of the timestamps of each family
-abbrev pub sizes_of : Folded → List ℕ
-sizes_of fold = map {B = ℕ} (λ (f : FamilyFold). STAMP_SIZE) fold.families
 
 -- it is a version of the family, with a sequence above this one
 abbrev pub is_above : Family → ℕ → Version → Bool

@@ -1,5 +1,5 @@
 -- What a crash may leave of a folder at one moment, name by name, and what a step of the engine does to it.
-use Rattle.std.specs.Prelude.{◌≡◌, ◌≢◌, ◌⊎◌, ℕ, List, [], Contains, Option, Some, None, ⊤}
+use Rattle.std.specs.Prelude.{◌≡◌, ◌≢◌, ℕ, List, [], Contains, Option, Some, None, ⊤}
 use Rattle.ts_key.specs.declared.numbers.Family.{Family}
 use Rattle.udt_disk.specs.Crash.{Image}
 use Rattle.udt_disk.specs.Joint.{Folder}
@@ -8,15 +8,16 @@ use Rattle.udt_disk.specs.declared.name.FileName.TheVariants.{Manifest0, Manifes
 use Rattle.wal.specs.declared.numbered.Numbered.{Numbered}
 use Rattle.wal.specs.Replays.{ReadsAs, IsBeforeOrAfter}
 use Rattle.udt_model.specs.State.{State}
-use Rattle.manifest.specs.Folders.{chosen_by}
 use Rattle.manifest_edit.specs.declared.edit.TableAt.{TableAt}
 use Rattle.manifest_edit.specs.declared.edit.FamilyEdit.{FamilyEdit}
 use Rattle.manifest_edit.specs.declared.edit.Edit.{Edit}
 use Rattle.manifest_fold.specs.declared.fold.FamilyFold.{FamilyFold}
 use Rattle.manifest_fold.specs.declared.fold.Folded.{Folded}
 use Rattle.manifest_fold.specs.Folds.{fold_with}
-use Rattle.engine_laws.specs.Logs.{sizes_of}
-use Rattle.engine_laws.specs.Manifests.{HasFold, IsLive}
+use Rattle.manifest.specs.Files.{HasFold, IsEditImage}
+use Rattle.manifest.specs.Folders.{chosen_by}
+use Rattle.manifest.specs.Folds.{sizes_of}
+use Rattle.engine_laws.specs.Manifests.{IsLive}
 use Rattle.engine_laws.specs.Standing.{Grammar, Says, StandsForSome, TableReads}
 use Rattle.engine_laws.specs.Engine.{newest_of}
 
@@ -33,10 +34,6 @@ abbrev pub IsSafe : Grammar → Images → (State → Type 0) → Type 0
 IsSafe g images Is = (folder : Folder) → AreImages images folder → StandsForSome g folder Is
 
 -- ---- names
-
--- a manifest has one of two names
-abbrev pub IsManifestName : FileName → Type 0
-IsManifestName n = (n ≡ Manifest0) ⊎ (n ≡ Manifest1)
 
 -- a table of this number is live
 abbrev pub IsLiveTable : Folded → ℕ → Type 0
@@ -96,7 +93,7 @@ pub record Syncing (s : Says) (waiting : List Numbered) (old new : Images) : Typ
 -- while an edit is appended: the fold before it, or with it
 pub record Appending (manifest : FileName) (s : Says) (edit : Edit) (old new : Images) : Type 0 where
   pub touches : TouchesOne manifest old new
-  pub either : (c : Image) → new manifest c → HasFold c s.fold ⊎ HasFold c (fold_with s.fold edit)
+  pub either : (c : Image) → new manifest c → IsEditImage s.fold edit c
 
 -- the tables that an edit adds
 abbrev pub added_tables : Option FamilyEdit → List TableAt

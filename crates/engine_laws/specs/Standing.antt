@@ -16,9 +16,12 @@ use Rattle.udt_model.specs.Crashes.{settled}
 use Rattle.manifest_edit.specs.declared.edit.TableAt.{TableAt}
 use Rattle.manifest_fold.specs.declared.fold.FamilyFold.{FamilyFold}
 use Rattle.manifest_fold.specs.declared.fold.Folded.{Folded}
+use Rattle.manifest.specs.Folders.{Means}
+use Rattle.manifest.specs.Folders.Meaning.{store}
+use Rattle.manifest.specs.Folds.{fold_of, sizes_of}
 use Rattle.floor_laws.specs.Sound.{IsSoundState}
-use Rattle.engine_laws.specs.Logs.{above, batches_of, last_of, last_over, sizes_of, versions_of}
-use Rattle.engine_laws.specs.Manifests.{IsLive, MeansStore, fold_of}
+use Rattle.engine_laws.specs.Logs.{above, batches_of, last_of, last_over, versions_of}
+use Rattle.engine_laws.specs.Manifests.{IsLive}
 
 -- what a table file says: its family and form, the floor by which it was collected, and its versions
 pub record TableSays : Type 0 where
@@ -49,7 +52,7 @@ live_batches s = batches_of s.logs s.fold.logs
 
 -- the folder says this
 pub record Reads (g : Grammar) (folder : Folder) (s : Says) : Type 0 where
-  pub means : MeansStore folder s.fold
+  pub means : Means folder (store s.fold)
   pub logs : (n : ℕ) → Contains s.fold.logs n → ReadsAs (sizes_of s.fold) (s.logs n) (folder (Log n))
   pub tables : (family : Family) (f : FamilyFold) (t : TableAt) → IsLive s.fold family f t → TableReads g (folder (Table t.number)) (s.tables t.number)
 

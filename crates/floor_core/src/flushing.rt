@@ -3,15 +3,15 @@ ghost use Rattle.std.specs.Prelude.{◌≡◌, ◌≤◌, length, map, nat_le, n
 ghost use Rattle.std.specs.List.{list_any, position_or_len};
 ghost use Rattle.udt_model.specs.Collecting.{collect_all, stripped as without_timestamps, without_ts};
 ghost use Rattle.udt_model.specs.Jobs.{floor_over as floor_left, in_form as as_form};
-ghost use Rattle.udt_model.specs.Orders.{is_before, span_of_key, stored};
+ghost use Rattle.udt_model.specs.Orders.{span_of_key};
 ghost use Rattle.udt_model.specs.State.{changed_at, with_table, with_tables};
 ghost use Rattle.udt_model.specs.Steps.{flushed};
 
 use crate::parts::{CoreFamily, CoreTable};
-use collection_laws::plain_collect;
+use collection_laws::{in_order, plain_collect};
 use std::alloc::{AllocError, Global};
 use strip::cutoff;
-use ts_key::{Family, Form, NoMemory, Seq, Ts, Version, compare};
+use ts_key::{Family, Form, NoMemory, Seq, Ts, Version};
 use udt_model::KeySpan;
 
 /// The spans of the versions' keys.
@@ -40,44 +40,6 @@ fn collect_for_flush(
     let spans = key_spans(alloc, versions)?;
     let kept = plain_collect(alloc, versions, floor, seqs, &spans)?;
     Ok(kept)
-}
-
-/// Whether the first stands before the second in the stored order.
-fn stands_before(a: &Version, b: &Version) -> bool
-    ensures { result ≡ is_before a.now b.now }
-{
-    compare(&a.key_ref(), &b.key_ref()).is_lt()
-}
-
-/// The place of the first version that doesn't stand before this one.
-fn first_behind(versions: &[Version], v: &Version) -> Option<usize>
-    ensures { result ≡ position (λ o. not (is_before o v.now)) versions.now }
-{
-    versions.iter().position(|o| !stands_before(o, v))
-}
-
-/// The same, or behind the last.
-fn place_of(versions: &[Version], v: &Version) -> usize
-    ensures place { result ≡ position_or_len (λ o. not (is_before o v.now)) versions.now }
-    ensures within { result ≤ length versions.now }
-{
-    match first_behind(versions, v) {
-        Some(place) => place,
-        None => versions.len(),
-    }
-}
-
-/// The versions in the stored order.
-fn in_order(alloc: Global, versions: Vec<Version>) -> Result<Vec<Version>, NoMemory>
-    ensures { IfOk result (λ ordered. ordered.items ≡ stored versions.items) }
-{
-    let mut rest = versions;
-    let mut ordered = Vec::new(alloc);
-    while let Some(v) = rest.pop() {
-        let place = place_of(&ordered, &v);
-        ordered.insert(place, v)?;
-    }
-    Ok(ordered)
 }
 
 /// Sets each timestamp to 0.

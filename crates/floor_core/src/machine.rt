@@ -4,7 +4,6 @@ ghost use Rattle.std.specs.Option.{option_copied};
 ghost use Rattle.ts_key.specs.declared.limits.TheConstants.{BATCH_LIMIT};
 ghost use Rattle.udt_model.specs.State.{family_at, floor_at, form_at, is_registered as registers, place_at, seqs_of, tables_of, through_at};
 ghost use Rattle.udt_model.specs.Jobs.{compaction_kept, flush_floor, flush_kept, flush_taken, has_number};
-ghost use Rattle.udt_model.specs.Versions.{version_of as version_made};
 ghost use Rattle.udt_model.specs.Refusals.{op_refusal, unknown};
 ghost use Rattle.floor_laws.specs.Sound.{lists_of};
 ghost use Rattle.floor_core.specs.Cores.{fresh_core};
@@ -53,19 +52,6 @@ impl Model for Core {
     ghost view = { λ c. record { store = record { families = c.families.items; versions = c.versions.items; last = c.last; halted = c.halted; used = flat_map (λ f. numbers_of f.tables) c.families.items; snaps = c.snaps.items; flush = c.flush; compaction = c.compaction }; pins = c.pins.items; events = c.events } };
 
     ghost invariant = { λ c. (c.last.0 < 2 ^ 56) × (length c.families.items < 2 ^ 32) };
-}
-
-/// The version that an operation makes under this sequence.
-fn version_of(op: &WriteOp, sequence: u64) -> Result<Version, NoMemory>
-    ensures { IfOk result (λ v. v ≡ version_made op.now sequence) }
-{
-    Ok(Version {
-        family: op.family,
-        key: op.key.copy()?,
-        ts: op.ts,
-        seq: Seq(sequence),
-        op: op.op.copy()?,
-    })
 }
 
 impl Core {
@@ -270,7 +256,7 @@ impl Core {
             if self.is_below(&grown, op) {
                 return Ok(None);
             }
-            grown.push(version_of(op, last + i as u64 + 1)?)?;
+            grown.push(op.version(Seq(last + i as u64 + 1))?)?;
         }
         Ok(Some(Items::of(grown)))
     }

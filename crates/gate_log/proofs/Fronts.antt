@@ -5,6 +5,7 @@ use Rattle.std.proofs.Math.Seq.{drop-append_seam}
 use Rattle.std.proofs.lemmas.List.{drop-append-le, take-append-le, take_all, length-take, length-take-le, length-drop, take_at, get_or_append_left}
 use Rattle.gate_log.specs.Reads.{IsWhole}
 use Rattle.gate_log.specs.Fronts.{IsFrontOf, IsReadTo}
+use Rattle.gate_log.proofs.Reading.{length_is_four}
 
 -- what a read behind the front gives is of what stands behind it
 got : (old piece all : List ℕ) (n p : ℕ) (front : IsFrontOf old all) → take n piece ≡ take p (drop (length old) all) → take n piece ≡ take p front.behind
@@ -44,12 +45,9 @@ whole_more n rest behind whole = record {
   there = omega (arith, whole.there, length-append rest behind);
 }
 
-four : (n : ℕ) → length (to_le_bytes w32 n) ≡ 4
-four n = refl
-
 -- the length of a whole frame stands in front
 pub length_found : (n : ℕ) (rest behind : List ℕ) → 4 ≤ length rest → IsWhole n (rest ++ behind) → take 4 rest ≡ to_le_bytes w32 n
-length_found n rest behind long whole = sym (take-append-le 4 rest behind long) ∙ ap (take 4) whole.size ∙ take_at (to_le_bytes w32 n) (drop 4 (rest ++ behind)) 4 (four n)
+length_found n rest behind long whole = sym (take-append-le 4 rest behind long) ∙ ap (take 4) whole.size ∙ take_at (to_le_bytes w32 n) (drop 4 (rest ++ behind)) 4 (length_is_four n)
 
 -- and is whole without what stands behind it
 pub whole_less : (n : ℕ) (rest behind : List ℕ) → n + 5 ≤ length rest → IsWhole n (rest ++ behind) → IsWhole n rest

@@ -56,8 +56,8 @@ abbrev IsStop : List ℕ → Type 0
 IsStop [] = Unit {0}
 IsStop (gate ∷ rest) = gate ≡ 165 → (n : ℕ) → IsWhole n rest → ⊥
 
-four : (n : ℕ) → length (to_le_bytes w32 n) ≡ 4
-four n = refl
+pub length_is_four : (n : ℕ) → length (to_le_bytes w32 n) ≡ 4
+length_is_four n = refl
 
 -- a frame with a byte behind it is whole
 whole_from_frame : (body : List ℕ) (tail : List ℕ) → IsBody body → tail ≢ [] → IsWhole (length body) (to_le_bytes w32 (length body) ++ (body ++ tail))
@@ -65,8 +65,8 @@ whole_from_frame body [] is some = absurd (some refl)
 whole_from_frame body (gate ∷ tail) is some = record {
   some = is.some;
   short = is.short;
-  size = ap (λ (l : List ℕ). to_le_bytes w32 (length body) ++ l) (sym (drop_at (to_le_bytes w32 (length body)) (body ++ gate ∷ tail) 4 (four (length body))));
-  there = omega (arith, length-append (to_le_bytes w32 (length body)) (body ++ gate ∷ tail), length-append body (gate ∷ tail), four (length body));
+  size = ap (λ (l : List ℕ). to_le_bytes w32 (length body) ++ l) (sym (drop_at (to_le_bytes w32 (length body)) (body ++ gate ∷ tail) 4 (length_is_four (length body))));
+  there = omega (arith, length-append (to_le_bytes w32 (length body)) (body ++ gate ∷ tail), length-append body (gate ∷ tail), length_is_four (length body));
 }
 
 -- two frames at the front of the same bytes are one
@@ -75,9 +75,9 @@ same_frame a b s t is_a is_b e =
     let size_a : length a < 2 ^ 32 = omega (arith, is_a.short) in
     let size_b : length b < 2 ^ 32 = omega (arith, is_b.short) in
     let heads : to_le_bytes w32 (length a) ≡ to_le_bytes w32 (length b) =
-    sym (take_at (to_le_bytes w32 (length a)) (a ++ s) 4 (four (length a))) ∙ ap (take 4) e ∙ take_at (to_le_bytes w32 (length b)) (b ++ t) 4 (four (length b)) in
+    sym (take_at (to_le_bytes w32 (length a)) (a ++ s) 4 (length_is_four (length a))) ∙ ap (take 4) e ∙ take_at (to_le_bytes w32 (length b)) (b ++ t) 4 (length_is_four (length b)) in
     let tails : a ++ s ≡ b ++ t =
-    sym (drop_at (to_le_bytes w32 (length a)) (a ++ s) 4 (four (length a))) ∙ ap (drop 4) e ∙ drop_at (to_le_bytes w32 (length b)) (b ++ t) 4 (four (length b)) in
+    sym (drop_at (to_le_bytes w32 (length a)) (a ++ s) 4 (length_is_four (length a))) ∙ ap (drop 4) e ∙ drop_at (to_le_bytes w32 (length b)) (b ++ t) 4 (length_is_four (length b)) in
     let long : length a ≡ length b = sym (from_le_bytes-to_le_bytes_4 (length a) size_a) ∙ ap (from_le_bytes w32) heads ∙ from_le_bytes-to_le_bytes_4 (length b) size_b in
     (sym (take_at a s (length a) refl) ∙ ap (take (length a)) tails ∙ take_at b t (length a) (sym long), sym (drop_at a s (length a) refl) ∙ ap (drop (length a)) tails ∙ drop_at b t (length a) (sym long))
 

@@ -24,14 +24,14 @@ use Rattle.history_gc.specs.Streaming.{Last, is_same, next_last, is_kept, is_bet
 use Rattle.history_gc.specs.States.{State, AccountsFor, is_key, AllOf}
 use Rattle.history_gc.specs.Collecting.{CollectsAlike, remembered, last_of_run, state_at, HasCollected, HasFinished, HasGiven, HasGivenSettled, HasGivenAll, collection_floor, collection_snapshots, collection_spans, held_of}
 use Rattle.history_gc.specs.declared.collector.Collector.{Collector}
-use Rattle.history_gc.proofs.Steps.{one_if, start_has, pop_has, none_ready, push_other, push_same, of_last_is, settled_front, given_front}
+use Rattle.history_gc.proofs.Steps.{filter_same, one_if, start_has, pop_has, none_ready, push_other, push_same, of_last_is, settled_front, given_front}
 
 -- ---- the snapshots, by halving
 
-none_between : (seq least : ℕ) (xs : List Seq) → ((k : ℕ) (d : Seq) → k < length xs → least ≤ (get_or xs k d).0) → list_any (is_between seq least) xs ≡ false
-none_between seq least [] h = refl
-none_between seq least (x ∷ xs) h =
-    λ i. above x.0 (h 0 x (omega arith)) i || none_between seq least xs (λ k d l. h (suc k) d (omega (arith, l))) i
+no_seq_between : (seq least : ℕ) (xs : List Seq) → ((k : ℕ) (d : Seq) → k < length xs → least ≤ (get_or xs k d).0) → list_any (is_between seq least) xs ≡ false
+no_seq_between seq least [] h = refl
+no_seq_between seq least (x ∷ xs) h =
+    λ i. above x.0 (h 0 x (omega arith)) i || no_seq_between seq least xs (λ k d l. h (suc k) d (omega (arith, l))) i
   where
     above : (e : ℕ) → least ≤ e → (nat_le seq e && nat_lt e least) ≡ false
     above e l = grind (arith, nat_tests)
@@ -51,7 +51,7 @@ first_decides seq least (x ∷ xs) zero up low high =
       | inl y ↦ ap (λ b. b || list_any (is_between seq least) xs) (between x.0 n y) ∙ sym ((λ i. if first i then y i else false))
       | inr m ↦
           ap (λ b. b || list_any (is_between seq least) xs) (not_between x.0 m)
-          ∙ none_between seq least xs (λ k d l. let u = up 0 (suc k) d (omega arith) (omega (arith, l)) in above x.0 (get_or xs k d).0 m u)
+          ∙ no_seq_between seq least xs (λ k d l. let u = up 0 (suc k) d (omega arith) (omega (arith, l)) in above x.0 (get_or xs k d).0 m u)
           ∙ sym ((λ i. if first i then m i else false))
     ]
   where
@@ -415,10 +415,6 @@ order_from family (v ∷ vs) s a = (each v vs a.0 s.0 a.1, order_from family vs 
     each v (w ∷ ws) e b a = ((e ∙ sym a.0, b.0), each v ws e b.1 a.1)
 
 -- ---- the order of the snapshots doesn't matter
-
-filter_same : (p q : Version → Bool) (xs : List Version) → ((v : Version) → p v ≡ q v) → filter p xs ≡ filter q xs
-filter_same p q [] h = refl
-filter_same p q (x ∷ xs) h = λ i. cond (h x i) (x ∷ filter_same p q xs h i) (filter_same p q xs h i)
 
 pub snapshots_moved : (ps : List Version) (f : Ts) (ss rr : List Seq) (deeper : List KeySpan) → IsPermutation ss rr → collect ps f ss deeper ≡ collect ps f rr deeper
 snapshots_moved ps f ss rr deeper m =

@@ -106,9 +106,9 @@ next_tail [] ys v h = h
 next_tail (x ∷ xs) ys v h = next_tail xs ys v h.1
 
 -- v stands between u and w: then u of w's key is of v's key
-none_between : (ps : List Version) (v w : Version) → MayFollow ps v → StandsBefore v w → (v.key ≡ w.key → ⊥) → NoneOf w.key ps
-none_between [] v w b l n = tt
-none_between (u ∷ us) v w b l n = ((λ e. n (sym (between_keys u v w b.0 l e) ∙ e)), none_between us v w b.1 l n)
+none_of_between : (ps : List Version) (v w : Version) → MayFollow ps v → StandsBefore v w → (v.key ≡ w.key → ⊥) → NoneOf w.key ps
+none_of_between [] v w b l n = tt
+none_of_between (u ∷ us) v w b l n = ((λ e. n (sym (between_keys u v w b.0 l e) ∙ e)), none_of_between us v w b.1 l n)
 
 split_front : (ps : List Version) (v w : Version) → MayFollow (ps ++ v ∷ []) w → MayFollow ps w × StandsBefore v w
 split_front [] v w h = (tt, h.0)
@@ -176,7 +176,7 @@ one_more : (b : Bool) (xs : List Version) (v : Version) → length (xs ++ one_if
 one_more true xs v = omega (arith, length-append xs (v ∷ []))
 one_more false xs v = omega (arith, length-append xs [])
 
-filter_same : (p q : Version → Bool) (xs : List Version) → ((v : Version) → p v ≡ q v) → filter p xs ≡ filter q xs
+pub filter_same : (p q : Version → Bool) (xs : List Version) → ((v : Version) → p v ≡ q v) → filter p xs ≡ filter q xs
 filter_same p q [] h = refl
 filter_same p q (x ∷ xs) h = λ i. cond (h x i) (x ∷ filter_same p q xs h i) (filter_same p q xs h i)
 
@@ -215,7 +215,7 @@ module _ (f : Ts) (ss : List Seq) (deeper : List KeySpan) where
   others_more ps v b o w bw e =
       let r = split_front ps v w bw in
       let n : v.key ≡ w.key → ⊥ = λ q. falls (bytes_eq v.key w.key) ((bytes_eq-Decides v.key w.key).1 q) e in
-      none_snoc w.key ps v (none_between ps v w b r.1 n) n
+      none_snoc w.key ps v (none_of_between ps v w b r.1 n) n
     where
       falls : (b : Bool) → b ≡ true → b ≡ false → ⊥
       falls b x y = cc

@@ -5,7 +5,6 @@ use Rattle.std.proofs.lemmas.Bool.{false≢true}
 use Rattle.udt_disk.specs.Crash.{Image}
 use Rattle.udt_disk.specs.declared.file.DiskFile.{Ghosts}
 use Rattle.manifest.specs.declared.manifest.Manifest.{Manifest}
-use Rattle.manifest.specs.declared.fold.Folded.{Folded}
 use Rattle.manifest.specs.Making.{emptied}
 use Rattle.manifest.specs.Manifest.{files_made, files_read}
 
@@ -14,7 +13,7 @@ module _ {F : Type 0} {g : Ghosts F} where
   none_made (Ok m) err = absurd (false≢true err)
   none_made (Err e) err = refl
 
-  pub none_read : {E : Type 0} (r : Result (Option (Manifest F g × Folded)) E) → IsErr r → files_read r ≡ []
+  pub none_read : {E : Type 0} (r : Result (Option (Manifest F g)) E) → IsErr r → files_read r ≡ []
   none_read (Ok o) err = absurd (false≢true err)
   none_read (Err e) err = refl
 

@@ -1,7 +1,5 @@
 -- Which frame is the first outside the grammar.
-use Rattle.std.proofs.Common.{◌≡◌, inl, inr, ℕ, List, [], ◌∷◌, map, length, false, Option, Some, None, Ok, Err, Vec, Global, refl, sym, ap, ◌∙◌, arith, subst}
-use Rattle.std.proofs.lemmas.List.{length-map}
-use Rattle.std.specs.List.{slice_get}
+use Rattle.std.proofs.Common.{◌≡◌, inl, inr, ℕ, List, [], ◌∷◌, ◌++◌, map, false, Option, Some, None, Ok, Err, Vec, Global, refl, sym, ap, ◌∙◌, subst}
 use Rattle.gate_log.specs.Placed.{Placed}
 use Rattle.gate_log.specs.Frames.{IsLog}
 use Rattle.gate_log.specs.Reads.{body_of}
@@ -10,11 +8,15 @@ use Rattle.gate_log.specs.declared.fault.FramesFault.{FramesFault}
 use Rattle.gate_log.specs.declared.fault.FramesFault.TheVariants.{BadFrame}
 use Rattle.udt_model.specs.declared.line.FamilyHead.{FamilyHead}
 use Rattle.manifest.specs.Heads.{IsHead}
-use Rattle.manifest.specs.Folds.{IsManifest, AreSoundFrames, IsOutside, IsUsable, family_fold, fold_of}
+use Rattle.manifest_fold.specs.Bodies.{LeadsTo, LeadsNowhere, LeadAll}
+use Rattle.manifest_fold.proofs.Prefixes.{front_leads, one_end}
+use Rattle.edit_log.specs.Replays.{IsRefusedAt}
+use Rattle.manifest.specs.Folds.{IsManifest, AreSoundFrames, IsOutside, fold_of}
+use Rattle.manifest.proofs.Spellings.{head_once}
 use Rattle.manifest.specs.Files.{IsBadManifestAt}
 use Rattle.manifest.specs.Files.IsBadManifestAt.{in_log, before_torn, torn, no_frame}
 use Rattle.manifest.specs.Answers.{Folds, IsRefusal, IsFoldFault, is_manifest_disk_fault}
-use Rattle.manifest.specs.declared.fold.Folded.{Folded}
+use Rattle.manifest_fold.specs.declared.fold.Folded.{Folded}
 use Rattle.manifest.specs.declared.fault.ManifestFault.{ManifestFault}
 use Rattle.manifest.specs.declared.fault.ManifestFault.TheVariants as faults
 
@@ -22,18 +24,34 @@ pub bad_head : (frames : List Placed) (first : Placed) (later : List Placed) (bo
 bad_head frames first later body is same none =
     record { before = []; body = first.bytes; after = later; is = is; sound = inl refl; bad = λ fold means. none means.0 (rw same means.1) }
 
-pub behind_head : (frames : List Placed) (first : Placed) (later : List Placed) (body : List ℕ) (families : List FamilyHead) (next : Placed) → frames ≡ first ∷ later → body ≡ first.bytes → IsHead body families → slice_get later 0 ≡ Some next → IsOutside frames next.at
-behind_head frames first [] body families next is same head found = cc
-behind_head frames first (other ∷ rest) body families next is same head found =
-    let this : other ≡ next = cc in
+-- no fold is meant by a head and edits of which the last is refused
+still_refused : (first : List ℕ) (families : List FamilyHead) (bodies : List (List ℕ)) (body : List ℕ) (end : Folded) → IsHead first families → LeadAll (fold_of families) bodies end → LeadsNowhere end body
+    → (fold : Folded) → IsManifest (first ∷ (bodies ++ body ∷ [])) fold → ⊥
+still_refused first families bodies body end head leads nowhere fold means =
+    let start = fold_of families in
+    let one = head_once first means.0 families means.1 head in
+    let all = subst (λ (fs : List FamilyHead). LeadAll (fold_of fs) (bodies ++ body ∷ []) fold) one means.2 in
+    let front = front_leads bodies (body ∷ []) start fold all in
+    let mid = one_end bodies start front.0 end front.1 leads in
+    nowhere front.2.0 (subst (λ (m : Folded). LeadsTo m body front.2.0) mid front.2.1)
+
+-- behind a head the first edit that is refused is the first frame outside the grammar
+pub edits_outside : (frames : List Placed) (first : Placed) (later : List Placed) (body : List ℕ) (families : List FamilyHead) (at : ℕ) → frames ≡ first ∷ later → body ≡ first.bytes → IsHead body families → IsRefusedAt (fold_of families) later at → IsOutside frames at
+edits_outside frames first later body families at is same head refused =
+    let here : IsHead first.bytes families = subst (λ (b : List ℕ). IsHead b families) same head in
     record {
-      before = first ∷ [];
-      body = next.bytes;
-      after = rest;
-      is = is ∙ ap (λ (p : Placed). first ∷ p ∷ rest) this;
-      sound = inr (fold_of families, (families, rw (← same) head, refl));
-      bad = λ fold means. means;
+      before = first ∷ refused.before;
+      body = refused.body;
+      after = refused.after;
+      is = is ∙ ap (λ (l : List Placed). first ∷ l) refused.is;
+      sound = inr (refused.fold, (families, here, refused.sound));
+      bad = still_refused first.bytes families (map body_of refused.before) refused.body refused.fold here refused.sound refused.bad;
     }
+
+-- a head and edits that lead on mean the fold to which they lead
+pub edits_mean : (frames : List Placed) (first : Placed) (later : List Placed) (body : List ℕ) (families : List FamilyHead) (fold : Folded) → frames ≡ first ∷ later → body ≡ first.bytes → IsHead body families → LeadAll (fold_of families) (map body_of later) fold → IsManifest (map body_of frames) fold
+edits_mean frames first later body families fold is same head leads =
+    subst (λ (l : List Placed). IsManifest (map body_of l) fold) (sym is) (families, subst (λ (b : List ℕ). IsHead b families) same head, leads)
 
 -- frames that have a fold, or none, are sound
 pub sound_frames : (frames : List Placed) (found : Option Folded) → Folds frames (Ok found) → AreSoundFrames (map body_of frames)
@@ -69,13 +87,3 @@ pub not_by_disk_too : (frames : List Placed) (fault : ManifestFault) → IsFoldF
 not_by_disk_too frames (faults.BadManifest at) refused = refl
 not_by_disk_too frames faults.DiskFault refused = absurd refused
 not_by_disk_too frames faults.NoMemory refused = refl
-
--- each fold of a manifest is usable
-pub manifest_usable : (bodies : List (List ℕ)) (fold : Folded) → IsManifest bodies fold → (number : ℕ) × IsUsable fold number
-manifest_usable [] fold means = absurd means
-manifest_usable (body ∷ []) fold means =
-    let families = means.0 in
-    let new = means.1.new in
-    let long : length (fold_of families).families ≡ length families = simp length-map in
-    subst (λ (f : Folded). (number : ℕ) × IsUsable f number) (sym means.2) (1, record { live = refl; some = omega (arith, long, new.some); few = omega (arith, long, new.few); last = omega arith })
-manifest_usable (body ∷ next ∷ bodies) fold means = absurd means

@@ -5,3 +5,4 @@ pub mod Sizes
 pub mod Makes
 pub mod Files
 pub mod Meanings
+pub mod Edits

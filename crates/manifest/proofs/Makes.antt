@@ -23,7 +23,7 @@ use Rattle.manifest.specs.Files.{HasFold}
 use Rattle.manifest.specs.Folds.{fold_of}
 use Rattle.manifest.specs.Folders.{Means, chosen_by}
 use Rattle.manifest.specs.Folders.Meaning.{no_store, store}
-use Rattle.manifest.specs.Making.{IsEarlyName, IsStoreName, IsReadName, IsUnmade, IsNoneOrAll}
+use Rattle.manifest.specs.Making.{IsEarlyName, IsReadName, IsUnmade, IsNoneOrAll}
 
 made_isn't_current : Made ≢ Current
 made_isn't_current is = cc

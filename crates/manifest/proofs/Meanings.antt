@@ -1,7 +1,7 @@
 -- A folder means one thing at most.
 use Rattle.std.proofs.Common.{◌≡◌, ◌≢◌, ◌⊎◌, inl, inr, ℕ, Bool, true, List, [], ◌∷◌, ◌++◌, map, Some, None, refl, sym, ap, ◌∙◌, subst}
 use Rattle.std.specs.Prelude.{IfSome, is_some}
-use Rattle.std.proofs.lemmas.List.{map-append}
+use Rattle.std.proofs.lemmas.List.{map-append, append_assoc}
 use Rattle.udt_disk.specs.Crash.{Image}
 use Rattle.udt_disk.specs.Joint.{Folder}
 use Rattle.udt_disk.specs.declared.name.FileName.TheVariants.{Made}
@@ -9,34 +9,44 @@ use Rattle.gate_log.specs.Placed.{Placed}
 use Rattle.gate_log.specs.Frames.{IsLog}
 use Rattle.gate_log.specs.Reads.{IsBad, placed, body_of}
 use Rattle.gate_log.proofs.Reading.{only_log, only_bad, bad_is_none}
+use Rattle.udt_model.specs.declared.line.FamilyHead.{FamilyHead}
+use Rattle.manifest_fold.specs.Bodies.{LeadAll}
+use Rattle.manifest_fold.proofs.Prefixes.{front_leads, one_end}
 use Rattle.manifest.specs.Folds.{IsManifest, AreSoundFrames, IsOutside, fold_of}
 use Rattle.manifest.specs.Files.{AreFrames, IsBadManifestAt, HasFold, IsBadFile}
 use Rattle.manifest.specs.Files.IsBadManifestAt.{in_log, before_torn, torn, no_frame}
 use Rattle.manifest.specs.Folders.{Meaning, Means, chosen, told_by_fault}
 use Rattle.manifest.specs.Folders.Meaning.{no_store, store, bad_at}
 use Rattle.manifest.specs.Answers.{IsRefusal}
-use Rattle.manifest.specs.declared.fold.Folded.{Folded}
+use Rattle.manifest_fold.specs.declared.fold.Folded.{Folded}
 use Rattle.manifest.specs.declared.fault.ManifestFault.{ManifestFault}
 use Rattle.manifest.specs.declared.fault.ManifestFault.TheVariants as faults
 use Rattle.manifest.proofs.Spellings.{head_once}
 
 -- ---- folds
 
-manifest_once : (bodies : List (List ℕ)) (a b : Folded) → IsManifest bodies a → IsManifest bodies b → a ≡ b
+pub manifest_once : (bodies : List (List ℕ)) (a b : Folded) → IsManifest bodies a → IsManifest bodies b → a ≡ b
 manifest_once [] a b p q = absurd p
-manifest_once (body ∷ []) a b p q = p.2 ∙ ap fold_of (head_once body p.0 q.0 p.1 q.1) ∙ sym q.2
-manifest_once (body ∷ next ∷ bodies) a b p q = absurd p
+manifest_once (body ∷ bodies) a b p q =
+    one_end bodies (fold_of q.0) a b (subst (λ (fs : List FamilyHead). LeadAll (fold_of fs) bodies a) (head_once body p.0 q.0 p.1 q.1) p.2) q.2
 
 -- frames that are sound are so as far as each of them
 sound_front : (before : List (List ℕ)) (body : List ℕ) (after : List (List ℕ)) → AreSoundFrames (before ++ body ∷ after) → (fold : Folded) × IsManifest (before ++ body ∷ []) fold
-sound_front [] body [] (inl none) = cc
-sound_front [] body [] (inr means) = means
-sound_front [] body (next ∷ after) (inl none) = cc
-sound_front [] body (next ∷ after) (inr means) = absurd means.1
-sound_front (first ∷ []) body after (inl none) = cc
-sound_front (first ∷ []) body after (inr means) = absurd means.1
-sound_front (first ∷ second ∷ before) body after (inl none) = cc
-sound_front (first ∷ second ∷ before) body after (inr means) = absurd means.1
+sound_front [] body after (inl none) = cc
+sound_front [] body after (inr means) = (fold_of means.1.0, (means.1.0, means.1.1, refl))
+sound_front (first ∷ before) body after (inl none) = cc
+sound_front (first ∷ before) body after (inr means) =
+    let start = fold_of means.1.0 in
+    let all = subst (λ (l : List (List ℕ)). LeadAll start l means.0) (sym (append_assoc before (body ∷ []) after)) means.1.2 in
+    let front = front_leads (before ++ body ∷ []) after start means.0 all in
+    (front.0, (means.1.0, means.1.1, front.1))
+
+-- what stands at the front of a manifest
+pub sound_fronts : (front behind : List (List ℕ)) (fold : Folded) → IsManifest (front ++ behind) fold → AreSoundFrames front
+sound_fronts [] behind fold means = inl refl
+sound_fronts (first ∷ front) behind fold means =
+    let start = front_leads front behind (fold_of means.0) fold means.2 in
+    inr (start.0, (means.0, means.1, start.1))
 
 -- ---- the first frame outside the grammar
 
@@ -135,7 +145,7 @@ fold_isn't_wrong bytes fold at has (inr p) = bad_is_none p.0 p.1 bytes p.2 has.0
 
 -- ---- files
 
-fold_once : (image : Image) (a b : Folded) → HasFold image a → HasFold image b → a ≡ b
+pub fold_once : (image : Image) (a b : Folded) → HasFold image a → HasFold image b → a ≡ b
 fold_once None a b p q = absurd p
 fold_once (Some bytes) a b p q = manifest_once q.0 a b (subst (λ (l : List (List ℕ)). IsManifest l a) (only_log p.0 q.0 bytes p.1 q.1) p.2) q.2
 

@@ -6,7 +6,7 @@ use Rattle.std.proofs.lemmas.List.Elements.{All-head, All-tail}
 use Rattle.byteorder.specs.Endian.{little_number}
 use Rattle.byteorder.specs.Numbers.{little_number-reads_back}
 use Rattle.ts_key.specs.declared.version.Form.{Form}
-use Rattle.ts_key.specs.declared.version.Form.TheVariants.{Persist}
+use Rattle.ts_key.specs.declared.version.Form.TheVariants.{Persist, Strip}
 use Rattle.ts_key.specs.declared.numbers.Ts.{Ts}
 use Rattle.udt_model.specs.declared.line.FamilyHead.{FamilyHead}
 use Rattle.manifest.specs.Heads.{form_code, family_text, IsNewFamily, IsNamed, IsHead, differ}
@@ -21,18 +21,24 @@ split_once a b x y long same = (
 
 -- ---- families
 
-pub name_once : (bytes a x b y : List ℕ) → StartsWithName bytes a x → StartsWithName bytes b y → (a ≡ b) × (x ≡ y)
-name_once bytes a x b y p q =
+pub name_once : (bytes a x b y : List ℕ) (m n : ℕ) → StartsWithName bytes a m x → StartsWithName bytes b n y → (a ≡ b) × (m ≡ n) × (x ≡ y)
+name_once bytes a x b y m n p q =
     let same = sym p ∙ q in
     let long : length a ≡ length b = cc in
-    let text : a ++ 0 ∷ 8 ∷ x ≡ b ++ 0 ∷ 8 ∷ y = cc in
-    let parts = split_once a b (0 ∷ 8 ∷ x) (0 ∷ 8 ∷ y) long text in
-    (parts.0, ap (drop 2) parts.1)
+    let text : a ++ m ∷ 8 ∷ x ≡ b ++ n ∷ 8 ∷ y = cc in
+    let parts = split_once a b (m ∷ 8 ∷ x) (n ∷ 8 ∷ y) long text in
+    let behind : m ∷ 8 ∷ x ≡ n ∷ 8 ∷ y = parts.1 in
+    let code : m ≡ n = cc in
+    (parts.0, code, ap (drop 2) parts.1)
 
-pub name_of : (bytes : List ℕ) (f : FamilyHead) (rest : List ℕ) → StartsWith bytes f rest → StartsWithName bytes f.name rest
-name_of bytes f rest h =
-    h.is ∙ ap (λ (l : List ℕ). length f.name ∷ l) (append_assoc f.name (form_code f.form ∷ 8 ∷ []) rest)
-    ∙ ap (λ (form : Form). length f.name ∷ (f.name ++ form_code form ∷ 8 ∷ rest)) h.new.form
+pub name_of : (bytes : List ℕ) (f : FamilyHead) (rest : List ℕ) → StartsWith bytes f rest → StartsWithName bytes f.name (form_code f.form) rest
+name_of bytes f rest h = h.is ∙ ap (λ (l : List ℕ). length f.name ∷ l) (append_assoc f.name (form_code f.form ∷ 8 ∷ []) rest)
+
+form_once : (a b : Form) → form_code a ≡ form_code b → a ≡ b
+form_once Persist Persist same = refl
+form_once Persist Strip same = absurd (omega (arith, same))
+form_once Strip Persist same = absurd (omega (arith, same))
+form_once Strip Strip same = refl
 
 abbrev at_ts : ℕ → Ts
 at_ts n = record { 0 = n }
@@ -40,21 +46,32 @@ at_ts n = record { 0 = n }
 abbrev family : List ℕ → Form → Ts → FamilyHead
 family name form floor = record { name = name; form = form; floor = floor }
 
-same_family : (f g : FamilyHead) → IsNewFamily f → IsNewFamily g → f.name ≡ g.name → f ≡ g
-same_family f g p q same =
-    ap (λ (name : List ℕ). family name f.form f.floor) same ∙ ap (λ (form : Form). family g.name form f.floor) (p.form ∙ sym q.form)
-    ∙ ap (λ (n : ℕ). family g.name g.form (at_ts n)) (p.floor ∙ sym q.floor)
+same_family : (f g : FamilyHead) → IsNewFamily f → IsNewFamily g → f.name ≡ g.name → f.form ≡ g.form → f ≡ g
+same_family f g p q name form =
+    ap (λ (n : List ℕ). family n f.form f.floor) name ∙ ap (λ (k : Form). family g.name k f.floor) form ∙ ap (λ (n : ℕ). family g.name g.form (at_ts n)) (p ∙ sym q)
 
 pub family_once : (bytes : List ℕ) (f g : FamilyHead) (x y : List ℕ) → StartsWith bytes f x → StartsWith bytes g y → (f ≡ g) × (x ≡ y)
 family_once bytes f g x y p q =
-    let parts = name_once bytes f.name x g.name y (name_of bytes f x p) (name_of bytes g y q) in
-    (same_family f g p.new q.new parts.0, parts.1)
+    let parts = name_once bytes f.name x g.name y (form_code f.form) (form_code g.form) (name_of bytes f x p) (name_of bytes g y q) in
+    (same_family f g p.new q.new parts.0 (form_once f.form g.form parts.1), parts.2)
 
 -- no family begins where the name isn't one
-pub no_family : (bytes name rest : List ℕ) → StartsWithName bytes name rest → (IsNamed (family name Persist (at_ts 0)) → ⊥) → (f : FamilyHead) (x : List ℕ) → StartsWith bytes f x → ⊥
-no_family bytes name rest p bad f x q =
-    let parts = name_once bytes name rest f.name x p (name_of bytes f x q) in
+pub no_family : (bytes name rest : List ℕ) (code : ℕ) → StartsWithName bytes name code rest → (IsNamed (family name Persist (at_ts 0)) → ⊥) → (f : FamilyHead) (x : List ℕ) → StartsWith bytes f x → ⊥
+no_family bytes name rest code p bad f x q =
+    let parts = name_once bytes name rest f.name x code (form_code f.form) p (name_of bytes f x q) in
     bad (rw parts.0 q.named)
+
+-- nor where the byte for the form is that of none
+pub no_form : (bytes name rest : List ℕ) (code : ℕ) → StartsWithName bytes name code rest → ((form : Form) → code ≡ form_code form → ⊥) → (f : FamilyHead) (x : List ℕ) → StartsWith bytes f x → ⊥
+no_form bytes name rest code p bad f x q = bad f.form (name_once bytes name rest f.name x code (form_code f.form) p (name_of bytes f x q)).1
+
+-- a family that was taken apart
+pub put_together : (bytes name rest : List ℕ) (code : ℕ) (form : Form) → StartsWithName bytes name code rest → code ≡ form_code form → IsNamed (family name form (at_ts 0)) → StartsWith bytes (family name form (at_ts 0)) rest
+put_together bytes name rest code form p is named = record {
+  new = refl;
+  named = named;
+  is = p ∙ ap (λ (n : ℕ). length name ∷ (name ++ n ∷ 8 ∷ rest)) is ∙ ap (λ (l : List ℕ). length name ∷ l) (sym (append_assoc name (form_code form ∷ 8 ∷ []) rest));
+}
 
 -- ---- lists of families
 

@@ -1,11 +1,11 @@
 -- What the parts of a reader answer, and what a fault has for its cause.
-use Rattle.std.specs.Prelude.{◌≡◌, ◌⊎◌, ℕ, Bool, true, false, ⊤, List, [], map, Option, Some, None, Result, Ok, Err}
+use Rattle.std.specs.Prelude.{◌≡◌, ◌⊎◌, Bool, true, false, ⊤, List, [], map, Option, Some, None, Result, Ok, Err}
 use Rattle.udt_disk.specs.Crash.{Image}
 use Rattle.gate_log.specs.Placed.{Placed}
 use Rattle.gate_log.specs.Reads.{body_of}
 use Rattle.manifest.specs.declared.fault.ManifestFault.{ManifestFault}
 use Rattle.manifest.specs.declared.fault.ManifestFault.TheVariants.{BadManifest, DiskFault, NoMemory}
-use Rattle.manifest.specs.declared.fold.Folded.{Folded}
+use Rattle.manifest_fold.specs.declared.fold.Folded.{Folded}
 use Rattle.manifest.specs.Folds.{IsManifest, IsOutside}
 use Rattle.manifest.specs.Files.{IsBadFile}
 

@@ -1,10 +1,12 @@
 -- What the file of a manifest means.
-use Rattle.std.specs.Prelude.{◌≡◌, ℕ, List, [], Some, None, map}
+use Rattle.std.specs.Prelude.{◌≡◌, ◌⊎◌, ℕ, List, [], Some, None, map}
 use Rattle.udt_disk.specs.Crash.{Image}
 use Rattle.gate_log.specs.Placed.{Placed}
 use Rattle.gate_log.specs.Frames.{IsLog}
 use Rattle.gate_log.specs.Reads.{placed, body_of, IsBad}
-use Rattle.manifest.specs.declared.fold.Folded.{Folded}
+use Rattle.manifest_edit.specs.declared.edit.Edit.{Edit}
+use Rattle.manifest_fold.specs.Folds.{fold_with}
+use Rattle.manifest_fold.specs.declared.fold.Folded.{Folded}
 use Rattle.manifest.specs.Folds.{IsManifest, AreSoundFrames, IsOutside}
 
 -- the bytes are a log of these frames, each at its place
@@ -27,6 +29,10 @@ pub data IsBadManifestAt (bytes : List ℕ) (at : ℕ) : Type 0 where
 abbrev pub HasFold : Image → Folded → Type 0
 HasFold None fold = ⊥
 HasFold (Some bytes) fold = (bodies : List (List ℕ)) × IsLog bodies bytes × IsManifest bodies fold
+
+-- what an append of an edit leaves: the fold before it, or with it
+abbrev pub IsEditImage : Folded → Edit → Image → Type 0
+IsEditImage fold edit image = HasFold image fold ⊎ HasFold image (fold_with fold edit)
 
 -- the file is missing, or bad at this offset
 abbrev pub IsBadFile : Image → ℕ → Type 0

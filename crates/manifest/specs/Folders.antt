@@ -1,13 +1,17 @@
 -- What a folder says of a store.
-use Rattle.std.specs.Prelude.{◌≡◌, ◌≢◌, ℕ, ◌==◌, if◌then◌else◌, [], ◌∷◌, Option, Some, None, Result, Ok, Err}
+use Rattle.std.specs.Prelude.{◌≡◌, ◌≢◌, ◌⊎◌, ℕ, ◌==◌, if◌then◌else◌, [], ◌∷◌, Option, Some, None}
 use Rattle.udt_disk.specs.Crash.{Image}
 use Rattle.udt_disk.specs.Joint.{Folder}
 use Rattle.udt_disk.specs.declared.name.FileName.{FileName}
 use Rattle.udt_disk.specs.declared.name.FileName.TheVariants.{Manifest0, Manifest1, Current, Made}
 use Rattle.manifest.specs.declared.fault.ManifestFault.{ManifestFault}
 use Rattle.manifest.specs.declared.fault.ManifestFault.TheVariants as faults
-use Rattle.manifest.specs.declared.fold.Folded.{Folded}
+use Rattle.manifest_fold.specs.declared.fold.Folded.{Folded}
 use Rattle.manifest.specs.Files.{HasFold, IsBadFile}
+
+-- a manifest has one of two names
+abbrev pub IsManifestName : FileName → Type 0
+IsManifestName n = (n ≡ Manifest0) ⊎ (n ≡ Manifest1)
 
 -- the manifest that this `CURRENT` chooses: `MANIFEST-1` where its first byte is 0xA5
 abbrev pub chosen_by : Image → FileName
@@ -35,9 +39,3 @@ abbrev pub told_by_fault : ManifestFault → Option Meaning
 told_by_fault (faults.BadManifest at) = Some (bad_at at)
 told_by_fault faults.DiskFault = None
 told_by_fault faults.NoMemory = None
-
--- the meaning that a reader's answer tells
-abbrev pub told_by : {X : Type 0} → Result (Option (X × Folded)) ManifestFault → Option Meaning
-told_by (Ok None) = Some no_store
-told_by (Ok (Some (manifest, fold))) = Some (store fold)
-told_by (Err fault) = told_by_fault fault

@@ -25,10 +25,9 @@ head_text families = 1 ∷ 1 ∷ (little_bytes 4 (length families) ++ flat_map f
 
 -- ---- the families of a head
 
--- Until there are stripping families each keeps its timestamps. A head has no floors, and stands for floors 0.
-pub record IsNewFamily (f : FamilyHead) : Type 0 where
-  pub form : f.form ≡ Persist
-  pub floor : f.floor.0 ≡ 0
+-- a head has no floors, and stands for floors 0
+abbrev pub IsNewFamily : FamilyHead → Type 0
+IsNewFamily f = f.floor.0 ≡ 0
 
 -- no two have one name
 abbrev pub differ : List FamilyHead → Bool

@@ -13,7 +13,7 @@ use Rattle.manifest.specs.Heads.{head_text}
 use Rattle.manifest.specs.Folds.{fold_of}
 use Rattle.manifest.specs.Folders.{Means, chosen_by}
 use Rattle.manifest.specs.Folders.Meaning.{no_store, store}
-use Rattle.manifest.specs.Manifest.{manifest_file, Rests}
+use Rattle.manifest.specs.Manifest.{manifest_file, manifest_folded, FoldRests}
 
 -- the manifest of a new store: its head as the one frame, and a closed gate
 abbrev pub new_manifest : List FamilyHead → List ℕ
@@ -53,7 +53,8 @@ module _ {D F : Type 0} (d : disk.Ghosts D F) where
 -- other, and `MADE` is on the disk
 pub record IsMade {D F : Type 0} (d : disk.Ghosts D F) (f : file.Ghosts F) (old disk : D) (manifest : Manifest F f) (families : List FamilyHead) : Type 0 where
   pub name : f.name (manifest_file manifest) ≡ Manifest0
-  pub rests : Rests f manifest (fold_of families)
+  pub rests : FoldRests f manifest
+  pub fold : manifest_folded manifest ≡ fold_of families
   pub bytes : f.seen (manifest_file manifest) ≡ new_manifest families
   pub current : d.stands disk Current ≡ emptied (d.stands old Current)
   pub chosen : chosen_by (d.stands disk Current) ≡ Manifest0

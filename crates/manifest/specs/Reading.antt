@@ -4,9 +4,9 @@ use Rattle.std.specs.List.{flat_map, All}
 use Rattle.udt_model.specs.declared.line.FamilyHead.{FamilyHead}
 use Rattle.manifest.specs.Heads.{family_text, IsNewFamily, IsNamed}
 
--- the bytes begin with a family of form persist that has this name
-abbrev pub StartsWithName : List ℕ → List ℕ → List ℕ → Type 0
-StartsWithName bytes name rest = bytes ≡ length name ∷ (name ++ 0 ∷ 8 ∷ rest)
+-- the bytes begin with the length of a name, the name, this byte for a form, and the size of a timestamp
+abbrev pub StartsWithName : List ℕ → List ℕ → ℕ → List ℕ → Type 0
+StartsWithName bytes name code rest = bytes ≡ length name ∷ (name ++ code ∷ 8 ∷ rest)
 
 -- the bytes begin with this family
 pub record StartsWith (bytes : List ℕ) (f : FamilyHead) (rest : List ℕ) : Type 0 where

@@ -1,36 +1,17 @@
 //! What the frames of a manifest add up to.
-ghost use Rattle.std.specs.Prelude.{◌≡◌, IfOk};
-ghost use Rattle.udt_model.specs.declared.line.FamilyHead.{FamilyHead as FamilyOf};
+ghost use Rattle.std.specs.Prelude.{◌≡◌, map, IfOk};
 ghost use Rattle.manifest.specs.Folds.{family_fold, fold_of};
 ghost use Rattle.manifest.specs.Answers.{Folds};
 
-use crate::edit::TableAt;
 use crate::reading::read_head;
 use crate::{ManifestFault, NoMemory};
+use edit_log::{EditsFault, fold_edits};
 use gate_log::Frame;
+use manifest_edit::LiveTables;
+use manifest_fold::{FamilyFold, Folded};
 use std::alloc::Global;
-use ts_key::{FIRST_LOG, Form, Name, Seq, Ts};
+use ts_key::{FIRST_LOG, Seq, Ts};
 use udt_model::{FamilyHead, Items};
-
-/// A family as the manifest has it: its floor, the sequence through which its versions are in tables, and its live tables.
-#[derive(Debug, Drop)]
-pub struct FamilyFold {
-    pub name: Name,
-    pub form: Form,
-    pub floor: Ts,
-    pub through: Seq,
-    pub tables: Items<TableAt>,
-}
-
-/// What the frames of a manifest add up to: the families in order, the live logs in ascending order, the number of the next
-/// file, and the last sequence.
-#[derive(Debug, Drop)]
-pub struct Folded {
-    pub families: Items<FamilyFold>,
-    pub logs: Items<u64>,
-    pub next_file: u64,
-    pub last: Seq,
-}
 
 /// The fold of frames, or None where there is none. `BadManifest` names the first frame that isn't in the grammar.
 pub(crate) fn fold_frames(alloc: Global, frames: &[Frame]) -> Result<Option<Folded>, ManifestFault>
@@ -42,20 +23,19 @@ pub(crate) fn fold_frames(alloc: Global, frames: &[Frame]) -> Result<Option<Fold
     let Some(families) = read_head(alloc, &first.bytes)? else {
         return Err(ManifestFault::BadManifest { at: first.at });
     };
-    if let Some(edit) = later.first() {
-        return Err(ManifestFault::BadManifest { at: edit.at });
+    let start = new_fold(alloc, &families)?;
+    match fold_edits(alloc, start, later) {
+        Ok(fold) => Ok(Some(fold)),
+        Err(EditsFault::BadEdit { at }) => Err(ManifestFault::BadManifest { at }),
+        Err(EditsFault::NoMemory) => Err(ManifestFault::NoMemory),
     }
-    Ok(Some(fold_head(alloc, families)?))
 }
 
-/// What the head of these families stands for.
-fn fold_head(alloc: Global, families: Vec<FamilyHead>) -> Result<Folded, NoMemory>
-    ensures { IfOk result (λ fold. fold ≡ fold_of families.items) }
+/// What the head of these families stands for. It shares their names' bytes.
+pub(crate) fn new_fold(alloc: Global, families: &[FamilyHead]) -> Result<Folded, NoMemory>
+    ensures { IfOk result (λ fold. fold ≡ fold_of families.now) }
 {
-    let families = families
-        .into_iter()
-        .map(|family| fold_family(alloc, family))
-        .collect(alloc)?;
+    let families = new_families(alloc, families)?;
     Ok(Folded {
         families: Items::of(families),
         logs: Items::of(vec![in alloc; FIRST_LOG]?),
@@ -64,15 +44,25 @@ fn fold_head(alloc: Global, families: Vec<FamilyHead>) -> Result<Folded, NoMemor
     })
 }
 
-/// A family as a head has it.
-fn fold_family(alloc: Global, family: FamilyHead) -> FamilyFold
-    ensures { result ≡ family_fold family }
+fn new_families(alloc: Global, families: &[FamilyHead]) -> Result<Vec<FamilyFold>, NoMemory>
+    ensures { IfOk result (λ folds. folds.items ≡ map family_fold families.now) }
 {
-    FamilyFold {
-        name: family.name,
+    let mut folds = Vec::new(alloc);
+    for family in families {
+        folds.push(new_family(alloc, family)?)?;
+    }
+    Ok(folds)
+}
+
+/// A family as a head has it.
+fn new_family(alloc: Global, family: &FamilyHead) -> Result<FamilyFold, NoMemory>
+    ensures { IfOk result (λ fold. fold ≡ family_fold family.now) }
+{
+    Ok(FamilyFold {
+        name: family.name.copy()?,
         form: family.form,
         floor: Ts(0),
         through: Seq(0),
-        tables: Items::of(Vec::new(alloc)),
-    }
+        tables: LiveTables::new(alloc),
+    })
 }

@@ -6,7 +6,7 @@ ghost use Rattle.udt_disk.specs.Moments.{OnlyReads, alone};
 ghost use Rattle.udt_disk.specs.Touches.{Touches};
 ghost use Rattle.udt_disk.specs.declared.name.FileName.{FileName as NameOf};
 ghost use Rattle.udt_disk.specs.declared.name.FileName.TheVariants.{Manifest0, Manifest1, Current};
-ghost use Rattle.manifest.specs.Folders.{chosen_by};
+ghost use Rattle.manifest.specs.Folders.{IsManifestName, chosen_by};
 
 use udt_disk::{Disk, DiskFile, Failed, FileName};
 
@@ -32,7 +32,7 @@ pub(crate) fn is_there<D: Disk>(disk: &mut D, name: FileName) -> Result<bool, Fa
 /// The name of the chosen manifest, by `CURRENT`.
 pub(crate) fn chosen<D: Disk>(disk: &mut D) -> Result<FileName, Failed>
     ensures chosen { IfOk result (λ name. IsTrue (D.is_told disk.old) → name ≡ chosen_by (D.stands disk.old Current)) }
-    ensures either { IfOk result (λ name. (name ≡ Manifest0) ⊎ (name ≡ Manifest1)) }
+    ensures either { IfOk result IsManifestName }
     ensures looks { OnlyReads D.Disk D.File.DiskFile (alone disk.old) (alone disk.new) }
     ensures touches { Touches D.Disk (λ (n : NameOf). n ≡ Current) disk.old disk.new }
     ensures cause { HasCause (D.faults disk.old) (D.faults disk.new) result }
@@ -56,7 +56,7 @@ pub(crate) fn chosen<D: Disk>(disk: &mut D) -> Result<FileName, Failed>
 /// The manifest that a `CURRENT` with this front chooses.
 fn choice(front: &[u8]) -> FileName
     ensures chosen { result ≡ chosen_by (Some front.now) }
-    ensures either { (result ≡ Manifest0) ⊎ (result ≡ Manifest1) }
+    ensures either { IsManifestName result }
 {
     if !front.is_empty() && front[0] == CHOOSES_OTHER {
         FileName::Manifest1

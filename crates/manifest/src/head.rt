@@ -2,11 +2,10 @@
 //!
 //!    head   := kind version count family*    where the kind is 0x01, the version is 1 as u8, and the count is that of the
 //!                                            families as u32, 1 to 16
-//!    family := length name form size         where the length is that of the name as u8, the form is 0 for persist, and the
-//!                                            size of a timestamp is 8, both as u8
+//!    family := length name form size         where the length is that of the name as u8, the form is 0 for persist and 1
+//!                                            for strip, and the size of a timestamp is 8, both as u8
 //!
-//! Numbers are little-endian. A name has 1 to 32 bytes of a to z, 0 to 9 and _, and no two families have one name. The form 1,
-//! for strip, is refused until there are stripping families.
+//! Numbers are little-endian. A name has 1 to 32 bytes of a to z, 0 to 9 and _, and no two families have one name.
 
 ghost use Rattle.std.specs.Prelude.{◌≡◌, ◌≤◌, ◌↔◌, ◌++◌, length, IsTrue, IfOk, OnOk};
 ghost use Rattle.std.specs.List.{All, flat_map, list_any};
@@ -29,7 +28,7 @@ pub(crate) const VERSION: u8 = 1;
 pub(crate) const PERSIST: u8 = 0;
 
 /// The form of a family that strips timestamps.
-const STRIP: u8 = 1;
+pub(crate) const STRIP: u8 = 1;
 
 /// The families of a new store, in order.
 #[derive(Debug, Drop)]
@@ -38,7 +37,7 @@ pub struct Head {
 }
 
 impl Head {
-    /// Are these 1 to 16 families of form persist with floor 0 and different names?
+    /// Are these 1 to 16 families with floor 0 and different names?
     pub fn is_allowed(&self) -> bool
         ensures { IsTrue result ↔ AreNew self.now.families }
     {
@@ -59,7 +58,7 @@ fn are_new(families: &[FamilyHead]) -> bool
 fn is_new(family: &FamilyHead) -> bool
     ensures { IsTrue result ↔ IsNewFamily family.now }
 {
-    family.form == Form::Persist && family.floor.0 == 0
+    family.floor.0 == 0
 }
 
 /// Has each family another name?

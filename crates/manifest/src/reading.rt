@@ -1,11 +1,12 @@
 //! Reads the body of a head.
 ghost use Rattle.std.specs.Prelude.{◌≡◌, ◌++◌, ◌∷◌, [], ℕ, List, IfOk, IfSome, IfNone, MatchOption};
 ghost use Rattle.udt_model.specs.declared.line.FamilyHead.{FamilyHead as FamilyOf};
-ghost use Rattle.manifest.specs.Heads.{IsHead};
+ghost use Rattle.ts_key.specs.declared.version.Form.{Form as FormOf};
+ghost use Rattle.manifest.specs.Heads.{IsHead, form_code};
 ghost use Rattle.manifest.specs.Reading.{StartsWithName, StartsWith, AreSpelled};
 
 use crate::NoMemory;
-use crate::head::{HEAD, PERSIST, VERSION, names_differ};
+use crate::head::{HEAD, PERSIST, STRIP, VERSION, names_differ};
 use byteorder::{ByteOrder, LittleEndian};
 use std::alloc::{AllocError, Global};
 use ts_key::{FAMILY_LIMIT, Form, Name, NameFault, STAMP_SIZE, Ts};
@@ -65,7 +66,10 @@ fn read_family<'a>(
         ((f : FamilyOf) (rest : List ℕ) → StartsWith bytes.now f rest → ⊥)
         (λ rest. (f : FamilyOf) × StartsWith bytes.now f rest.now × (families.new.items ≡ families.old.items ++ f ∷ []))) }
 {
-    let Some((name, rest)) = split_name(bytes) else {
+    let Some((name, code, rest)) = split_name(bytes) else {
+        return Ok(None);
+    };
+    let Some(form) = form_of(code) else {
         return Ok(None);
     };
     let name = match Name::of(alloc, name) {
@@ -75,21 +79,32 @@ fn read_family<'a>(
     };
     families.push(FamilyHead {
         name,
-        form: Form::Persist,
+        form,
         floor: Ts(0),
     })?;
     Ok(Some(rest))
 }
 
-/// The name of a family with which the bytes begin, and the bytes behind that family.
-fn split_name(bytes: &[u8]) -> Option<(&[u8], &[u8])>
-    ensures found { IfSome result (λ r. StartsWithName bytes.now r.0.now r.1.now) }
-    ensures none { IfNone result ((name rest : List ℕ) → StartsWithName bytes.now name rest → ⊥) }
+/// The name of a family with which the bytes begin, the byte for its form, and the bytes behind that family.
+fn split_name(bytes: &[u8]) -> Option<(&[u8], u8, &[u8])>
+    ensures found { IfSome result (λ r. StartsWithName bytes.now r.0.now r.1 r.2.now) }
+    ensures none { IfNone result ((name : List ℕ) (code : ℕ) (rest : List ℕ) → StartsWithName bytes.now name code rest → ⊥) }
 {
     let (length, rest) = bytes.split_first()?;
     let length = usize::from(*length);
-    if rest.len() < length + 2 || rest[length] != PERSIST || rest[length + 1] != STAMP_SIZE {
+    if rest.len() < length + 2 || rest[length + 1] != STAMP_SIZE {
         return None;
     }
-    Some((&rest[..length], &rest[length + 2..]))
+    Some((&rest[..length], rest[length], &rest[length + 2..]))
+}
+
+/// The form that this byte stands for.
+fn form_of(code: u8) -> Option<Form>
+    ensures { MatchOption result ((form : FormOf) → code ≡ form_code form → ⊥) (λ form. code ≡ form_code form) }
+{
+    match code {
+        PERSIST => Some(Form::Persist),
+        STRIP => Some(Form::Strip),
+        _ => None,
+    }
 }

@@ -54,6 +54,20 @@ impl LiveTables {
         })
     }
 
+    /// The tables, by ascending number. It costs time linear in their count.
+    pub fn to_vec(&self, alloc: Global) -> Result<Vec<TableAt>, NoMemory>
+        ensures { IfOk result (λ tables. tables.items ≡ self.now) }
+    {
+        let mut tables = Vec::with_capacity(alloc, self.levels.len())?;
+        for (number, level) in self.levels.iter() {
+            tables.push(TableAt {
+                level: *level,
+                number: *number,
+            })?;
+        }
+        Ok(tables)
+    }
+
     /// Is one of this number there? It costs the logarithm of their count.
     pub fn has(&self, number: u64) -> bool
         ensures { result ≡ has_table_number self.now number }

@@ -3,7 +3,7 @@ use Rattle.std.specs.Prelude.{◌≡◌, ℕ, ◌-◌, ◌<◌, ◌≤◌, Bool,
 use Rattle.std.specs.List.{list_any}
 use Rattle.std.specs.List.Sorted.{IsStrictlyIncreasing}
 use Rattle.ts_key.specs.declared.limits.TheConstants.{SEQUENCE_LIMIT}
-use Rattle.manifest_fold.specs.declared.limits.TheConstants.{FILE_LIMIT, LOWEST_LEVEL}
+use Rattle.manifest_fold.specs.declared.limits.TheConstants.{FILE_NUMBER_LIMIT, LOWEST_LEVEL}
 use Rattle.manifest_edit.specs.declared.edit.TableAt.{TableAt}
 use Rattle.manifest_edit.specs.declared.edit.FamilyEdit.{FamilyEdit}
 use Rattle.manifest_edit.specs.declared.edit.Edit.{Edit}
@@ -90,7 +90,7 @@ IsPart fs edit (Some e) = IsOnePart fs edit e
 -- the fold accepts the edit
 pub record IsAccepted (fold : Folded) (edit : Edit) : Type 0 where
   pub next : fold.next_file ≤ edit.next_file
-  pub most : edit.next_file ≤ FILE_LIMIT
+  pub most : edit.next_file ≤ FILE_NUMBER_LIMIT
   pub last : fold.last.0 ≤ edit.last.0
   pub within : edit.last.0 ≤ SEQUENCE_LIMIT
   pub logs : IsLogsEdit fold.logs edit

@@ -7,7 +7,7 @@ ghost use Rattle.manifest_fold.specs.Folds.{IsAccepted, IsLogsEdit, IsPart, IsOn
 ghost use Rattle.manifest_edit.specs.LiveTables.{has_table_number};
 ghost use Rattle.manifest_edit.specs.declared.edit.TableAt.{TableAt as Table};
 
-use crate::{FILE_LIMIT, FamilyFold, Folded, LOWEST_LEVEL};
+use crate::{FILE_NUMBER_LIMIT, FamilyFold, Folded, LOWEST_LEVEL};
 use manifest_edit::{Edit, FamilyEdit, LiveTables, TableAt};
 use ts_key::SEQUENCE_LIMIT;
 
@@ -17,7 +17,7 @@ impl Folded {
         ensures { IsTrue result ↔ IsAccepted self.now edit.now }
     {
         self.next_file <= edit.next_file
-            && edit.next_file <= FILE_LIMIT
+            && edit.next_file <= FILE_NUMBER_LIMIT
             && self.last.0 <= edit.last.0
             && edit.last.0 <= SEQUENCE_LIMIT
             && accepts_logs(self.logs.as_slice(), edit)

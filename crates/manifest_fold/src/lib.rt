@@ -8,7 +8,7 @@ mod limits;
 
 pub use body::fold_body;
 pub use fold::{FamilyFold, Folded};
-pub use limits::{FILE_LIMIT, LOWEST_LEVEL};
+pub use limits::{FILE_NUMBER_LIMIT, LOWEST_LEVEL};
 
 /// Memory ran out.
 pub type NoMemory = std::alloc::AllocError;

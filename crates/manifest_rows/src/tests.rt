@@ -4,3 +4,4 @@ mod acceptance;
 mod bytes_of_edits;
 mod edits_on_disk;
 mod live_tables;
+mod manifests;

@@ -10,3 +10,4 @@ mod runs;
 
 pub use limits::BYTES_LIMIT;
 pub use mem::Mem;
+pub use runs::{later_of, reaches};

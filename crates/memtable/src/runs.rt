@@ -132,7 +132,7 @@ pub fn find_counted_in<'a, L: Ledger>(
 }
 
 /// The later of two timestamps that may be missing.
-fn later_of(a: Option<Ts>, b: Option<Ts>) -> Option<Ts>
+pub fn later_of(a: Option<Ts>, b: Option<Ts>) -> Option<Ts>
     ensures { option_map (λ ts. ts.0) result ≡ greater (option_map (λ ts. ts.0) a) (option_map (λ ts. ts.0) b) }
 {
     let Some(x) = a else {
@@ -144,8 +144,8 @@ fn later_of(a: Option<Ts>, b: Option<Ts>) -> Option<Ts>
     Some(Ts(x.0.max(y.0)))
 }
 
-/// Whether the best so far is at or above every timestamp of a run.
-fn reaches(best: Option<Ts>, latest: Ts) -> bool
+/// Whether the best timestamp so far is at or above every timestamp of a list whose greatest this is.
+pub fn reaches(best: Option<Ts>, latest: Ts) -> bool
     ensures { result ≡ reaches_ts (option_map (λ ts. ts.0) best) latest.0 }
 {
     match best {

@@ -1,201 +1,220 @@
--- A folder is refused in one way at most, and one that is refused stands for no state.
-use Rattle.std.proofs.Common.{◌≡◌, ◌⊎◌, inl, inr, ℕ, ◌<◌, ◌^◌, List, [], ◌∷◌, ◌++◌, length, drop, Some, None, refl, sym, ◌∙◌, ap, subst, arith}
-use Rattle.std.specs.Prelude.{⊤, map}
-use Rattle.std.specs.Int.{w32, to_le_bytes, from_le_bytes}
-use Rattle.std.proofs.lemmas.List.{length-append, append_assoc, length-map, drop_at}
-use Rattle.std.proofs.lemmas.Nat.{from_le_bytes-to_le_bytes_4}
+-- A folder is refused in one way at most.
+use Rattle.std.proofs.Common.{◌≡◌, ◌≢◌, ◌⊎◌, ℕ, ◌<◌, ◌≤◌, List, [], ◌∷◌, ◌++◌, length, Option, Some, None, refl, sym, ap, ◌∙◌, subst, arith, inl, inr, ⊎_elim, append_assoc}
+use Rattle.std.specs.Prelude.{Contains}
+use Rattle.std.proofs.lemmas.Bool.{cases_order}
+use Rattle.std.proofs.lemmas.List.{length-map}
+use Rattle.ts_key.specs.declared.numbers.Family.{Family}
 use Rattle.udt_disk.specs.Crash.{Image}
 use Rattle.udt_disk.specs.Joint.{Folder}
-use Rattle.udt_disk.specs.declared.name.FileName.TheVariants.{Log}
-use Rattle.udt_model.specs.State.{State}
-use Rattle.gate_log.specs.Placed.{Placed}
-use Rattle.gate_log.specs.Frames.{frame, framed, IsBody, AreBodies}
-use Rattle.gate_log.specs.Reads.{body_of, IsWhole, IsTorn}
-use Rattle.wal.specs.Bodies.{HoldsBatches}
-use Rattle.wal.specs.Replays.{IsStrangeFrame, IsBadLogAt, ReadsAs}
+use Rattle.udt_disk.specs.declared.name.FileName.TheVariants.{Log, Table}
 use Rattle.wal.specs.declared.numbered.Numbered.{Numbered}
-use Rattle.wal.proofs.Bodies.{holds_front}
-use Rattle.wal.proofs.Fronts.{fronts_same}
-use Rattle.manifest.specs.declared.fold.Folded.{Folded}
-use Rattle.manifest.specs.Folders.{Means}
-use Rattle.manifest.specs.Folders.Meaning.{no_store, bad_at, store}
+use Rattle.wal.specs.Replays.{ReadsAs}
+use Rattle.wal.specs.Sequences.{IsInSequence}
+use Rattle.manifest_edit.specs.declared.edit.TableAt.{TableAt}
+use Rattle.manifest_fold.specs.declared.fold.FamilyFold.{FamilyFold}
+use Rattle.manifest_fold.specs.declared.fold.Folded.{Folded}
+use Rattle.manifest.specs.Folders.{Means, chosen}
+use Rattle.manifest.specs.Folders.Meaning.{bad_at, no_store, store}
+use Rattle.manifest.specs.Folds.{sizes_of}
 use Rattle.manifest.proofs.Meanings.{means_once}
-use Rattle.recovery.specs.Stores.{sizes_of, FolderStands}
-use Rattle.recovery.specs.Fault.{IsBadLogFile, IsBadLog, RefusesOpening}
+use Rattle.floor_laws.proofs.Members.{In, In-contains, In-left, In-right}
+use Rattle.engine_laws.specs.Logs.{batches_of, last_of}
+use Rattle.engine_laws.proofs.Batches.{batches_append, batches_same}
+use Rattle.recovery.specs.Fault.{IsStop}
+use Rattle.recovery.specs.Laws.{OneRefusal}
+use Rattle.recovery.specs.Opening.{RefusesOpening}
+use Rattle.recovery.specs.Refusals.{AreRefused, AreReplayed, IsAhead, IsBadLog, IsBadLogFile, IsBadTable, IsFirstBadLog, IsFirstGap, IsMissingTable, IsReached}
+use Rattle.recovery.specs.Tables.{AreInOrder, IsInOrder}
 use Rattle.recovery.specs.declared.fault.OpenFault.{OpenFault}
-use Rattle.recovery.specs.declared.fault.OpenFault.TheVariants.{NoStore, BadManifest, BadLog, DiskFault, NoMemory}
+use Rattle.recovery.specs.declared.fault.OpenFault.TheVariants.{NoStore, BadManifest, MissingTable, BadTable, BadLog, DiskFault, NoMemory}
+use Rattle.recovery.proofs.FirstBad.{bad_file_holds_none, bad_file_once}
+use Rattle.recovery.proofs.Openings.{usable_from}
+use Rattle.recovery.proofs.Unrefused.{goes_front, is_fold, no_table, one_log, store_once}
 
--- ---- frames at the front of the same bytes
+-- ---- a list cut at two places
 
--- two frames at the front of the same bytes are one
-same_frame : (a b s t : List ℕ) → IsBody a → IsBody b → frame a ++ s ≡ frame b ++ t → (a ≡ b) × (s ≡ t)
-same_frame a b s t is_a is_b e =
-    let la = to_le_bytes w32 (length a) in
-    let lb = to_le_bytes w32 (length b) in
-    let size_a : length a < 2 ^ 32 = omega (arith, is_a.short) in
-    let size_b : length b < 2 ^ 32 = omega (arith, is_b.short) in
-    let rest : la ++ (a ++ s) ≡ lb ++ (b ++ t) = sym (append_assoc la a s) ∙ ap (drop 1) e ∙ append_assoc lb b t in
-    let heads = fronts_same la lb (a ++ s) (b ++ t) refl rest in
-    let long : length a ≡ length b = sym (from_le_bytes-to_le_bytes_4 (length a) size_a) ∙ ap (from_le_bytes w32) heads.0 ∙ from_le_bytes-to_le_bytes_4 (length b) size_b in
-    fronts_same a b s t long heads.1
+-- the cuts are one, or each is in front of the other's end
+data Cuts (a b c d : List ℕ) (n m : ℕ) : Type 0 where
+  same : a ≡ c → n ≡ m → Cuts a b c d n m
+  sooner : (r : List ℕ) → c ≡ a ++ n ∷ r → Cuts a b c d n m
+  later : (r : List ℕ) → a ≡ c ++ m ∷ r → Cuts a b c d n m
 
--- of two fronts of whole frames one goes on where the other ends, or they are one
-data Fronts (a b : List (List ℕ)) (s t : List ℕ) : Type 0 where
-  same : a ≡ b → Fronts a b s t
-  sooner : (c : List ℕ) (r : List (List ℕ)) → b ≡ a ++ c ∷ r → IsBody c → s ≡ frame c ++ (framed r ++ t) → Fronts a b s t
-  later : (c : List ℕ) (r : List (List ℕ)) → a ≡ b ++ c ∷ r → IsBody c → t ≡ frame c ++ (framed r ++ s) → Fronts a b s t
+cuts_more : (x y : ℕ) (a b c d : List ℕ) (n m : ℕ) → x ≡ y → Cuts a b c d n m → Cuts (x ∷ a) b (y ∷ c) d n m
+cuts_more x y a b c d n m is (same e o) = same (ap (λ (z : ℕ). z ∷ a) is ∙ ap (λ (l : List ℕ). y ∷ l) e) o
+cuts_more x y a b c d n m is (sooner r e) = sooner r (ap (λ (l : List ℕ). y ∷ l) e ∙ ap (λ (z : ℕ). z ∷ (a ++ n ∷ r)) (sym is))
+cuts_more x y a b c d n m is (later r e) = later r (ap (λ (l : List ℕ). x ∷ l) e ∙ ap (λ (z : ℕ). z ∷ (c ++ m ∷ r)) is)
 
-fronts_more : (x y : List ℕ) (a b : List (List ℕ)) (s t : List ℕ) → x ≡ y → Fronts a b s t → Fronts (x ∷ a) (y ∷ b) s t
-fronts_more x y a b s t is (same e) = same (ap (λ (z : List ℕ). z ∷ a) is ∙ ap (λ (l : List (List ℕ)). y ∷ l) e)
-fronts_more x y a b s t is (sooner c r e fits there) = sooner c r (ap (λ (l : List (List ℕ)). y ∷ l) e ∙ ap (λ (z : List ℕ). z ∷ (a ++ c ∷ r)) (sym is)) fits there
-fronts_more x y a b s t is (later c r e fits there) = later c r (ap (λ (l : List (List ℕ)). x ∷ l) e ∙ ap (λ (z : List ℕ). z ∷ (b ++ c ∷ r)) is) fits there
+cuts_of : (a b c d : List ℕ) (n m : ℕ) → a ++ n ∷ b ≡ c ++ m ∷ d → Cuts a b c d n m
+cuts_of [] b [] d n m e = same refl cc
+cuts_of [] b (y ∷ c) d n m e = let first : n ≡ y = cc in sooner c (ap (λ (z : ℕ). z ∷ c) (sym first))
+cuts_of (x ∷ a) b [] d n m e = let first : x ≡ m = cc in later a (ap (λ (z : ℕ). z ∷ a) first)
+cuts_of (x ∷ a) b (y ∷ c) d n m e =
+    let first : x ≡ y = cc in
+    let rest : a ++ n ∷ b ≡ c ++ m ∷ d = cc in
+    cuts_more x y a b c d n m first (cuts_of a b c d n m rest)
 
-fronts_of : (a b : List (List ℕ)) (s t : List ℕ) → AreBodies a → AreBodies b → framed a ++ s ≡ framed b ++ t → Fronts a b s t
-fronts_of [] [] s t fit_a fit_b e = same refl
-fronts_of [] (c ∷ r) s t fit_a fit_b e = sooner c r refl fit_b.0 (e ∙ append_assoc (frame c) (framed r) t)
-fronts_of (c ∷ r) [] s t fit_a fit_b e = later c r refl fit_a.0 (sym e ∙ append_assoc (frame c) (framed r) s)
-fronts_of (x ∷ a) (y ∷ b) s t fit_a fit_b e =
-    let one = same_frame x y (framed a ++ s) (framed b ++ t) fit_a.0 fit_b.0 (sym (append_assoc (frame x) (framed a) s) ∙ e ∙ append_assoc (frame y) (framed b) t) in
-    fronts_more x y a b s t one.0 (fronts_of a b s t fit_a.1 fit_b.1 one.1)
+-- ---- tables
 
--- ---- the first bad place of a log
+module _ (folder : Folder) (fold : Folded) where
+  -- the first table of either refusal
+  record IsFirst (n : ℕ) : Type 0 where
+    family : Family
+    f : FamilyFold
+    table : TableAt
+    number : table.number ≡ n
+    reached : IsReached fold folder family f table
+    bad : IsInOrder folder family f table → ⊥
 
--- a frame with a byte behind it is whole
-whole_frame : (c rest t : List ℕ) → IsBody c → 0 < length t → rest ≡ to_le_bytes w32 (length c) ++ (c ++ t) → IsWhole (length c) rest
-whole_frame c rest t fits some is =
-    let size = to_le_bytes w32 (length c) in
-    let behind : drop 4 rest ≡ c ++ t = ap (drop 4) is ∙ drop_at size (c ++ t) 4 refl in
-    let four : length size ≡ 4 = refl in
-    record {
-      some = fits.some;
-      short = fits.short;
-      size = is ∙ ap (λ (l : List ℕ). size ++ l) (sym behind);
-      there = omega (arith, ap length is, length-append size (c ++ t), length-append c t, four, some);
-    }
+  missing_first : (n : ℕ) → IsMissingTable fold folder n → IsFirst n
+  missing_first n missing = record {
+    family = missing.family;
+    f = missing.f;
+    table = missing.table;
+    number = missing.number;
+    reached = missing.reached;
+    bad = λ order. no_table (folder (Table missing.table.number)) order.says order.reads (subst (λ (k : ℕ). folder (Table k) ≡ None) (sym missing.number) missing.missing);
+  }
 
-torn_has_no_frame : (frames : List Placed) (c s t : List ℕ) → IsBody c → 0 < length t → IsTorn frames s → s ≡ frame c ++ t → ⊥
-torn_has_no_frame frames c [] t fits some torn is = cc
-torn_has_no_frame frames c (gate ∷ rest) t fits some torn is =
-    torn.1 (length c) (whole_frame c rest t fits some (ap (drop 1) is ∙ append_assoc (to_le_bytes w32 (length c)) c t))
+  bad_first : (n : ℕ) → IsBadTable fold folder n → IsFirst n
+  bad_first n bad = record { family = bad.family; f = bad.f; table = bad.table; number = bad.number; reached = bad.reached; bad = bad.bad }
 
--- what is wrong with what stands behind these frames
-abbrev IsWrong : List ℕ → List Placed → List ℕ → Type 0
-IsWrong sizes before tail = IsTorn before tail ⊎ IsStrangeFrame sizes (map body_of before) tail
+  not_before : (n m : ℕ) → IsFirst n → IsFirst m → n < m → ⊥
+  not_before n m p q less = p.bad (q.reached.below p.family p.f p.table p.reached.live (omega (arith, p.number, q.number, less)))
 
--- behind a frame something stands, if it is wrong
-some_behind : (sizes : List ℕ) (before : List Placed) (tail : List ℕ) → 0 < length before → IsWrong sizes before tail → 0 < length tail
-some_behind sizes before [] some (inl torn) = absurd (omega (arith, some, ap length torn))
-some_behind sizes before (gate ∷ rest) some (inl torn) = omega arith
-some_behind sizes before tail some (inr strange) = omega (arith, ap length strange.is, length-append (frame strange.body) strange.rest, strange.gate)
+  first_once : (n m : ℕ) → IsFirst n → IsFirst m → n ≡ m
+  first_once n m p q = elim (cases_order n m) [
+    | inl alike ↦ alike
+    | inr rest ↦ elim rest [ inl less ↦ absurd (not_before n m p q less) | inr more ↦ absurd (not_before m n q p more) ]
+  ]
 
--- no log goes on with a frame where it is wrong
-goes_on_nowhere : (sizes : List ℕ) (before : List Placed) (c : List ℕ) (r : List (List ℕ)) (batches : List Numbered) (s t : List ℕ) → HoldsBatches sizes (map body_of before ++ c ∷ r) batches → IsBody c → 0 < length t → s ≡ frame c ++ t → IsWrong sizes before s → ⊥
-goes_on_nowhere sizes before c r batches s t held fits some is (inl torn) = torn_has_no_frame before c s t fits some torn is
-goes_on_nowhere sizes before c r batches s t held fits some is (inr strange) =
-    let bodies = map body_of before in
-    let body : c ≡ strange.body = sym (same_frame strange.body c strange.rest t strange.fits fits (sym strange.is ∙ is)).0 in
-    let front = holds_front sizes (bodies ++ c ∷ []) r batches (subst (λ (l : List (List ℕ)). HoldsBatches sizes l batches) (sym (append_assoc bodies (c ∷ []) r)) held) in
-    strange.strange front.0 (subst (λ (x : List ℕ). HoldsBatches sizes (bodies ++ x ∷ []) front.0) body front.1)
+  no_first_in_order : (n : ℕ) → IsFirst n → AreInOrder fold folder → ⊥
+  no_first_in_order n p order = p.bad (order p.family p.f p.table p.reached.live)
 
--- a bad place has no frame of a longer front
-bad_ends : (sizes : List ℕ) (bytes : List ℕ) (a b : ℕ) (p : IsBadLogAt sizes bytes a) (q : IsBadLogAt sizes bytes b) (c : List ℕ) (r : List (List ℕ)) → map body_of q.before ≡ map body_of p.before ++ c ∷ r → IsBody c → drop a bytes ≡ frame c ++ (framed r ++ drop b bytes) → ⊥
-bad_ends sizes bytes a b p q c r longer fits there =
-    let frames : 0 < length q.before = omega (arith, length-map q.before body_of, ap length longer, length-append (map body_of p.before) (c ∷ r)) in
-    let tail : 0 < length (drop b bytes) = some_behind sizes q.before (drop b bytes) frames q.bad in
-    let some : 0 < length (framed r ++ drop b bytes) = omega (arith, tail, length-append (framed r) (drop b bytes)) in
-    goes_on_nowhere sizes p.before c r q.batches (drop a bytes) (framed r ++ drop b bytes) (subst (λ (l : List (List ℕ)). HoldsBatches sizes l q.batches) longer q.held) fits some there p.bad
+  -- ---- logs
 
-bad_place_by : (sizes : List ℕ) (bytes : List ℕ) (a b : ℕ) (p : IsBadLogAt sizes bytes a) (q : IsBadLogAt sizes bytes b) → Fronts (map body_of p.before) (map body_of q.before) (drop a bytes) (drop b bytes) → a ≡ b
-bad_place_by sizes bytes a b p q (same e) = p.front.end ∙ ap (λ (l : List (List ℕ)). length (framed l)) e ∙ sym q.front.end
-bad_place_by sizes bytes a b p q (sooner c r longer fits there) = absurd (bad_ends sizes bytes a b p q c r longer fits there)
-bad_place_by sizes bytes a b p q (later c r longer fits there) = absurd (bad_ends sizes bytes b a q p c r longer fits there)
+  not_read : (n at : ℕ) (logs : ℕ → List Numbered) → ReadsAs (sizes_of fold) (logs n) (folder (Log n)) → IsBadLogFile (sizes_of fold) (folder (Log n)) at → ⊥
+  not_read n at logs reads bad = bad_file_holds_none (sizes_of fold) (folder (Log n)) at (logs n) bad reads
 
--- given bytes are bad at one place at most
-pub one_bad_place : (sizes : List ℕ) (bytes : List ℕ) (a b : ℕ) → IsBadLogAt sizes bytes a → IsBadLogAt sizes bytes b → a ≡ b
-one_bad_place sizes bytes a b p q =
-    bad_place_by sizes bytes a b p q (fronts_of (map body_of p.before) (map body_of q.before) (drop a bytes) (drop b bytes) p.front.fit q.front.fit (sym p.front.is ∙ q.front.is))
+  in_front : (c a r : List ℕ) (n : ℕ) → c ≡ a ++ n ∷ r → Contains c n
+  in_front c a r n is = In-contains c n (subst (In n) (sym is) (In-right n a (n ∷ r) (inl refl)))
 
--- ---- files
+  first_bad_once : (n m i j : ℕ) (p : IsFirstBadLog fold folder n i) (q : IsFirstBadLog fold folder m j) → Cuts p.before p.after q.before q.after n m → (n ≡ m) × (i ≡ j)
+  first_bad_once n m i j p q (same e is) = (is, bad_file_once (sizes_of fold) (folder (Log m)) i j (subst (λ (k : ℕ). IsBadLogFile (sizes_of fold) (folder (Log k)) i) is p.bad) q.bad)
+  first_bad_once n m i j p q (sooner r e) = absurd (not_read n i q.logs (q.read n (in_front q.before p.before r n e)) p.bad)
+  first_bad_once n m i j p q (later r e) = absurd (not_read m j p.logs (p.read m (in_front p.before q.before r m e)) q.bad)
 
-bad_file_once : (sizes : List ℕ) (image : Image) (a b : ℕ) → IsBadLogFile sizes image a → IsBadLogFile sizes image b → a ≡ b
-bad_file_once sizes None a b p q = p ∙ sym q
-bad_file_once sizes (Some bytes) a b p q = one_bad_place sizes bytes a b p.0 q.0
+  bad_not_refused : (n m i j : ℕ) → IsFirstBadLog fold folder n i → AreRefused fold folder m j → ⊥
+  bad_not_refused n m i j p q = not_read n i q.logs (q.read n (in_front fold.logs p.before p.after n p.is)) p.bad
 
-bad_file_holds_none : (sizes : List ℕ) (image : Image) (at : ℕ) (batches : List Numbered) → IsBadLogFile sizes image at → ReadsAs sizes batches image → ⊥
-bad_file_holds_none sizes None at batches bad holds = holds
-bad_file_holds_none sizes (Some bytes) at batches bad holds = bad.1 batches holds
+  module _ (few : length (sizes_of fold) ≤ 16) where
+    same_batches : (p q : ℕ → List Numbered) → AreReplayed (sizes_of fold) folder p fold.logs → AreReplayed (sizes_of fold) folder q fold.logs → (ns rest : List ℕ) → fold.logs ≡ ns ++ rest → batches_of q ns ≡ batches_of p ns
+    same_batches p q is_p is_q ns rest are = batches_same p q ns (λ n held.
+        let live = In-contains fold.logs n (subst (In n) (sym are) (In-left n ns rest held)) in
+        one_log (sizes_of fold) (q n) (p n) (folder (Log n)) few (is_q n live) (is_p n live))
+
+    -- no gap is in front of another one
+    no_sooner : (p q : ℕ → List Numbered) (n m : ℕ) → AreReplayed (sizes_of fold) folder p fold.logs → AreReplayed (sizes_of fold) folder q fold.logs → (a : IsFirstGap p fold.logs n) (b : IsFirstGap q fold.logs m) (r : List ℕ) → b.before ≡ a.before ++ n ∷ r → ⊥
+    no_sooner p q n m is_p is_q a b r e =
+        let front = a.before ++ n ∷ [] in
+        let parts : b.before ≡ front ++ r = e ∙ sym (append_assoc a.before (n ∷ []) r) in
+        let whole : IsInSequence (batches_of q front ++ batches_of q r) = subst IsInSequence (ap (batches_of q) parts ∙ batches_append q front r) b.sequence in
+        a.gap (subst IsInSequence (same_batches p q is_p is_q front a.after (a.is ∙ sym (append_assoc a.before (n ∷ []) a.after))) (goes_front None (batches_of q front) (batches_of q r) whole))
+
+    gap_once : (p q : ℕ → List Numbered) (n m : ℕ) → AreReplayed (sizes_of fold) folder p fold.logs → AreReplayed (sizes_of fold) folder q fold.logs → (a : IsFirstGap p fold.logs n) (b : IsFirstGap q fold.logs m) → Cuts a.before a.after b.before b.after n m → n ≡ m
+    gap_once p q n m is_p is_q a b (same e is) = is
+    gap_once p q n m is_p is_q a b (sooner r e) = absurd (no_sooner p q n m is_p is_q a b r e)
+    gap_once p q n m is_p is_q a b (later r e) = absurd (no_sooner q p m n is_q is_p b a r e)
+
+    gap_not_ahead : (p q : ℕ → List Numbered) (n m : ℕ) → AreReplayed (sizes_of fold) folder p fold.logs → AreReplayed (sizes_of fold) folder q fold.logs → IsFirstGap p fold.logs n → IsAhead fold q m → ⊥
+    gap_not_ahead p q n m is_p is_q a b =
+        let front = a.before ++ n ∷ [] in
+        let parts : fold.logs ≡ front ++ a.after = a.is ∙ sym (append_assoc a.before (n ∷ []) a.after) in
+        let whole : IsInSequence (batches_of q front ++ batches_of q a.after) = subst IsInSequence (ap (batches_of q) parts ∙ batches_append q front a.after) b.sequence in
+        a.gap (subst IsInSequence (same_batches p q is_p is_q front a.after parts) (goes_front None (batches_of q front) (batches_of q a.after) whole))
+
+    together_once : (n m i j : ℕ) (p : AreRefused fold folder n i) (q : AreRefused fold folder m j) → n ≡ m
+    together_once n m i j p q = why_once p.why q.why
+      where
+        why_once : IsFirstGap p.logs fold.logs n ⊎ IsAhead fold p.logs n → IsFirstGap q.logs fold.logs m ⊎ IsAhead fold q.logs m → n ≡ m
+        why_once (inl a) (inl b) = gap_once p.logs q.logs n m p.read q.read a b (cuts_of a.before a.after b.before b.after n m (sym a.is ∙ b.is))
+        why_once (inl a) (inr b) = absurd (gap_not_ahead p.logs q.logs n m p.read q.read a b)
+        why_once (inr a) (inl b) = absurd (gap_not_ahead q.logs p.logs m n q.read p.read b a)
+        why_once (inr a) (inr b) = a.newest ∙ sym b.newest
+
+    bad_log_once : (n m i j : ℕ) → IsBadLog fold folder n i → IsBadLog fold folder m j → (n ≡ m) × (i ≡ j)
+    bad_log_once n m i j p q = why_once p.why q.why
+      where
+        why_once : IsFirstBadLog fold folder n i ⊎ AreRefused fold folder n i → IsFirstBadLog fold folder m j ⊎ AreRefused fold folder m j → (n ≡ m) × (i ≡ j)
+        why_once (inl a) (inl b) = first_bad_once n m i j a b (cuts_of a.before a.after b.before b.after n m (sym a.is ∙ b.is))
+        why_once (inl a) (inr b) = absurd (bad_not_refused n m i j a b)
+        why_once (inr a) (inl b) = absurd (bad_not_refused m n j i b a)
+        why_once (inr a) (inr b) = (together_once n m i j a b, a.place ∙ sym b.place)
 
 -- ---- folders
 
--- a folder with two folds has one
-pub fold_once : (folder : Folder) (f g : Folded) → Means folder (store f) → Means folder (store g) → f ≡ g
-fold_once folder f g p q = let one : store f ≡ store g = means_once folder (store f) (store g) p q in cc
+few_of : (folder : Folder) (fold : Folded) → Means folder (store fold) → length (sizes_of fold) ≤ 16
+few_of folder fold means =
+    let count : length (sizes_of fold) ≡ length fold.families = simp length-map in
+    let usable = usable_from fold (is_fold (folder (chosen folder)) fold means.1) in
+    omega (arith, count, usable.few)
 
--- and one live log
-pub live_once : (f g : Folded) (n m : ℕ) → f ≡ g → f.logs ≡ n ∷ [] → g.logs ≡ m ∷ [] → n ≡ m
-live_once f g n m one p q = let logs : n ∷ [] ≡ m ∷ [] = sym p ∙ ap (λ (x : Folded). x.logs) one ∙ q in cc
+fold_same : (folder : Folder) (a b : Folded) → Means folder (store a) → Means folder (store b) → b ≡ a
+fold_same folder a b p q = store_once b a (means_once folder (store b) (store a) q p)
 
--- a bad log, by the fold and the live log that another way to read the folder gives
-bad_file_of : (folder : Folder) (n m at : ℕ) (bad : IsBadLog folder n at) (fold : Folded) → bad.fold ≡ fold → n ≡ m → IsBadLogFile (sizes_of fold) (folder (Log m)) at
-bad_file_of folder n m at bad fold one live =
-    subst (λ (k : ℕ). IsBadLogFile (sizes_of fold) (folder (Log k)) at) live (subst (λ (f : Folded). IsBadLogFile (sizes_of f) (folder (Log n)) at) one bad.bad)
-
--- a folder has one bad log at most, and that is bad at one place
-pub one_bad_log : (folder : Folder) (n m a b : ℕ) → IsBadLog folder n a → IsBadLog folder m b → (n ≡ m) × (a ≡ b)
-one_bad_log folder n m a b p q =
-    let one = fold_once folder p.fold q.fold p.means q.means in
-    let live = live_once p.fold q.fold n m one p.live q.live in
-    (live, bad_file_once (sizes_of q.fold) (folder (Log m)) a b (bad_file_of folder n m a p q.fold one live) q.bad)
-
--- the fault tells what the folder holds, and not how the disk or the memory fared
-abbrev pub IsToldRefusal : OpenFault → Type 0
-IsToldRefusal NoStore = ⊤
-IsToldRefusal (BadManifest at) = ⊤
-IsToldRefusal (BadLog number at) = ⊤
-IsToldRefusal DiskFault = ⊥
-IsToldRefusal NoMemory = ⊥
-
-none_isn't_bad : (folder : Folder) (at : ℕ) → Means folder no_store → Means folder (bad_at at) → ⊥
-none_isn't_bad folder at p q = q.0 p
-
-none_isn't_store : (folder : Folder) (fold : Folded) → Means folder no_store → Means folder (store fold) → ⊥
-none_isn't_store folder fold p q = q.0 p
-
-bad_isn't_store : (folder : Folder) (at : ℕ) (fold : Folded) → Means folder (bad_at at) → Means folder (store fold) → ⊥
-bad_isn't_store folder at fold p q = let one : bad_at at ≡ store fold = means_once folder (bad_at at) (store fold) p q in cc
+store_isn't_bad : (folder : Folder) (fold : Folded) (at : ℕ) → Means folder (store fold) → Means folder (bad_at at) → ⊥
+store_isn't_bad folder fold at p q = let same : store fold ≡ bad_at at = means_once folder (store fold) (bad_at at) p q in cc
 
 bad_manifest_once : (folder : Folder) (i j : ℕ) → Means folder (bad_at i) → Means folder (bad_at j) → i ≡ j
-bad_manifest_once folder i j p q = let one : bad_at i ≡ bad_at j = means_once folder (bad_at i) (bad_at j) p q in cc
+bad_manifest_once folder i j p q = let same : bad_at i ≡ bad_at j = means_once folder (bad_at i) (bad_at j) p q in cc
 
--- a folder is refused in one way at most
-pub one_opening_refusal : (folder : Folder) (a b : OpenFault) → IsToldRefusal a → IsToldRefusal b → RefusesOpening folder a → RefusesOpening folder b → a ≡ b
-one_opening_refusal folder NoStore NoStore x y p q = refl
-one_opening_refusal folder NoStore (BadManifest j) x y p q = absurd (none_isn't_bad folder j p q)
-one_opening_refusal folder NoStore (BadLog m j) x y p q = absurd (none_isn't_store folder q.fold p q.means)
-one_opening_refusal folder (BadManifest i) NoStore x y p q = absurd (none_isn't_bad folder i q p)
-one_opening_refusal folder (BadManifest i) (BadManifest j) x y p q = ap (λ (k : ℕ). BadManifest k) (bad_manifest_once folder i j p q)
-one_opening_refusal folder (BadManifest i) (BadLog m j) x y p q = absurd (bad_isn't_store folder i q.fold p q.means)
-one_opening_refusal folder (BadLog n i) NoStore x y p q = absurd (none_isn't_store folder p.fold q p.means)
-one_opening_refusal folder (BadLog n i) (BadManifest j) x y p q = absurd (bad_isn't_store folder j p.fold q p.means)
-one_opening_refusal folder (BadLog n i) (BadLog m j) x y p q =
-    let one = one_bad_log folder n m i j p q in
-    ap (λ (k : ℕ). BadLog k i) one.0 ∙ ap (λ (k : ℕ). BadLog m k) one.1
-one_opening_refusal folder DiskFault b x y p q = absurd x
-one_opening_refusal folder NoMemory b x y p q = absurd x
-one_opening_refusal folder a DiskFault x y p q = absurd y
-one_opening_refusal folder a NoMemory x y p q = absurd y
-
--- a bad log holds no batches
-bad_log_stands_for_none : (folder : Folder) (n at : ℕ) (m : State) → IsBadLog folder n at → FolderStands folder m → ⊥
-bad_log_stands_for_none folder n at m bad stands =
-    let one = fold_once folder bad.fold stands.fold bad.means stands.means in
-    let live = live_once bad.fold stands.fold n stands.number one bad.live stands.live in
-    bad_file_holds_none (sizes_of stands.fold) (folder (Log stands.number)) at stands.batches (bad_file_of folder n stands.number at bad stands.fold one live) stands.held
-
--- a folder that is refused stands for no state
-pub refused_stands_for_none : (folder : Folder) (fault : OpenFault) → IsToldRefusal fault → RefusesOpening folder fault → (m : State) → FolderStands folder m → ⊥
-refused_stands_for_none folder NoStore told refused m stands = none_isn't_store folder stands.fold refused stands.means
-refused_stands_for_none folder (BadManifest at) told refused m stands = bad_isn't_store folder at stands.fold refused stands.means
-refused_stands_for_none folder (BadLog number at) told refused m stands = bad_log_stands_for_none folder number at m refused stands
-refused_stands_for_none folder DiskFault told refused m stands = told
-refused_stands_for_none folder NoMemory told refused m stands = told
+pub one_refusal : OneRefusal
+one_refusal folder NoStore NoStore x y p q = refl
+one_refusal folder NoStore (BadManifest j) x y p q = absurd (q.0 p)
+one_refusal folder NoStore (MissingTable k) x y p q = absurd (q.1.0 p)
+one_refusal folder NoStore (BadTable k) x y p q = absurd (q.1.0 p)
+one_refusal folder NoStore (BadLog k j) x y p q = absurd (q.1.0 p)
+one_refusal folder (BadManifest i) NoStore x y p q = absurd (p.0 q)
+one_refusal folder (BadManifest i) (BadManifest j) x y p q = ap (λ (k : ℕ). BadManifest k) (bad_manifest_once folder i j p q)
+one_refusal folder (BadManifest i) (MissingTable k) x y p q = absurd (store_isn't_bad folder q.0 i q.1 p)
+one_refusal folder (BadManifest i) (BadTable k) x y p q = absurd (store_isn't_bad folder q.0 i q.1 p)
+one_refusal folder (BadManifest i) (BadLog k j) x y p q = absurd (store_isn't_bad folder q.0 i q.1 p)
+one_refusal folder (MissingTable n) NoStore x y p q = absurd (p.1.0 q)
+one_refusal folder (MissingTable n) (BadManifest j) x y p q = absurd (store_isn't_bad folder p.0 j p.1 q)
+one_refusal folder (MissingTable n) (MissingTable k) x y p q =
+    let other = subst (λ (z : Folded). IsMissingTable z folder k) (fold_same folder p.0 q.0 p.1 q.1) q.2 in
+    ap (λ (z : ℕ). MissingTable z) (first_once folder p.0 n k (missing_first folder p.0 n p.2) (missing_first folder p.0 k other))
+one_refusal folder (MissingTable n) (BadTable k) x y p q =
+    let other = subst (λ (z : Folded). IsBadTable z folder k) (fold_same folder p.0 q.0 p.1 q.1) q.2 in
+    let same = first_once folder p.0 n k (missing_first folder p.0 n p.2) (bad_first folder p.0 k other) in
+    absurd (other.there (subst (λ (z : ℕ). folder (Table z) ≡ None) same p.2.missing))
+one_refusal folder (MissingTable n) (BadLog k j) x y p q =
+    let other = subst (λ (z : Folded). IsBadLog z folder k j) (fold_same folder p.0 q.0 p.1 q.1) q.2 in
+    absurd (no_first_in_order folder p.0 n (missing_first folder p.0 n p.2) other.tables)
+one_refusal folder (BadTable n) NoStore x y p q = absurd (p.1.0 q)
+one_refusal folder (BadTable n) (BadManifest j) x y p q = absurd (store_isn't_bad folder p.0 j p.1 q)
+one_refusal folder (BadTable n) (MissingTable k) x y p q =
+    let other = subst (λ (z : Folded). IsMissingTable z folder k) (fold_same folder p.0 q.0 p.1 q.1) q.2 in
+    let same = first_once folder p.0 k n (missing_first folder p.0 k other) (bad_first folder p.0 n p.2) in
+    absurd (p.2.there (subst (λ (z : ℕ). folder (Table z) ≡ None) same other.missing))
+one_refusal folder (BadTable n) (BadTable k) x y p q =
+    let other = subst (λ (z : Folded). IsBadTable z folder k) (fold_same folder p.0 q.0 p.1 q.1) q.2 in
+    ap (λ (z : ℕ). BadTable z) (first_once folder p.0 n k (bad_first folder p.0 n p.2) (bad_first folder p.0 k other))
+one_refusal folder (BadTable n) (BadLog k j) x y p q =
+    let other = subst (λ (z : Folded). IsBadLog z folder k j) (fold_same folder p.0 q.0 p.1 q.1) q.2 in
+    absurd (no_first_in_order folder p.0 n (bad_first folder p.0 n p.2) other.tables)
+one_refusal folder (BadLog n i) NoStore x y p q = absurd (p.1.0 q)
+one_refusal folder (BadLog n i) (BadManifest j) x y p q = absurd (store_isn't_bad folder p.0 j p.1 q)
+one_refusal folder (BadLog n i) (MissingTable k) x y p q =
+    let other = subst (λ (z : Folded). IsMissingTable z folder k) (fold_same folder p.0 q.0 p.1 q.1) q.2 in
+    absurd (no_first_in_order folder p.0 k (missing_first folder p.0 k other) p.2.tables)
+one_refusal folder (BadLog n i) (BadTable k) x y p q =
+    let other = subst (λ (z : Folded). IsBadTable z folder k) (fold_same folder p.0 q.0 p.1 q.1) q.2 in
+    absurd (no_first_in_order folder p.0 k (bad_first folder p.0 k other) p.2.tables)
+one_refusal folder (BadLog n i) (BadLog k j) x y p q =
+    let other = subst (λ (z : Folded). IsBadLog z folder k j) (fold_same folder p.0 q.0 p.1 q.1) q.2 in
+    let one = bad_log_once folder p.0 (few_of folder p.0 p.1) n k i j p.2 other in
+    ap (λ (z : ℕ). BadLog z i) one.0 ∙ ap (λ (z : ℕ). BadLog k z) one.1
+one_refusal folder DiskFault b x y p q = absurd (x tt)
+one_refusal folder NoMemory b x y p q = absurd (x tt)
+one_refusal folder a DiskFault x y p q = absurd (y tt)
+one_refusal folder a NoMemory x y p q = absurd (y tt)

@@ -1,4 +1,10 @@
-pub mod Stores
 pub mod Fault
+pub mod Looks
+pub mod Tables
+pub mod Refusals
+pub mod Places
+pub mod Replayed
+pub mod Versions
 pub mod Opening
 pub mod Making
+pub mod Laws

@@ -1,20 +1,19 @@
--- What making a store leaves of a folder.
-use Rattle.std.specs.Prelude.{◌≡◌, ◌⊎◌, List, [], None}
+-- What making a store leaves of a folder, and why none is made.
+use Rattle.std.specs.Prelude.{◌≡◌, ◌⊎◌, ⊤, Bool, true, false, List}
 use Rattle.udt_disk.specs.Crash.{Image}
 use Rattle.udt_disk.specs.Joint.{Folder}
 use Rattle.udt_disk.specs.declared.name.FileName.{FileName}
 use Rattle.udt_disk.specs.declared.name.FileName.TheVariants.{Log}
 use Rattle.udt_disk.specs.declared.disk.Disk as disk
 use Rattle.udt_model.specs.declared.line.FamilyHead.{FamilyHead}
-use Rattle.udt_model.specs.State.{State, unflushed}
+use Rattle.manifest_fold.specs.declared.fold.Folded.{Folded}
 use Rattle.manifest.specs.Folders.{Means}
-use Rattle.manifest.specs.Folders.Meaning.{no_store}
+use Rattle.manifest.specs.Folders.Meaning.{bad_at, no_store, store}
 use Rattle.manifest.specs.Making.{IsStoreName}
-use Rattle.recovery.specs.Stores.{FolderStands}
-
--- the state of a store of these families in which nothing was written
-abbrev pub new_state : List FamilyHead → State
-new_state families = unflushed families [] (record { 0 = 0 }) None
+use Rattle.engine_laws.specs.Standing.{FolderStands, new_state}
+use Rattle.recovery.specs.Tables.{ReadsAsTable}
+use Rattle.recovery.specs.declared.fault.InitFault.{InitFault}
+use Rattle.recovery.specs.declared.fault.InitFault.TheVariants.{BadManifest, DiskFault, NoMemory, StoreExists}
 
 -- the names that making a store touches
 abbrev pub IsMakingName : FileName → Type 0
@@ -27,4 +26,25 @@ pub record KeepsOthers {D F : Type 0} (d : disk.Ghosts D F) (old new : D) : Type
 
 -- there is no store, or the one of these families in which nothing was written
 abbrev pub IsNoneOrNew : List FamilyHead → Folder → Type 0
-IsNoneOrNew families folder = Means folder no_store ⊎ FolderStands folder (new_state families)
+IsNoneOrNew families folder = Means folder no_store ⊎ FolderStands ReadsAsTable folder (new_state families)
+
+-- in this folder a store isn't made for this reason
+abbrev pub RefusesMaking : Folder → InitFault → Type 0
+RefusesMaking folder StoreExists = (fold : Folded) × Means folder (store fold)
+RefusesMaking folder (BadManifest at) = Means folder (bad_at at)
+RefusesMaking folder DiskFault = ⊤
+RefusesMaking folder NoMemory = ⊤
+
+-- the fault tells what the folder means, so that nothing was made
+abbrev pub IsMakingRefusal : InitFault → Type 0
+IsMakingRefusal StoreExists = ⊤
+IsMakingRefusal (BadManifest at) = ⊤
+IsMakingRefusal DiskFault = ⊥
+IsMakingRefusal NoMemory = ⊥
+
+-- the fault is the disk's
+abbrev pub is_init_disk_fault : InitFault → Bool
+is_init_disk_fault StoreExists = false
+is_init_disk_fault (BadManifest at) = false
+is_init_disk_fault DiskFault = true
+is_init_disk_fault NoMemory = false

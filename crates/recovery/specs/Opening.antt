@@ -1,102 +1,83 @@
--- What opening a folder as a store finds, and what it leaves.
-use Rattle.std.specs.Prelude.{◌≡◌, ◌≢◌, ℕ, ◌+◌, ◌<◌, ◌≤◌, List, [], ◌∷◌, ◌++◌, length, map, Some, IsTrue, ⊤, Result, Ok, Err}
-use Rattle.ts_key.specs.declared.limits.TheConstants.{SEQUENCE_LIMIT}
-use Rattle.udt_disk.specs.Crash.{Image, Only}
+-- What opening a folder as a store finds, and when it is refused.
+use Rattle.std.specs.Prelude.{◌≡◌, ℕ, ◌≤◌, List, length, ⊤, Result, Ok, Err}
+use Rattle.std.specs.List.Sorted.{IsStrictlyIncreasing}
+use Rattle.ts_key.specs.declared.limits.TheConstants.{FAMILY_LIMIT}
 use Rattle.udt_disk.specs.Joint.{Folder}
 use Rattle.udt_disk.specs.Moments.{IsClean}
-use Rattle.udt_disk.specs.declared.name.FileName.{FileName}
-use Rattle.udt_disk.specs.declared.name.FileName.TheVariants.{Log}
 use Rattle.udt_disk.specs.declared.file.DiskFile as file
 use Rattle.udt_disk.specs.declared.disk.Disk as disk
 use Rattle.wal.specs.declared.numbered.Numbered.{Numbered}
-use Rattle.wal.specs.declared.wal.Wal.{Wal}
-use Rattle.wal.specs.Replays.{ReadsAs, LogHolds}
-use Rattle.wal.specs.Sequences.{next_sequence, IsNextSequence}
-use Rattle.wal.specs.Wals.{wal_file, wal_sizes, IsWalOf, Holds}
-use Rattle.manifest.specs.declared.fold.Folded.{Folded}
+use Rattle.wal.specs.Sequences.{IsInSequence}
+use Rattle.manifest_fold.specs.declared.fold.Folded.{Folded}
 use Rattle.manifest.specs.Folders.{Means, chosen}
-use Rattle.manifest.specs.Folders.Meaning.{store}
-use Rattle.manifest.specs.Manifest.{manifest_file, Shows, Rests}
-use Rattle.recovery.specs.Stores.{head_of, versions_of, last_of, sizes_of, state_of}
-use Rattle.recovery.specs.Fault.{IsBadLogFile}
+use Rattle.manifest.specs.Folders.Meaning.{no_store, bad_at, store}
+use Rattle.manifest.specs.Folds.{sizes_of}
+use Rattle.manifest.specs.Manifest.{manifest_file, manifest_folded, ShowsFold, FoldRests}
+use Rattle.super_version.specs.declared.version.SuperVersion.{SuperVersion}
+use Rattle.engine_laws.specs.Logs.{batches_of, last_of, last_over, versions_of}
+use Rattle.recovery.specs.Versions.{ShowsVersion}
+use Rattle.recovery.specs.Places.{AreOpened}
+use Rattle.recovery.specs.Refusals.{AreReplayed, IsBadLog, IsBadTable, IsMissingTable}
+use Rattle.recovery.specs.Replayed.{IsNewestLog, above_through}
 use Rattle.recovery.specs.declared.fault.OpenFault.{OpenFault}
-use Rattle.recovery.specs.declared.fault.OpenFault.TheVariants.{NoStore, BadManifest, BadLog, DiskFault, NoMemory}
+use Rattle.recovery.specs.declared.fault.OpenFault.TheVariants as faults
 use Rattle.recovery.specs.declared.opening.Parts.{Parts}
-use Rattle.recovery.specs.declared.said.Said.{Said}
+use Rattle.recovery.specs.declared.tables.Opened.{Opened}
 
--- this is what a fold and the batches of its live log say
-pub record IsSaid (fold : Folded) (batches : List Numbered) (said : Said) : Type 0 where
-  pub heads : said.heads.items ≡ map head_of fold.families
-  pub versions : said.versions.items ≡ versions_of batches
-  pub last : said.last.0 ≡ last_of fold.last.0 batches
-  pub within : said.last.0 < SEQUENCE_LIMIT + 1
-  pub next : IsNextSequence (next_sequence batches) (said.last.0 + 1)
+-- a fold of which a store can be opened, as that of every manifest is
+pub record IsUsable (fold : Folded) : Type 0 where
+  pub some : 1 ≤ length fold.families
+  pub few : length fold.families ≤ FAMILY_LIMIT
+  pub logs : 1 ≤ length fold.logs
+  pub ascending : IsStrictlyIncreasing fold.logs
 
--- why a log in a file isn't replayed
-abbrev pub RefusesFile : List ℕ → ℕ → List ℕ → OpenFault → Type 0
-RefusesFile sizes number bytes NoStore = ⊥
-RefusesFile sizes number bytes (BadManifest at) = ⊥
-RefusesFile sizes number bytes (BadLog n at) = (n ≡ number) × IsBadLogFile sizes (Some bytes) at
-RefusesFile sizes number bytes DiskFault = ⊤
-RefusesFile sizes number bytes NoMemory = ⊤
+-- The super version shows what the files say. The live tables are in order, and are those of the version. The live logs have no gap, and
+-- the manifest's last sequence isn't above theirs; the memtables have exactly their versions above each `through`, and the last
+-- sequence is the greater of both.
+pub record IsShown (folder : Folder) (fold : Folded) (version : SuperVersion) : Type 0 where
+  pub opened : List Opened
+  pub tables : AreOpened folder fold opened
+  pub logs : ℕ → List Numbered
+  pub read : AreReplayed (sizes_of fold) folder logs fold.logs
+  pub sequence : IsInSequence (batches_of logs fold.logs)
+  pub behind : fold.last.0 ≤ last_of fold.last.0 (batches_of logs fold.logs)
+  pub shows : ShowsVersion fold opened (above_through fold.families (versions_of (batches_of logs fold.logs))) (record { 0 = last_over fold.last.0 (batches_of logs fold.logs) }) version
 
--- why the live log of a fold isn't opened
-abbrev pub RefusesLog : Folded → ℕ → Folder → OpenFault → Type 0
-RefusesLog fold number folder NoStore = ⊥
-RefusesLog fold number folder (BadManifest at) = ⊥
-RefusesLog fold number folder (BadLog n at) = (n ≡ number) × IsBadLogFile (sizes_of fold) (folder (Log number)) at
-RefusesLog fold number folder DiskFault = ⊤
-RefusesLog fold number folder NoMemory = ⊤
-
-module _ {F : Type 0} {g : file.Ghosts F} where
-  -- the files that an answer holds
-  abbrev pub files_taken : {E : Type 0} → Result (Wal F g × Said) E → List F
-  files_taken (Ok taken) = wal_file taken.0 ∷ []
-  files_taken (Err e) = []
-
--- What the file holds is a log of batches, and this is what they say. The log rests where the file rested.
-pub record IsReplayed {F : Type 0} (g : file.Ghosts F) (fold : Folded) (old : F) (wal : Wal F g) (said : Said) : Type 0 where
-  pub batches : List Numbered
-  pub shown : IsWalOf g wal batches []
-  pub held : LogHolds (sizes_of fold) batches (g.seen old)
-  pub said_is : IsSaid fold batches said
-  pub rests : Only (g.seen old) (g.may_leave old) → Holds g wal batches []
-
-module _ {D F : Type 0} (d : disk.Ghosts D F) (f : file.Ghosts F) where
-  -- The live log of a fold is held. What stood under its name is a log of batches, and this is what they say.
-  pub record IsTaken (old : D) (fold : Folded) (number : ℕ) (wal : Wal F f) (said : Said) : Type 0 where
-    pub batches : List Numbered
-    pub shown : IsWalOf f wal batches []
-    pub name : f.name (wal_file wal) ≡ Log number
-    pub held : ReadsAs (sizes_of fold) batches (d.stands old (Log number))
-    pub said_is : IsSaid fold batches said
-    pub rests : ((c : Image) → d.may_leave old (Log number) c → c ≡ d.stands old (Log number)) → Holds f wal batches []
-
--- The folder was opened as a store, as it stood: its manifest and its live log are held, and what they say is told. Where a crash
--- left nothing else, both rest.
-pub record IsOpened {D F : Type 0} (d : disk.Ghosts D F) (f : file.Ghosts F) (old : D) (parts : Parts D F f) : Type 0 where
-  pub fold : Folded
-  pub means : Means (d.stands old) (store fold)
-  pub number : ℕ
-  pub live : fold.logs ≡ number ∷ []
-  pub batches : List Numbered
+-- The folder was opened as a store, as it stood: its manifest and its newest live log are held. Where a crash left nothing else, both
+-- rest.
+pub record IsOpenedAs {D F : Type 0} (d : disk.Ghosts D F) (f : file.Ghosts F) (old : D) (parts : Parts D F f) : Type 0 where
+  pub means : Means (d.stands old) (store (manifest_folded parts.manifest))
+  pub shown : IsShown (d.stands old) (manifest_folded parts.manifest) parts.version
   -- the manifest
   pub manifest_name : f.name (manifest_file parts.manifest) ≡ chosen (d.stands old)
-  pub manifest_stood : d.stands old (chosen (d.stands old)) ≡ Some (f.seen (manifest_file parts.manifest))
-  pub shows : Shows f parts.manifest fold
-  pub manifest_rests : IsClean d old → Rests f parts.manifest fold
-  -- the live log
-  pub name : f.name (wal_file parts.wal) ≡ Log number
-  pub stood : d.stands old (Log number) ≡ Some (f.seen (wal_file parts.wal))
-  pub apart : f.name (manifest_file parts.manifest) ≢ f.name (wal_file parts.wal)
-  pub sizes : wal_sizes parts.wal ≡ sizes_of fold
-  pub held : ReadsAs (sizes_of fold) batches (d.stands old (Log number))
-  pub shown : IsWalOf f parts.wal batches []
-  pub rests : IsClean d old → Holds f parts.wal batches []
-  -- what they say
-  pub heads : parts.heads.items ≡ map head_of fold.families
-  pub versions : parts.versions.items ≡ (state_of fold batches).versions
-  pub last : parts.last ≡ (state_of fold batches).last
+  pub manifest_shows : ShowsFold f parts.manifest
+  pub manifest_rests : IsClean d old → FoldRests f parts.manifest
+  -- the newest log
+  pub wal : IsNewestLog d f old (manifest_folded parts.manifest) parts.wal
+
+-- why the files of a fold aren't opened
+abbrev pub RefusesFiles : Folded → Folder → OpenFault → Type 0
+RefusesFiles fold folder faults.NoStore = ⊥
+RefusesFiles fold folder (faults.BadManifest at) = ⊥
+RefusesFiles fold folder (faults.MissingTable n) = IsMissingTable fold folder n
+RefusesFiles fold folder (faults.BadTable n) = IsBadTable fold folder n
+RefusesFiles fold folder (faults.BadLog n at) = IsBadLog fold folder n at
+RefusesFiles fold folder faults.DiskFault = ⊤
+RefusesFiles fold folder faults.NoMemory = ⊤
+
+-- the folder has a store whose fold has this
+abbrev pub OfStore : Folder → (Folded → Type 0) → Type 0
+OfStore folder Has = (fold : Folded) × Means folder (store fold) × Has fold
+
+-- the folder may be refused so
+abbrev pub RefusesOpening : Folder → OpenFault → Type 0
+RefusesOpening folder faults.NoStore = Means folder no_store
+RefusesOpening folder (faults.BadManifest at) = Means folder (bad_at at)
+RefusesOpening folder (faults.MissingTable n) = OfStore folder (λ fold. IsMissingTable fold folder n)
+RefusesOpening folder (faults.BadTable n) = OfStore folder (λ fold. IsBadTable fold folder n)
+RefusesOpening folder (faults.BadLog n at) = OfStore folder (λ fold. IsBadLog fold folder n at)
+RefusesOpening folder faults.DiskFault = ⊤
+RefusesOpening folder faults.NoMemory = ⊤
 
 -- the disk that an answer hands back
 abbrev pub disk_after : {D F : Type 0} {f : file.Ghosts F} → Result (Parts D F f) (D × OpenFault) → D

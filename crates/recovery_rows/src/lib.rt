@@ -1,4 +1,4 @@
-//! Tests of stores in folders, by their public calls.
+//! Tests of stores in folders with edits and tables, by their public calls.
 #![tactic(auto)]
 
 #[cfg(test)]

@@ -1,3 +1,4 @@
-//! Stores that are made, opened and refused.
+//! Tests, by what they look at.
 
-mod stores;
+mod making;
+mod opening;

@@ -13,7 +13,7 @@ use Rattle.client_lang.specs.Print.{IsBuiltReply}
 use Rattle.udt_model.specs.State.{State}
 use Rattle.solo_runner.specs.Named.{accepted_unless, admitted, family_of, full, made, place_of, refusal, refused, unknown, version_of}
 use Rattle.udt_model.specs.Refusals.{halt, ◌or_else◌}
-use Rattle.solo_runner.specs.Adding.{Grows, IsRefusal, after_op, refusal_of, with_versions}
+use Rattle.solo_runner.specs.Adding.{Grows, IsWriteRefusal, after_op, refusal_of, with_versions}
 
 -- the versions of the first i operations were added, and the refusal is that of the others
 pub record AddedSoFar (m : State) (ops : List NamedOp) (i : ℕ) (now : State) : Type 0 where
@@ -41,8 +41,8 @@ front_at : (ops : List NamedOp) (i : ℕ) (o : NamedOp) → i < length ops → o
 front_at ops i o lt e = take_more ops i o lt ∙ ap (λ (x : NamedOp). take i ops ++ x ∷ []) (sym e)
 
 -- none is refused: the rest goes on behind it
-goes_on : (m : State) (w : List Version) (n k : ℕ) (o : NamedOp) (os : List NamedOp) → refusal w k (place_of m o.family) o ≡ None → refused m w n k (o ∷ os) ≡ refused m (w ++ version_of (family_of m o) o (n + 1) ∷ []) (n + 1) (k + 1) os
-goes_on m w n k o os e = ap (λ (r : Option Reply). r or_else refused m (w ++ version_of (family_of m o) o (n + 1) ∷ []) (n + 1) (k + 1) os) e
+accepted_goes_on : (m : State) (w : List Version) (n k : ℕ) (o : NamedOp) (os : List NamedOp) → refusal w k (place_of m o.family) o ≡ None → refused m w n k (o ∷ os) ≡ refused m (w ++ version_of (family_of m o) o (n + 1) ∷ []) (n + 1) (k + 1) os
+accepted_goes_on m w n k o os e = ap (λ (r : Option Reply). r or_else refused m (w ++ version_of (family_of m o) o (n + 1) ∷ []) (n + 1) (k + 1) os) e
 
 stops_here : (m : State) (w : List Version) (n k : ℕ) (o : NamedOp) (os : List NamedOp) (r : Reply) → refusal w k (place_of m o.family) o ≡ Some r → refused m w n k (o ∷ os) ≡ Some r
 stops_here m w n k o os r e = ap (λ (x : Option Reply). x or_else refused m (w ++ version_of (family_of m o) o (n + 1) ∷ []) (n + 1) (k + 1) os) e
@@ -65,7 +65,7 @@ step_on m ops i w o lt at w_is rest none =
       state_is = ap (with_versions m) (sym more);
       rest =
           ap (λ (j : ℕ). refused m (w ++ version_of (family_of m o) o j ∷ []) j (i + 1 + 1) (drop (i + 1) ops)) (sym k)
-          ∙ sym (goes_on m w (m.last.0 + i) (i + 1) o (drop (i + 1) ops) none)
+          ∙ sym (accepted_goes_on m w (m.last.0 + i) (i + 1) o (drop (i + 1) ops) none)
           ∙ ap (refused m w (m.last.0 + i) (i + 1)) (sym (rest_at ops i o lt at))
           ∙ rest;
     }
@@ -129,12 +129,12 @@ admitted_by m os e =
     sym (ap (λ (u : Option Reply). accepted_unless (m.last.0 + length os) (u or_else refused m m.versions m.last.0 1 os or_else full m os)) (not_halted (unknown m os) (halt m) (ap (option_map Halted) e)))
 
 -- a write that is refused leaves the state
-pub refusal_leaves : (m : State) (number : ℕ) (os : List NamedOp) (sync : Bool) (r : Reply) → IsRefusal r → after m number (Write os sync) r ≡ m
+pub refusal_leaves : (m : State) (number : ℕ) (os : List NamedOp) (sync : Bool) (r : Reply) → IsWriteRefusal r → after m number (Write os sync) r ≡ m
 refusal_leaves m number os sync (OkAt n) h = absurd h
 refusal_leaves m number os sync Fault h = absurd h
 refusal_leaves m number os sync r h = refl
 
-pub refusal_sound : (r : Reply) → IsRefusal r → says_fault r ≡ false
+pub refusal_sound : (r : Reply) → IsWriteRefusal r → says_fault r ≡ false
 refusal_sound (OkAt n) h = absurd h
 refusal_sound Fault h = absurd h
 refusal_sound DroppedFault h = absurd h
@@ -144,12 +144,12 @@ pub told_sound : {E : Type 0} (r : Result Reply E) (reply : Reply) → IfOk r (�
 told_sound (Ok x) reply a b c = rw b a
 told_sound (Err x) reply a b c = rw c refl
 
-pub refusal_built : (r : Reply) → IsRefusal r → IsBuiltReply r
+pub refusal_built : (r : Reply) → IsWriteRefusal r → IsBuiltReply r
 refusal_built (OkAt n) h = absurd h
 refusal_built Fault h = absurd h
 refusal_built r h = h
 
-take_front : (vs more : List Version) (n : ℕ) → n ≡ length vs → take n (vs ++ more) ≡ vs
+pub take_front : (vs more : List Version) (n : ℕ) → n ≡ length vs → take n (vs ++ more) ≡ vs
 take_front [] more n e = rw e refl
 take_front (v ∷ vs) more n e = let k : n ≡ suc (length vs) = omega arith in rw k (ap (λ (t : List Version). v ∷ t) (take_front vs more (length vs) refl))
 

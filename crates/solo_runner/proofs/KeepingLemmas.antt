@@ -28,14 +28,14 @@ use Rattle.wal.specs.declared.numbered.Numbered.{Numbered}
 use Rattle.wal.specs.declared.wal.Wal.{Wal}
 use Rattle.wal.specs.Replays.{ReadsAs, IsBeforeOrAfter}
 use Rattle.wal.specs.Wals.{Holds, wal_file, wal_sizes}
-use Rattle.wal.proofs.WalLemmas.{images_read}
-use Rattle.manifest.specs.declared.fold.Folded.{Folded}
+use Rattle.wal.proofs.Showing.{images_read}
+use Rattle.head_manifest.specs.declared.fold.Folded.{Folded}
 use Rattle.gate_log.specs.declared.fault.LogFault.TheVariants.{DiskFault}
 use Rattle.solo_runner.specs.Keeping.{IsLive, Keeps, ReadsAsOutcome}
 use Rattle.solo_runner.specs.Logging.{HoldsLogged, IsLogged, numbered_of}
 use Rattle.solo_runner.specs.LoggedStores.{KeepsOn}
-use Rattle.recovery.specs.Stores.{last_of, state_of}
-use Rattle.recovery.specs.Stores as stores
+use Rattle.plain_recovery.specs.Stores.{last_of, state_of}
+use Rattle.plain_recovery.specs.Stores as stores
 use Rattle.solo_runner.proofs.VersionLemmas.{Above, above_behind, cut_state, last_append, last_behind, last_up, length-made, settled_state, state_more, wal_above, whole_state}
 
 -- the state after a write that was taken

@@ -9,9 +9,9 @@ use Rattle.udt_model.specs.Histories.{start}
 use Rattle.udt_model.specs.Crashes.{Course, course_start, course_behind}
 use Rattle.solo_runner.specs.Named.{course_after}
 use Rattle.client_lang.specs.Print.{IsBuilt}
-use Rattle.manifest.specs.declared.fold.Folded.{Folded}
+use Rattle.head_manifest.specs.declared.fold.Folded.{Folded}
 use Rattle.client_lang.specs.declared.command.Command.{Command}
-use Rattle.solo_runner.specs.LoggedStores.{IsInStep, IsStep, IsStepCause, state_of, wal_of}
+use Rattle.solo_runner.specs.LoggedStores.{IsInStep, IsStep, IsStepCause, store_state, wal_of}
 use Rattle.solo_runner.specs.Sessions.{GoesWith, KeepsCourse, faults_of}
 use Rattle.solo_runner.specs.Solo.{HasRun}
 use Rattle.solo_runner.specs.declared.logged.LoggedStore.{LoggedStore}
@@ -23,25 +23,25 @@ cause_of before now true cause e = cause
 cause_of before now false cause e = absurd (cc e)
 
 module _ {F : Type 0} (g : Ghosts F) where
-  pub goes_nowhere : (s : LoggedStore F g) (lines : List Line) → lines ≡ [] → IsInStep g (wal_of s) (state_of s) → GoesWith g s s lines
+  pub goes_nowhere : (s : LoggedStore F g) (lines : List Line) → lines ≡ [] → IsInStep g (wal_of s) (store_state s) → GoesWith g s s lines
   goes_nowhere s lines e ready = record {
     in_step = ready;
-    kept = λ fold k. subst (λ (ls : List Line). KeepsCourse g s fold (course_behind (start (state_of s)) (course_start (state_of s)) ls)) (sym e) k;
+    kept = λ fold k. subst (λ (ls : List Line). KeepsCourse g s fold (course_behind (start (store_state s)) (course_start (store_state s)) ls)) (sym e) k;
     later = omega arith;
     sound = sound_none (faults_of g s) lines e;
     same = record { name = refl; told = refl; model = refl };
   }
 
   -- one event more
-  kept_on : (mid new : LoggedStore F g) (number : ℕ) (line : Line) → IsStep g (wal_of mid) (wal_of new) (state_of mid) (state_of new) number line.event line.reply
-      → (fold : Folded) (c : Course) → KeepsCourse g mid fold c → KeepsCourse g new fold (course_after (state_of mid) number c line.event line.reply)
+  kept_on : (mid new : LoggedStore F g) (number : ℕ) (line : Line) → IsStep g (wal_of mid) (wal_of new) (store_state mid) (store_state new) number line.event line.reply
+      → (fold : Folded) (c : Course) → KeepsCourse g mid fold c → KeepsCourse g new fold (course_after (store_state mid) number c line.event line.reply)
   kept_on mid new number line s fold c k = (k.0, k.1 ∙ sym s.sizes, s.keeps_on.keeps fold c k.0 k.1 k.2)
 
-  pub goes_on : (old mid new : LoggedStore F g) (commands : List Command) (lines : List Line) (last : Mark) (number : ℕ) (line : Line) → IsBuilt line.event → number ≡ last.number + 1 → HasRun (state_of old) commands lines (state_of mid) last → GoesWith g old mid lines
-      → IsStep g (wal_of mid) (wal_of new) (state_of mid) (state_of new) number line.event line.reply → GoesWith g old new (lines ++ line ∷ [])
-  goes_on old mid new commands lines last number line built is r w s = record {
+  pub one_event_more : (old mid new : LoggedStore F g) (commands : List Command) (lines : List Line) (last : Mark) (number : ℕ) (line : Line) → IsBuilt line.event → number ≡ last.number + 1 → HasRun (store_state old) commands lines (store_state mid) last → GoesWith g old mid lines
+      → IsStep g (wal_of mid) (wal_of new) (store_state mid) (store_state new) number line.event line.reply → GoesWith g old new (lines ++ line ∷ [])
+  one_event_more old mid new commands lines last number line built is r w s = record {
     in_step = s.in_step;
-    kept = λ fold k. keeps_more (KeepsCourse g new fold) (state_of old) (state_of mid) commands last (course_start (state_of old)) lines line number built is r (kept_on mid new number line s fold (course_behind (start (state_of old)) (course_start (state_of old)) lines) (w.kept fold k));
+    kept = λ fold k. keeps_more (KeepsCourse g new fold) (store_state old) (store_state mid) commands last (course_start (store_state old)) lines line number built is r (kept_on mid new number line s fold (course_behind (start (store_state old)) (course_start (store_state old)) lines) (w.kept fold k));
     later = omega (arith, w.later, s.later);
     sound = sound_more (faults_of g old) (faults_of g mid) (faults_of g new) lines line w.later s.later w.sound (cause_of (faults_of g mid) (faults_of g new) (says_fault line.reply) s.cause);
     same = record { name = s.same.name ∙ w.same.name; told = s.same.told ∙ w.same.told; model = s.same.model ∙ w.same.model };

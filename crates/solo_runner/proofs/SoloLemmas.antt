@@ -85,8 +85,8 @@ number_behind p last line n =
       | inr e ↦ rw (e, n) refl
     ]
 
-last_behind : (p : Point) (line : Line) → line.who ≡ Client 1 → (behind p line).last (Client 1) ≡ line.mark
-last_behind p line w = rw w refl
+last_mark_behind : (p : Point) (line : Line) → line.who ≡ Client 1 → (behind p line).last (Client 1) ≡ line.mark
+last_mark_behind p line w = rw w refl
 
 runner_behind : (p : Point) (line : Line) → line.who ≡ Client 1 → (behind p line).last Runner ≡ p.last Runner
 runner_behind p line w = rw w refl
@@ -129,7 +129,7 @@ ran_more m cs lines store new last event line r n =
       };
       state_is = state_next r.end (Client 1) last.number last store new event line r.state_is r.number_is n;
       number_is = number_behind r.end last line r.number_is ∙ ap (λ (k : Mark). k.number) (sym n.mark);
-      last_is = last_behind r.end line n.who_is;
+      last_is = last_mark_behind r.end line n.who_is;
       runner_is = runner_behind r.end line n.who_is ∙ r.runner_is;
       count =
           let le = count_behind last line (length lines) r.count in

@@ -36,10 +36,10 @@ use Rattle.solo_runner.specs.Adding.{IsAdmitted, op_of, refusal_of, with_version
 use Rattle.solo_runner.specs.Logging.{HasRoom, HoldsLogged, IsLogged, batch_behind, numbered_of}
 use Rattle.solo_runner.specs.LoggedStores.{IsInStep, IsStep}
 use Rattle.udt_model.specs.Crashes.{Course}
-use Rattle.solo_runner.specs.Adding.{IsRefusal}
+use Rattle.solo_runner.specs.Adding.{IsWriteRefusal}
 use Rattle.solo_runner.specs.Named.{course_after}
 use Rattle.solo_runner.specs.LoggedStores.{IsStepCause}
-use Rattle.solo_runner.proofs.Adding.{refusal_built, refusal_leaves, refusal_sound, reply_found}
+use Rattle.solo_runner.proofs.Adding.{refusal_built, refusal_leaves, refusal_sound, reply_found, take_front}
 use Rattle.solo_runner.proofs.VersionLemmas.{length-ops}
 use Rattle.solo_runner.proofs.Naming.{same_admitted}
 use Rattle.solo_runner.proofs.KeepingLemmas.{halted_at, still_on, sync_fails_on, sync_on, taken, write_fails, write_on}
@@ -93,52 +93,48 @@ drop_front : (vs more : List Version) (n : ℕ) → n ≡ length vs → drop n (
 drop_front [] more n e = rw e refl
 drop_front (v ∷ vs) more n e = let k : n ≡ suc (length vs) = omega arith in rw k (drop_front vs more (length vs) refl)
 
-take_front : (vs more : List Version) (n : ℕ) → n ≡ length vs → take n (vs ++ more) ≡ vs
-take_front [] more n e = rw e refl
-take_front (v ∷ vs) more n e = let k : n ≡ suc (length vs) = omega arith in rw k (ap (λ (t : List Version). v ∷ t) (take_front vs more (length vs) refl))
-
 -- a write was admitted to the store, behind the versions that it had
-pub record IsAdded (m now : State) (count : ℕ) (os : List NamedOp) : Type 0 where
+pub record HasAdded (m now : State) (count : ℕ) (os : List NamedOp) : Type 0 where
   pub is : now ≡ with_versions m (m.versions ++ made m m.last.0 os)
   pub counted : count ≡ length m.versions
 
-pub added_versions : (m now : State) (count : ℕ) (os : List NamedOp) → IsAdded m now count os → drop count now.versions ≡ made m m.last.0 os
+pub added_versions : (m now : State) (count : ℕ) (os : List NamedOp) → HasAdded m now count os → drop count now.versions ≡ made m m.last.0 os
 added_versions m now count os added = ap (λ (s : State). drop count s.versions) added.is ∙ drop_front m.versions (made m m.last.0 os) count added.counted
 
-pub is_added : (m now : State) (count : ℕ) (os : List NamedOp) (found : Option Reply) → found ≡ None → IsAdmitted m os found now → count ≡ length m.versions → IsAdded m now count os
+pub is_added : (m now : State) (count : ℕ) (os : List NamedOp) (found : Option Reply) → found ≡ None → IsAdmitted m os found now → count ≡ length m.versions → HasAdded m now count os
 is_added m now count os found none admitted counted = record { is = subst (λ (f : Option Reply). IsAdmitted m os f now) none admitted; counted = counted }
 
 -- what logging them asks
-pub added_batch : (m now : State) (count : ℕ) (os : List NamedOp) → IsAdded m now count os → 0 < length os → length os ≤ 64 → All (λ (o : NamedOp). o.ts.0 ≤ 2 ^ 64 - 2) os → IsBatch (map op_of (drop count now.versions))
+pub added_batch : (m now : State) (count : ℕ) (os : List NamedOp) → HasAdded m now count os → 0 < length os → length os ≤ 64 → All (λ (o : NamedOp). o.ts.0 ≤ 2 ^ 64 - 2) os → IsBatch (map op_of (drop count now.versions))
 added_batch m now count os added some within stamped =
     subst (λ (vs : List Version). IsBatch (map op_of vs)) (sym (added_versions m now count os added)) (made_batch m m.last.0 os some within stamped)
 
-pub added_last : (m now : State) (count : ℕ) (os : List NamedOp) → IsAdded m now count os → m.last.0 + length os < 2 ^ 56 → now.last.0 + length (map op_of (drop count now.versions)) < 2 ^ 56
+pub added_last : (m now : State) (count : ℕ) (os : List NamedOp) → HasAdded m now count os → m.last.0 + length os < 2 ^ 56 → now.last.0 + length (map op_of (drop count now.versions)) < 2 ^ 56
 added_last m now count os added room =
     let size : length (map op_of (drop count now.versions)) ≡ length os = ap (λ (vs : List Version). length (map op_of vs)) (added_versions m now count os added) ∙ length-ops m m.last.0 os in
     let last : now.last.0 ≡ m.last.0 = ap (λ (s : State). s.last.0) added.is in
     omega (arith, size, last, room)
 
-pub added_within : (m now : State) (count k : ℕ) (os : List NamedOp) → IsAdded m now count os → k ≡ length (heads_of m) → refusal_of m os ≡ None → All (λ (op : WriteOp). op.family.0 < k) (map op_of (drop count now.versions))
+pub added_within : (m now : State) (count k : ℕ) (os : List NamedOp) → HasAdded m now count os → k ≡ length (heads_of m) → refusal_of m os ≡ None → All (λ (op : WriteOp). op.family.0 < k) (map op_of (drop count now.versions))
 added_within m now count k os added size taken =
     subst (λ (vs : List Version). All (λ (op : WriteOp). op.family.0 < k) (map op_of vs)) (sym (added_versions m now count os added)) (made_within m m.last.0 k os size (all_known m os taken))
 
-pub added_behind : (m now : State) (count : ℕ) (os : List NamedOp) → IsAdded m now count os → batch_behind now count ≡ numbered_of m os
+pub added_behind : (m now : State) (count : ℕ) (os : List NamedOp) → HasAdded m now count os → batch_behind now count ≡ numbered_of m os
 added_behind m now count os added =
     ap (λ (k : ℕ). let n : Numbered = record { first = record { 0 = k + 1 }; batch = map op_of (drop count now.versions) } in n) (ap (λ (s : State). s.last.0) added.is)
     ∙ ap (λ (vs : List Version). let n : Numbered = record { first = record { 0 = m.last.0 + 1 }; batch = map op_of vs } in n) (added_versions m now count os added)
 
 -- without them the store is as it was
-pub added_back : (m now new : State) (count : ℕ) (os : List NamedOp) → IsAdded m now count os → new ≡ with_versions now (take count now.versions) → new ≡ m
+pub added_back : (m now new : State) (count : ℕ) (os : List NamedOp) → HasAdded m now count os → new ≡ with_versions now (take count now.versions) → new ≡ m
 added_back m now new count os added is =
     is ∙ ap (λ (s : State). with_versions s (take count s.versions)) added.is ∙ ap (with_versions m) (take_front m.versions (made m m.last.0 os) count added.counted)
 
 -- numbered, they are taken
-pub added_taken : (m now new : State) (count : ℕ) (os : List NamedOp) → IsAdded m now count os → new ≡ record now { last = record { 0 = now.last.0 + length os } } → new ≡ taken m os
+pub added_taken : (m now new : State) (count : ℕ) (os : List NamedOp) → HasAdded m now count os → new ≡ record now { last = record { 0 = now.last.0 + length os } } → new ≡ taken m os
 added_taken m now new count os added is = is ∙ ap (λ (s : State). let t : State = record s { last = record { 0 = s.last.0 + length os } } in t) added.is
 
 -- a write that is refused leaves the course
-course_stays : (m : State) (number : ℕ) (c : Course) (os : List NamedOp) (sync : Bool) (r : Reply) → IsRefusal r → course_after m number c (Write os sync) r ≡ c
+course_stays : (m : State) (number : ℕ) (c : Course) (os : List NamedOp) (sync : Bool) (r : Reply) → IsWriteRefusal r → course_after m number c (Write os sync) r ≡ c
 course_stays m number c os sync (replies.OkAt n) refusal = absurd refusal
 course_stays m number c os sync replies.Fault refusal = absurd refusal
 course_stays m number c os sync r refusal = refl
@@ -211,7 +207,7 @@ module _ {F : Type 0} (g : Ghosts F) where
       holds_still false holds = holds
 
   -- a write is refused
-  pub step_refused : ((x : F) (image : Image) → g.left_since x (g.moment x) image → g.may_leave x image) → (wal : Wal F g) (m n : State) (number : ℕ) (os : List NamedOp) (sync : Bool) (r : Reply) → n ≡ m → IsInStep g wal m → r ≡ admitted m os → IsRefusal r
+  pub step_refused : ((x : F) (image : Image) → g.left_since x (g.moment x) image → g.may_leave x image) → (wal : Wal F g) (m n : State) (number : ℕ) (os : List NamedOp) (sync : Bool) (r : Reply) → n ≡ m → IsInStep g wal m → r ≡ admitted m os → IsWriteRefusal r
       → IsStep g wal wal m n number (Write os sync) r
   step_refused only_now wal m n number os sync r same in_step told refusal = step_at wal wal m m n m number (Write os sync) r refl same
       (record {
@@ -231,7 +227,7 @@ module _ {F : Type 0} (g : Ghosts F) where
   pub record Logs (old new : Wal F g) (m plain now : State) (count : ℕ) (os : List NamedOp) (sync : Bool) (result : Result (Unit {0}) LogFault) : Type 0 where
     pub state_is : m ≡ plain
     pub works : plain.halted ≡ None
-    pub added : IsAdded plain now count os
+    pub added : HasAdded plain now count os
     pub told : replies.OkAt (plain.last.0 + length os) ≡ admitted plain os
     pub logged : IsLogged g old new (batch_behind now count) sync result
     pub in_step : IsInStep g old m

@@ -21,11 +21,11 @@ use Rattle.wal.specs.Bodies.{AreBodiesOf}
 use Rattle.wal.specs.Records.{IsLoggedBatch}
 use Rattle.wal.specs.Sequences.{sequence_after, GoesOn, IsInSequence}
 use Rattle.wal.specs.Wals.{IsWalOf}
-use Rattle.manifest.specs.declared.fold.Folded.{Folded}
+use Rattle.head_manifest.specs.declared.fold.Folded.{Folded}
 use Rattle.solo_runner.specs.Adding.{op_of}
 use Rattle.solo_runner.specs.Logging.{numbered_of}
 use Rattle.udt_model.specs.Versions.{logged}
-use Rattle.recovery.specs.Stores.{head_of, last_of, state_of, versions_of}
+use Rattle.plain_recovery.specs.Stores.{head_of, last_of, state_of, versions_of}
 
 -- each batch begins behind this sequence, and behind the batch before it, and has an operation
 abbrev pub Above : ℕ → List Numbered → Type 0

@@ -42,7 +42,7 @@ abbrev pub op_of : Version → WriteOp
 op_of v = record { family = v.family; key = v.key; ts = v.ts; op = v.op }
 
 -- a reply that refuses a write, of those that are built
-abbrev pub IsRefusal : Reply → Type 0
-IsRefusal (OkAt n) = ⊥
-IsRefusal Fault = ⊥
-IsRefusal reply = IsBuiltReply reply
+abbrev pub IsWriteRefusal : Reply → Type 0
+IsWriteRefusal (OkAt n) = ⊥
+IsWriteRefusal Fault = ⊥
+IsWriteRefusal reply = IsBuiltReply reply

@@ -8,8 +8,8 @@ use Rattle.wal.specs.declared.numbered.Numbered.{Numbered}
 use Rattle.wal.specs.declared.wal.Wal.{Wal}
 use Rattle.wal.specs.Wals.{Holds, wal_file}
 use Rattle.wal.specs.Replays.{ReadsAs}
-use Rattle.manifest.specs.declared.fold.Folded.{Folded}
-use Rattle.recovery.specs.Stores.{last_of, sizes_of, state_of}
+use Rattle.head_manifest.specs.declared.fold.Folded.{Folded}
+use Rattle.plain_recovery.specs.Stores.{last_of, sizes_of, state_of}
 
 -- a crash left a log of batches, and with them the folder stands for an outcome of the history
 pub record ReadsAsOutcome (fold : Folded) (m : State) (c : Course) (image : Image) : Type 0 where

@@ -14,12 +14,12 @@ use Rattle.udt_disk.specs.Runs.{IsSameFile}
 use Rattle.udt_disk.specs.Runs.{Leaves}
 use Rattle.wal.specs.declared.wal.Wal.{Wal}
 use Rattle.wal.specs.Wals.{wal_file, wal_sizes}
-use Rattle.manifest.specs.declared.fold.Folded.{Folded}
+use Rattle.head_manifest.specs.declared.fold.Folded.{Folded}
 use Rattle.client_lang.specs.Print.{IsBuiltReply}
 use Rattle.solo_runner.specs.declared.logged.LoggedStore.{LoggedStore}
 use Rattle.solo_runner.specs.Keeping.{Keeps, ReadsAsOutcome}
 use Rattle.solo_runner.specs.Logging.{HasRoom, IsPutOff, numbered_of}
-use Rattle.recovery.specs.Stores as stores
+use Rattle.plain_recovery.specs.Stores as stores
 
 -- a disk fault comes only where the count of the file rose; else it stays
 abbrev pub IsStepCause : ℕ → ℕ → Bool → Type 0
@@ -32,8 +32,8 @@ module _ {F : Type 0} {g : Ghosts F} where
   wal_of s = s.wal
 
   -- the state, which says whether the disk failed
-  abbrev pub state_of : LoggedStore F g → State
-  state_of s = record s.plain { halted = s.halted }
+  abbrev pub store_state : LoggedStore F g → State
+  store_state s = record s.plain { halted = s.halted }
 
 module _ {F : Type 0} (g : Ghosts F) where
   -- Until the disk failed the next write may be logged. The log has the sizes of the store's families.

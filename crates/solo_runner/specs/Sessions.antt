@@ -7,12 +7,12 @@ use Rattle.udt_model.specs.Crashes.{Course, course_start, course_behind}
 use Rattle.udt_model.specs.Histories.{start}
 use Rattle.udt_disk.specs.Runs.{IsSameFile}
 use Rattle.wal.specs.Wals.{wal_file, wal_sizes}
-use Rattle.manifest.specs.declared.fold.Folded.{Folded}
+use Rattle.head_manifest.specs.declared.fold.Folded.{Folded}
 use Rattle.client_lang.specs.declared.command.Command.{Command}
 use Rattle.solo_runner.specs.Keeping.{Keeps}
-use Rattle.solo_runner.specs.LoggedStores.{IsInStep, state_of, wal_of}
+use Rattle.solo_runner.specs.LoggedStores.{IsInStep, store_state, wal_of}
 use Rattle.solo_runner.specs.Solo.{HasRun, HasSynced, AreSoundUnless}
-use Rattle.recovery.specs.Stores.{sizes_of}
+use Rattle.plain_recovery.specs.Stores.{sizes_of}
 use Rattle.solo_runner.specs.declared.logged.LoggedStore.{LoggedStore}
 
 module _ {F : Type 0} (g : Ghosts F) where
@@ -22,23 +22,23 @@ module _ {F : Type 0} (g : Ghosts F) where
 
   -- What a crash may leave of the log are outcomes of the history so far, in a folder whose manifest has this fold.
   abbrev pub KeepsCourse : LoggedStore F g → Folded → Course → Type 0
-  KeepsCourse s fold c = (fold.last.0 ≡ 0) × (sizes_of fold ≡ wal_sizes (wal_of s)) × Keeps g fold (wal_of s) (state_of s) c
+  KeepsCourse s fold c = (fold.last.0 ≡ 0) × (sizes_of fold ≡ wal_sizes (wal_of s)) × Keeps g fold (wal_of s) (store_state s) c
 
   -- the log keeps these lines as it kept what was before them, and tells where the disk failed
   pub record GoesWith (old new : LoggedStore F g) (lines : List Line) : Type 0 where
-    pub in_step : IsInStep g (wal_of new) (state_of new)
-    pub kept : (fold : Folded) → KeepsCourse old fold (course_start (state_of old)) → KeepsCourse new fold (course_behind (start (state_of old)) (course_start (state_of old)) lines)
+    pub in_step : IsInStep g (wal_of new) (store_state new)
+    pub kept : (fold : Folded) → KeepsCourse old fold (course_start (store_state old)) → KeepsCourse new fold (course_behind (start (store_state old)) (course_start (store_state old)) lines)
     pub later : faults_of old ≤ faults_of new
     pub sound : AreSoundUnless (faults_of old) (faults_of new) lines
     pub same : IsSameFile g (wal_file (wal_of old)) (wal_file (wal_of new))
 
   -- client 1 has made these commands
   pub record HasRunOn (old new : LoggedStore F g) (commands : List Command) (lines : List Line) (last : Mark) : Type 0 where
-    pub run : HasRun (state_of old) commands lines (state_of new) last
+    pub run : HasRun (store_state old) commands lines (store_state new) last
     pub log : GoesWith old new lines
     pub counted : length lines ≡ length commands
 
   -- and the runner has made its sync
   pub record HasSession (old new : LoggedStore F g) (commands : List Command) (lines : List Line) : Type 0 where
-    pub run : HasSynced (state_of old) commands lines (state_of new)
+    pub run : HasSynced (store_state old) commands lines (store_state new)
     pub log : GoesWith old new lines

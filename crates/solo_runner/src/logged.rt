@@ -74,11 +74,11 @@ pub struct LoggedStore<F: DiskFile> {
 
 impl<F: DiskFile> LoggedStore<F> {
     ghost use Rattle.client_lang.specs.Stamps.{IsStampedEvent};
-    ghost use Rattle.solo_runner.specs.LoggedStores.{IsInStep, IsStep, state_of, wal_of};
+    ghost use Rattle.solo_runner.specs.LoggedStores.{IsInStep, IsStep, store_state, wal_of};
 
     /// A store whose writes go on in this log.
     pub fn new(plain: PlainStore, wal: Wal<F>) -> LoggedStore<F>
-        ensures state { state_of result ≡ record plain { halted = None } }
+        ensures state { store_state result ≡ record plain { halted = None } }
         ensures wal { wal_of result ≡ wal }
     {
         LoggedStore {
@@ -93,8 +93,8 @@ impl<F: DiskFile> LoggedStore<F> {
     pub fn step(&mut self, number: u64, event: &Event) -> Reply
         requires built { IsBuilt event.now }
         requires stamped { IsStampedEvent event.now }
-        requires in_step { IsInStep F.DiskFile (wal_of self.old) (state_of self.old) }
-        ensures { IsStep F.DiskFile (wal_of self.old) (wal_of self.new) (state_of self.old) (state_of self.new) number event.now result }
+        requires in_step { IsInStep F.DiskFile (wal_of self.old) (store_state self.old) }
+        ensures { IsStep F.DiskFile (wal_of self.old) (wal_of self.new) (store_state self.old) (store_state self.new) number event.now result }
     {
         match event {
             Event::Sync => self.sync(number),
@@ -111,8 +111,8 @@ impl<F: DiskFile> LoggedStore<F> {
 
     /// Puts what waits on the disk.
     fn sync(&mut self, number: u64) -> Reply
-        requires in_step { IsInStep F.DiskFile (wal_of self.old) (state_of self.old) }
-        ensures { IsStep F.DiskFile (wal_of self.old) (wal_of self.new) (state_of self.old) (state_of self.new) number Event.Sync result }
+        requires in_step { IsInStep F.DiskFile (wal_of self.old) (store_state self.old) }
+        ensures { IsStep F.DiskFile (wal_of self.old) (wal_of self.new) (store_state self.old) (store_state self.new) number Event.Sync result }
     {
         if let Some(since) = self.halted {
             return Reply::Halted { since };
@@ -131,8 +131,8 @@ impl<F: DiskFile> LoggedStore<F> {
         requires some { 0 < length ops.now }
         requires within { length ops.now ≤ BATCH_LIMIT }
         requires stamped { All (λ (o : Named). o.ts.0 ≤ 2 ^ 64 - 2) ops.now }
-        requires in_step { IsInStep F.DiskFile (wal_of self.old) (state_of self.old) }
-        ensures { IsStep F.DiskFile (wal_of self.old) (wal_of self.new) (state_of self.old) (state_of self.new) number (Write ops.now sync) result }
+        requires in_step { IsInStep F.DiskFile (wal_of self.old) (store_state self.old) }
+        ensures { IsStep F.DiskFile (wal_of self.old) (wal_of self.new) (store_state self.old) (store_state self.new) number (Write ops.now sync) result }
     {
         match self.halted {
             Some(since) => match self.plain.unknown(ops) {
@@ -148,9 +148,9 @@ impl<F: DiskFile> LoggedStore<F> {
         requires some { 0 < length ops.now }
         requires within { length ops.now ≤ BATCH_LIMIT }
         requires stamped { All (λ (o : Named). o.ts.0 ≤ 2 ^ 64 - 2) ops.now }
-        requires in_step { IsInStep F.DiskFile (wal_of self.old) (state_of self.old) }
-        requires works { (state_of self.old).halted ≡ None }
-        ensures { IsStep F.DiskFile (wal_of self.old) (wal_of self.new) (state_of self.old) (state_of self.new) number (Write ops.now sync) result }
+        requires in_step { IsInStep F.DiskFile (wal_of self.old) (store_state self.old) }
+        requires works { (store_state self.old).halted ≡ None }
+        ensures { IsStep F.DiskFile (wal_of self.old) (wal_of self.new) (store_state self.old) (store_state self.new) number (Write ops.now sync) result }
     {
         let count = self.plain.count();
         match self.plain.admit(ops) {
@@ -174,8 +174,8 @@ impl<F: DiskFile> LoggedStore<F> {
 
     /// The value of a key at a timestamp, among all versions; also once the disk failed.
     fn get(&self, family: &Name, key: &Key, t: Ts) -> Reply
-        requires in_step { IsInStep F.DiskFile (wal_of self.now) (state_of self.now) }
-        ensures { (number : ℕ) → IsStep F.DiskFile (wal_of self.now) (wal_of self.now) (state_of self.now) (state_of self.now) number (Get family.now key.now t None) result }
+        requires in_step { IsInStep F.DiskFile (wal_of self.now) (store_state self.now) }
+        ensures { (number : ℕ) → IsStep F.DiskFile (wal_of self.now) (wal_of self.now) (store_state self.now) (store_state self.now) number (Get family.now key.now t None) result }
     {
         told_or_want(self.plain.get(family, key, t))
     }

@@ -2,7 +2,7 @@
 ghost use Rattle.std.specs.Prelude.{◌≡◌, ◌+◌, ◌-◌, ◌^◌, ◌<◌, ◌≤◌, [], All, length, vec_capacity};
 ghost use Rattle.client_lang.specs.Print.{IsBuilt, IsBuiltCommand, IsBuiltLine};
 ghost use Rattle.client_lang.specs.Stamps.{IsStampedCommand, IsStampedEvent};
-ghost use Rattle.solo_runner.specs.LoggedStores.{IsInStep, IsStep, state_of, wal_of};
+ghost use Rattle.solo_runner.specs.LoggedStores.{IsInStep, IsStep, store_state, wal_of};
 ghost use Rattle.solo_runner.specs.Sessions.{HasSession, HasRunOn};
 ghost use Rattle.solo_runner.specs.Solo.{mark_behind};
 
@@ -22,14 +22,14 @@ fn perform<F: DiskFile>(
 ) -> Line
     requires built { IsBuilt event }
     requires stamped { IsStampedEvent event }
-    requires in_step { IsInStep F.DiskFile (wal_of store.old) (state_of store.old) }
+    requires in_step { IsInStep F.DiskFile (wal_of store.old) (store_state store.old) }
     requires number { number + 1 < 2 ^ 64 }
     requires sub { last.sub + 1 < 2 ^ 32 }
     ensures event { result.event ≡ event }
     ensures who { result.who ≡ who }
     ensures mark { result.mark ≡ mark_behind number last result.event result.reply }
     ensures printed { IsBuiltLine result }
-    ensures step { IsStep F.DiskFile (wal_of store.old) (wal_of store.new) (state_of store.old) (state_of store.new) (number + 1) result.event result.reply }
+    ensures step { IsStep F.DiskFile (wal_of store.old) (wal_of store.new) (store_state store.old) (store_state store.new) (number + 1) result.event result.reply }
 {
     let reply = store.step(number + 1, &event);
     line_of(who, number, last, event, reply)
@@ -45,7 +45,7 @@ fn run_logged<F: DiskFile>(
     requires built { All IsBuiltCommand commands.items }
     requires stamped { All IsStampedCommand commands.items }
     requires few { length commands.items < 2 ^ 32 - 1 }
-    requires in_step { IsInStep F.DiskFile (wal_of store.old) (state_of store.old) }
+    requires in_step { IsInStep F.DiskFile (wal_of store.old) (store_state store.old) }
     requires empty { lines.items ≡ [] }
     requires room { length commands.items ≤ vec_capacity lines }
     ensures run { HasRunOn F.DiskFile store.old store.new commands.items result.lines.items result.last }
@@ -69,7 +69,7 @@ pub fn run_and_sync<F: DiskFile>(
     requires built { All IsBuiltCommand commands.items }
     requires stamped { All IsStampedCommand commands.items }
     requires few { length commands.items < 2 ^ 32 - 1 }
-    requires in_step { IsInStep F.DiskFile (wal_of store.old) (state_of store.old) }
+    requires in_step { IsInStep F.DiskFile (wal_of store.old) (store_state store.old) }
     requires empty { lines.items ≡ [] }
     requires room { length commands.items < vec_capacity lines }
     ensures session { HasSession F.DiskFile store.old store.new commands.items result.items }

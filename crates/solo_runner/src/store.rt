@@ -9,7 +9,7 @@ ghost use Rattle.solo_runner.specs.Named.{IsReply, after as state_after};
 ghost use Rattle.udt_model.specs.Lines.{says_fault};
 ghost use Rattle.client_lang.specs.Print.{IsBuilt, IsBuiltReply};
 ghost use Rattle.ts_key.specs.Batches.{IsBatch};
-ghost use Rattle.solo_runner.specs.Adding.{Grows, IsAdded, IsAdmitted, IsRefusal, after_op, op_of, refusal_of, with_versions};
+ghost use Rattle.solo_runner.specs.Adding.{Grows, IsAdded, IsAdmitted, IsWriteRefusal, after_op, op_of, refusal_of, with_versions};
 ghost use Rattle.solo_runner.specs.Transcripts.{fresh};
 
 use crate::versions::Versions;
@@ -181,7 +181,7 @@ impl PlainStore {
         ensures refusal { IfOk result (λ found. found ≡ refusal_of self.old ops.now) }
         ensures ok { IfOk result (λ found. IsAdmitted self.old ops.now found self.new) }
         ensures err { OnErr result (self.new ≡ self.old) }
-        ensures built { IfOk result (λ found. IfSome found IsRefusal) }
+        ensures built { IfOk result (λ found. IfSome found IsWriteRefusal) }
         ensures room { result ≡ Ok None → self.old.last.0 + length ops.now < SEQUENCE_LIMIT + 1 }
         ensures works { self.old.halted ≡ None }
     {
@@ -250,7 +250,7 @@ impl PlainStore {
         ensures refusal { IfOk result (λ found. found ≡ refusal_of self.old ops.now) }
         ensures ok { IfOk result (λ found. IsAdded self.old ops.now found self.new) }
         ensures err { OnErr result (Grows self.old self.new) }
-        ensures built { IfOk result (λ found. IfSome found IsRefusal) }
+        ensures built { IfOk result (λ found. IfSome found IsWriteRefusal) }
         ensures room { result ≡ Ok None → self.old.last.0 + length ops.now < SEQUENCE_LIMIT + 1 }
     {
         if let Some(refusal) = self.unknown(ops) {
@@ -272,7 +272,7 @@ impl PlainStore {
     /// `unknown` where one of the operations names no family.
     pub(super) fn unknown(&self, ops: &[NamedOp]) -> Option<Reply>
         ensures unknown { result ≡ unknown_of self.now ops.now }
-        ensures built { IfSome result IsRefusal }
+        ensures built { IfSome result IsWriteRefusal }
     {
         for op in ops {
             if self.place_named(&op.family).is_none() {
@@ -286,7 +286,7 @@ impl PlainStore {
     fn full(&self, count: usize) -> Option<Reply>
         requires { count ≤ BATCH_LIMIT }
         ensures full { result ≡ (if nat_lt SEQUENCE_LIMIT (self.now.last.0 + count) then Some (Reply.Full self.now.last) else None) }
-        ensures built { IfSome result IsRefusal }
+        ensures built { IfSome result IsWriteRefusal }
         ensures room { result ≡ None → self.now.last.0 + count < SEQUENCE_LIMIT + 1 }
     {
         let last = self.last;
@@ -303,7 +303,7 @@ impl PlainStore {
         ensures refusal { IfOk result (λ found. found ≡ refused self.old self.old.versions self.old.last.0 1 ops.now) }
         ensures ok { IfOk result (λ found. IsAdded self.old ops.now found self.new) }
         ensures err { OnErr result (Grows self.old self.new) }
-        ensures built { IfOk result (λ found. IfSome found IsRefusal) }
+        ensures built { IfOk result (λ found. IfSome found IsWriteRefusal) }
     {
         let last = self.last.0;
         for (i, op) in ops.iter().enumerate() {
@@ -325,7 +325,7 @@ impl PlainStore {
         ensures refusal { IfOk result (λ found. found ≡ refusal self.old.versions number (place_of self.old op.now.family) op.now) }
         ensures ok { IfOk result (λ found. self.new ≡ after_op self.old op.now sequence found) }
         ensures err { OnErr result (self.new ≡ self.old) }
-        ensures built { IfOk result (λ found. IfSome found IsRefusal) }
+        ensures built { IfOk result (λ found. IfSome found IsWriteRefusal) }
     {
         let Some(Place { family, floor }) = self.place_named(&op.family) else {
             return Ok(Some(Reply::Unknown));

@@ -1,6 +1,6 @@
 -- Tables level by level, and what a compaction makes of them.
-use Rattle.std.specs.Prelude.{ℕ, zero, suc, ◌+◌, ◌==◌, Bool, not, nat_lt, if◌then◌else◌, List, [], ◌∷◌, filter, map}
-use Rattle.std.specs.List.{list_any}
+use Rattle.std.specs.Prelude.{◌≡◌, ℕ, zero, suc, ◌+◌, ◌==◌, Bool, false, not, nat_lt, if◌then◌else◌, List, [], ◌∷◌, filter, map}
+use Rattle.std.specs.List.{AllByRecursion, list_any}
 use Rattle.std.specs.Ordering.{nat_cmp, is_lt}
 use Rattle.std.specs.Cmp.Lexicographic.{slice_cmp}
 use Rattle.block_table.specs.Contents.{properties_of}
@@ -43,3 +43,8 @@ placed_all level (t ∷ ts) tables = placed_all level ts (placed level t tables)
 -- the tables of these numbers leave, and others are put where they belong on a level
 abbrev pub compacted : List ℕ → ℕ → List Live → List (List Live) → List (List Live)
 compacted gone level added levels = changed_at level (placed_all level added) (map (filter (is_kept gone)) levels)
+
+-- no table of a level stands before one that comes before it
+abbrev pub StandInOrder : ℕ → List Live → Type 0
+StandInOrder level [] = Unit {0}
+StandInOrder level (t ∷ ts) = AllByRecursion (λ (o : Live). stands_before level o t ≡ false) ts × StandInOrder level ts

@@ -4,3 +4,5 @@ pub mod Changes
 pub mod Contents
 pub mod Writes
 pub mod Jobs
+pub mod Numbers
+pub mod Laws

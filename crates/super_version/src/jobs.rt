@@ -96,13 +96,14 @@ pub trait JobFiles {
         ensures told { is_told self.new ≡ is_told self.old }
         ensures model { keeps_model self.new ≡ keeps_model self.old };
 
-    /// Takes a file back that `next` gave, and adds its faults. It never fails.
+    /// Takes a file back that `next` gave, and adds its faults. It never fails, and leaves what the last `next` saw.
     fn back(&mut self, file: Self::File)
         requires { (n : ℕ) × (Self.File.name file ≡ TableName n) × IsTrue (gave self.old n) }
         ensures others { (n : ℕ) → Self.File.name file ≢ TableName n → IsTrue (gave self.old n) → IsTrue (gave self.new n) }
         ensures faults { faults self.new ≡ plus_faults (faults self.old) (Self.File.faults file) }
         ensures later { faults self.old ≤ faults self.new }
         ensures still { above self.new ≡ above self.old }
+        ensures seen { (halted self.new ≡ halted self.old) × (next_number self.new ≡ next_number self.old) }
         ensures told { is_told self.new ≡ is_told self.old }
         ensures model { keeps_model self.new ≡ keeps_model self.old };
 }

@@ -5,6 +5,7 @@
 
 pub mod family;
 pub mod jobs;
+pub mod laws;
 mod levels;
 pub mod live_table;
 mod newest;
@@ -14,6 +15,7 @@ mod writing;
 
 pub use family::{FamilyState, LEVELS};
 pub use jobs::{JobCause, JobFiles, Output, Plan, TableOut};
+pub use laws::{levels_stay_in_order, numbers_stay, reads_stay};
 pub use live_table::LiveTable;
 pub use shared::SharedList;
 pub use version::SuperVersion;

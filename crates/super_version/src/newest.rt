@@ -3,37 +3,14 @@ ghost use Rattle.std.specs.Prelude.{◌≡◌, map, option_map};
 ghost use Rattle.std.specs.List.{flat_map};
 ghost use Rattle.std.specs.Arc.{arc_value};
 ghost use Rattle.ts_key.specs.Visible.{newest_ts};
-ghost use Rattle.memtable.specs.Memtables.{greater, reaches as reaches_ts};
+ghost use Rattle.memtable.specs.Memtables.{greater};
 ghost use Rattle.super_version.specs.Contents.{items_of_level, items_of_memtable, items_of_table};
 
 use crate::live_table::LiveTable;
 use crate::shared::SharedList;
-use memtable::Mem;
+use memtable::{Mem, later_of, reaches};
 use std::sync::Arc;
 use ts_key::Ts;
-
-/// The later of two timestamps that may be missing.
-fn later_of(a: Option<Ts>, b: Option<Ts>) -> Option<Ts>
-    ensures { option_map (λ ts. ts.0) result ≡ greater (option_map (λ ts. ts.0) a) (option_map (λ ts. ts.0) b) }
-{
-    let Some(x) = a else {
-        return b;
-    };
-    let Some(y) = b else {
-        return a;
-    };
-    Some(Ts(x.0.max(y.0)))
-}
-
-/// Whether the best so far is at or above every timestamp of a list.
-fn reaches(best: Option<Ts>, latest: Ts) -> bool
-    ensures { result ≡ reaches_ts (option_map (λ ts. ts.0) best) latest.0 }
-{
-    match best {
-        None => false,
-        Some(ts) => latest.0 <= ts.0,
-    }
-}
 
 /// The later of the best so far and what a memtable has.
 pub fn later_in_mem(best: Option<Ts>, mem: &Mem, key: &[u8]) -> Option<Ts>

@@ -11,19 +11,6 @@ use std::alloc::Global;
 use std::sync::Arc;
 use ts_key::{Family, Seq, Version, WriteOp};
 
-/// The version that an operation makes.
-fn version(op: &WriteOp, sequence: u64) -> Result<Version, NoMemory>
-    ensures { IfOk result (λ v. v ≡ version_of op.now sequence) }
-{
-    Ok(Version {
-        family: op.family,
-        key: op.key.copy()?,
-        ts: op.ts,
-        seq: Seq(sequence),
-        op: op.op.copy()?,
-    })
-}
-
 /// Puts the version that an operation makes at the end, where it is of the family.
 fn add_own(
     out: &mut Vec<Version>,
@@ -36,7 +23,7 @@ fn add_own(
     if op.family.0 != family.0 {
         return Ok(());
     }
-    out.push(version(op, sequence)?)?;
+    out.push(op.version(Seq(sequence))?)?;
     Ok(())
 }
 

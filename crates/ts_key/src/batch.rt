@@ -5,8 +5,8 @@ ghost use Rattle.ts_key.specs.Batches.{IsBatch, IsBatchFault, IsBadStamp, IsStam
 use crate::NoMemory;
 use crate::bytes::Key;
 use crate::limits::BATCH_LIMIT;
-use crate::numbers::{Family, Ts};
-use crate::version::Op;
+use crate::numbers::{Family, Seq, Ts};
+use crate::version::{Op, Version};
 use std::marker::Model;
 
 /// An operation on a key of a family, at a timestamp.
@@ -57,6 +57,19 @@ impl WriteOp {
             family: self.family,
             key: self.key.copy()?,
             ts: self.ts,
+            op: self.op.copy()?,
+        })
+    }
+
+    /// The version that the operation makes under a sequence. It shares the bytes of the key and the value.
+    pub fn version(&self, sequence: Seq) -> Result<Version, NoMemory>
+        ensures { IfOk result (λ v. v ≡ record { family = self.now.family; key = self.now.key; ts = self.now.ts; seq = sequence; op = self.now.op }) }
+    {
+        Ok(Version {
+            family: self.family,
+            key: self.key.copy()?,
+            ts: self.ts,
+            seq: sequence,
             op: self.op.copy()?,
         })
     }

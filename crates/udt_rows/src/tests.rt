@@ -8,4 +8,5 @@ mod many;
 mod real;
 mod sessions;
 mod stage;
+mod tries;
 mod words;

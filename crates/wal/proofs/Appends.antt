@@ -82,7 +82,7 @@ cut_back old mid new n more len is =
 -- how long a record is
 op_short : (op : WriteOp) → IsShortOp op → length (op_bytes op) ≤ 66579
 op_short op short =
-    omega (arith, length-append (op_head_bytes (operations.head_of op)) (op.key ++ value_bytes op.op), length-append op.key (value_bytes op.op), length-op_head (operations.head_of op), short.key, value_short op.op short.value)
+    omega (arith, length-append (op_head_bytes (operations.op_head_of op)) (op.key ++ value_bytes op.op), length-append op.key (value_bytes op.op), length-op_head (operations.op_head_of op), short.key, value_short op.op short.value)
   where
     value_short : (op : Op) → IsShortValue op → length (value_bytes op) ≤ 65540
     value_short (Put value) short = omega (arith, length-append (number_bytes 4 (length value)) value, length-number_bytes 4 (length value), short)
@@ -95,7 +95,7 @@ ops_short (op ∷ ops) all =
 
 batch_short : (n : Numbered) → length n.batch ≤ 64 → All IsShortOp n.batch → length (batch_bytes n) ≤ 4261066
 batch_short n few short =
-    omega (arith, length-append (batch_head_bytes (batches.head_of n)) (flat_map op_bytes n.batch), length-batch_head (batches.head_of n), ops_short n.batch short)
+    omega (arith, length-append (batch_head_bytes (batches.batch_head_of n)) (flat_map op_bytes n.batch), length-batch_head (batches.batch_head_of n), ops_short n.batch short)
 
 families_short : (k : ℕ) (sizes : List ℕ) → length (families_bytes k sizes) ≤ 5 * length sizes
 families_short k [] = omega arith

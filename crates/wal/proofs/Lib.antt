@@ -4,8 +4,13 @@ pub mod Operations
 pub mod Batches
 pub mod Writing
 pub mod Bodies
+pub mod BodyReading
 pub mod SequenceSteps
+pub mod Places
 pub mod Logs
+pub mod BadFrames
 pub mod Appends
 pub mod Making
-pub mod WalLemmas
+pub mod Showing
+pub mod Waiting
+pub mod Syncing

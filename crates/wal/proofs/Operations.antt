@@ -48,15 +48,15 @@ change_none kind old put none (Put value) rest allowed is = none value rest allo
 change_none kind old put none Del rest allowed is = put (sym allowed.0)
 
 -- the head of an operation
-abbrev pub head_of : WriteOp → OpHead
-head_of op = record { family = op.family.0; kind = kind_code op.op; ts = op.ts.0; key_len = length op.key }
+abbrev pub op_head_of : WriteOp → OpHead
+op_head_of op = record { family = op.family.0; kind = kind_code op.op; ts = op.ts.0; key_len = length op.key }
 
 pub op_head_short : (families : ℕ) (old : List ℕ) → length old < 15 → SpellsNone op_head_bytes (IsAllowedOpHead families) old
 op_head_short families old short =
     short_front op_head_bytes (IsAllowedOpHead families) 15 old (λ head _. omega (arith, length-op_head head)) short
 
-allowed_fits : (families : ℕ) → families ≤ 16 → (head : OpHead) → IsAllowedOpHead families head → FitsOpHead head
-allowed_fits families few head allowed = record {
+op_head_fits : (families : ℕ) → families ≤ 16 → (head : OpHead) → IsAllowedOpHead families head → FitsOpHead head
+op_head_fits families few head allowed = record {
   family = omega (arith, allowed.family);
   stamp = omega (arith, allowed.stamp);
   key = omega (arith, allowed.key);
@@ -64,11 +64,11 @@ allowed_fits families few head allowed = record {
 
 pub op_head_refused : (families : ℕ) (head : OpHead) (front mid old : List ℕ) → families ≤ 16 → FitsOpHead head → front ≡ op_head_bytes head → old ≡ front ++ mid → (IsAllowedOpHead families head → ⊥) → SpellsNone op_head_bytes (IsAllowedOpHead families) old
 op_head_refused families head front mid old few fits spelled whole refused other rest allowed is =
-    let same = op_head_same head other mid rest fits (allowed_fits families few other allowed) (ap (λ (xs : List ℕ). xs ++ mid) (sym spelled) ∙ sym whole ∙ is) in
+    let same = op_head_same head other mid rest fits (op_head_fits families few other allowed) (ap (λ (xs : List ℕ). xs ++ mid) (sym spelled) ∙ sym whole ∙ is) in
     refused (subst (IsAllowedOpHead families) (sym same.0) allowed)
 
-head_allowed : (families : ℕ) (op : WriteOp) → IsLoggedOp families op → IsAllowedOpHead families (head_of op)
-head_allowed families op logged = record {
+op_head_allowed : (families : ℕ) (op : WriteOp) → IsLoggedOp families op → IsAllowedOpHead families (op_head_of op)
+op_head_allowed families op logged = record {
   family = logged.family;
   kind = kind_small op.op;
   stamp = logged.stamp;
@@ -80,27 +80,27 @@ head_allowed families op logged = record {
     kind_small Del = omega arith
 
 -- the bytes of an operation, and others, from its head on
-op_apart : (op : WriteOp) (rest : List ℕ) → op_bytes op ++ rest ≡ op_head_bytes (head_of op) ++ (op.key ++ (value_bytes op.op ++ rest))
+op_apart : (op : WriteOp) (rest : List ℕ) → op_bytes op ++ rest ≡ op_head_bytes (op_head_of op) ++ (op.key ++ (value_bytes op.op ++ rest))
 op_apart op rest =
-    append_assoc (op_head_bytes (head_of op)) (op.key ++ value_bytes op.op) rest ∙ ap (λ (xs : List ℕ). op_head_bytes (head_of op) ++ xs) (append_assoc op.key (value_bytes op.op) rest)
+    append_assoc (op_head_bytes (op_head_of op)) (op.key ++ value_bytes op.op) rest ∙ ap (λ (xs : List ℕ). op_head_bytes (op_head_of op) ++ xs) (append_assoc op.key (value_bytes op.op) rest)
 
 pub op_without_head : (families : ℕ) (old : List ℕ) → SpellsNone op_head_bytes (IsAllowedOpHead families) old → SpellsNone op_bytes (IsLoggedOp families) old
 op_without_head families old none op rest logged is =
-    none (head_of op) (op.key ++ (value_bytes op.op ++ rest)) (head_allowed families op logged) (is ∙ op_apart op rest)
+    none (op_head_of op) (op.key ++ (value_bytes op.op ++ rest)) (op_head_allowed families op logged) (is ∙ op_apart op rest)
 
 -- what stands behind an operation's head
-behind_head : (families : ℕ) (head : OpHead) (mid old : List ℕ) → families ≤ 16 → IsAllowedOpHead families head → old ≡ op_head_bytes head ++ mid → (op : WriteOp) (rest : List ℕ) → IsLoggedOp families op → old ≡ op_bytes op ++ rest → (head ≡ head_of op) × (mid ≡ op.key ++ (value_bytes op.op ++ rest))
-behind_head families head mid old few allowed whole op rest logged is =
-    op_head_same head (head_of op) mid (op.key ++ (value_bytes op.op ++ rest)) (allowed_fits families few head allowed) (allowed_fits families few (head_of op) (head_allowed families op logged)) (sym whole ∙ is ∙ op_apart op rest)
+behind_op_head : (families : ℕ) (head : OpHead) (mid old : List ℕ) → families ≤ 16 → IsAllowedOpHead families head → old ≡ op_head_bytes head ++ mid → (op : WriteOp) (rest : List ℕ) → IsLoggedOp families op → old ≡ op_bytes op ++ rest → (head ≡ op_head_of op) × (mid ≡ op.key ++ (value_bytes op.op ++ rest))
+behind_op_head families head mid old few allowed whole op rest logged is =
+    op_head_same head (op_head_of op) mid (op.key ++ (value_bytes op.op ++ rest)) (op_head_fits families few head allowed) (op_head_fits families few (op_head_of op) (op_head_allowed families op logged)) (sym whole ∙ is ∙ op_apart op rest)
 
 pub op_without_key : (families : ℕ) (head : OpHead) (mid old : List ℕ) → families ≤ 16 → IsAllowedOpHead families head → old ≡ op_head_bytes head ++ mid → SpellsNone (λ (key : List ℕ). key) (λ (key : List ℕ). length key ≡ head.key_len) mid → SpellsNone op_bytes (IsLoggedOp families) old
 op_without_key families head mid old few allowed whole none op rest logged is =
-    let same = behind_head families head mid old few allowed whole op rest logged is in
+    let same = behind_op_head families head mid old few allowed whole op rest logged is in
     none op.key (value_bytes op.op ++ rest) (sym (ap (λ (h : OpHead). h.key_len) same.0)) same.1
 
 pub op_without_value : (families : ℕ) (head : OpHead) (key mid behind old : List ℕ) → families ≤ 16 → IsAllowedOpHead families head → old ≡ op_head_bytes head ++ mid → length key ≡ head.key_len → mid ≡ key ++ behind → SpellsNone value_bytes (λ (op : Op). (kind_code op ≡ head.kind) × IsShortValue op) behind → SpellsNone op_bytes (IsLoggedOp families) old
 op_without_value families head key mid behind old few allowed whole len keyed none op rest logged is =
-    let same = behind_head families head mid old few allowed whole op rest logged is in
+    let same = behind_op_head families head mid old few allowed whole op rest logged is in
     let parts = fronts_same key op.key behind (value_bytes op.op ++ rest) (len ∙ ap (λ (h : OpHead). h.key_len) same.0) (sym keyed ∙ same.1) in
     none op.op rest (sym (ap (λ (h : OpHead). h.kind) same.0), logged.value) parts.1
 
@@ -123,7 +123,7 @@ same_op a b family key ts op =
 
 pub op_same : (families : ℕ) → families ≤ 16 → (a b : WriteOp) (r s : List ℕ) → IsLoggedOp families a → IsLoggedOp families b → op_bytes a ++ r ≡ op_bytes b ++ s → (a ≡ b) × (r ≡ s)
 op_same families few a b r s logged_a logged_b is =
-    let heads = behind_head families (head_of a) (a.key ++ (value_bytes a.op ++ r)) (op_bytes a ++ r) few (head_allowed families a logged_a) (op_apart a r) b s logged_b is in
+    let heads = behind_op_head families (op_head_of a) (a.key ++ (value_bytes a.op ++ r)) (op_bytes a ++ r) few (op_head_allowed families a logged_a) (op_apart a r) b s logged_b is in
     let keys = fronts_same a.key b.key (value_bytes a.op ++ r) (value_bytes b.op ++ s) (ap (λ (h : OpHead). h.key_len) heads.0) heads.1 in
     let ops = change_same a.op b.op r s logged_a.value logged_b.value (ap (λ (h : OpHead). h.kind) heads.0) keys.1 in
     (same_op a b (ap (λ (h : OpHead). h.family) heads.0) keys.0 (ap (λ (h : OpHead). h.ts) heads.0) ops.0, ops.1)

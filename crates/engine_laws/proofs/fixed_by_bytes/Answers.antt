@@ -1,4 +1,5 @@
-use Rattle.engine_laws.proofs.Fixed.{manifest_once, one_state, reads_once, states_alike}
+use Rattle.manifest.proofs.Meanings.{manifest_once}
+use Rattle.engine_laws.proofs.Fixed.{one_state, reads_once, states_alike}
 use Rattle.engine_laws.proofs.fixed_by_bytes.Goals as goal
 
 pub returns : goal.returns

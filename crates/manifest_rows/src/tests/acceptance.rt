@@ -9,16 +9,16 @@ use udt_model::Items;
 
 /// An edit in plain numbers.
 #[derive(Clone, Copy)]
-struct Row {
-    add_logs: &'static [u64],
-    drop_logs: &'static [u64],
-    next_file: u64,
-    last: u64,
-    family: u32,
-    floor: u64,
-    through: u64,
-    add: &'static [TableAt],
-    remove: &'static [u64],
+pub(super) struct Row {
+    pub(super) add_logs: &'static [u64],
+    pub(super) drop_logs: &'static [u64],
+    pub(super) next_file: u64,
+    pub(super) last: u64,
+    pub(super) family: u32,
+    pub(super) floor: u64,
+    pub(super) through: u64,
+    pub(super) add: &'static [TableAt],
+    pub(super) remove: &'static [u64],
 }
 
 /// An edit that the fold accepts: log 7 comes, and log 2 goes; the floor of family 0 rises to 5, and its versions through 5 are
@@ -98,7 +98,7 @@ const ACCEPTED: &[(&str, Row)] = &[
 ];
 
 /// The good edit, with one condition broken in each.
-const REFUSED: &[(&str, Row)] = &[
+pub(super) const REFUSED: &[(&str, Row)] = &[
     (
         "the next file falls",
         Row {
@@ -245,7 +245,7 @@ const REFUSED: &[(&str, Row)] = &[
     ),
 ];
 
-fn edit(alloc: Global, row: &Row) -> Result<Edit, Fail> {
+pub(super) fn edit(alloc: Global, row: &Row) -> Result<Edit, Fail> {
     let family = FamilyEdit {
         family: Family(row.family),
         floor: Ts(row.floor),

@@ -19,11 +19,11 @@ const FILE: FileName = FileName::Manifest0;
 const HEAD: &[u8] = b"\x01\x01\x01\0\0\0\x01d\0\x08";
 
 /// The file of that head and of a raise of family 0 to 8.
-const RAISED: &[u8] =
+pub(super) const RAISED: &[u8] =
     b"\xA5\x0A\0\0\0\x01\x01\x01\0\0\0\x01d\0\x08\xA5\x36\0\0\0\x02\0\0\0\0\0\0\0\0\x02\0\0\0\0\0\0\0\0\0\0\0\0\0\0\0\x01\0\0\0\0\x08\0\0\0\0\0\0\0\0\0\0\0\0\0\0\0\0\0\0\0\0\0\0\0\x5A";
 
 /// The same, and behind it a raise of family 0 to 7.
-const FALLEN: &[u8] =
+pub(super) const FALLEN: &[u8] =
     b"\xA5\x0A\0\0\0\x01\x01\x01\0\0\0\x01d\0\x08\xA5\x36\0\0\0\x02\0\0\0\0\0\0\0\0\x02\0\0\0\0\0\0\0\0\0\0\0\0\0\0\0\x01\0\0\0\0\x08\0\0\0\0\0\0\0\0\0\0\0\0\0\0\0\0\0\0\0\0\0\0\0\xA5\x36\0\0\0\x02\0\0\0\0\0\0\0\0\x02\0\0\0\0\0\0\0\0\0\0\0\0\0\0\0\x01\0\0\0\0\x07\0\0\0\0\0\0\0\0\0\0\0\0\0\0\0\0\0\0\0\0\0\0\0\x5A";
 
 /// The offset of the gate behind the first raise.
@@ -50,7 +50,7 @@ fn new_fold(alloc: Global) -> Result<Folded, Failed> {
     })
 }
 
-fn raise(alloc: Global, floor: u64) -> Edit {
+pub(super) fn raise(alloc: Global, floor: u64) -> Edit {
     Edit {
         add_logs: Items::of(Vec::new(alloc)),
         drop_logs: Items::of(Vec::new(alloc)),

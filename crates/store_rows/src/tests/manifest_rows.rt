@@ -1,7 +1,7 @@
 //! Manifests of folders in memory.
 
 use gate_log::LogFault;
-use manifest::{Head, Manifest, ManifestFault};
+use head_manifest::{Head, Manifest, ManifestFault};
 use std::alloc::Global;
 use std::test::Fail;
 use ts_key::{Form, Name, Ts};

@@ -1,9 +1,10 @@
 use Rattle.std.proofs.Common.{◌∙◌, ap}
 use Rattle.std.specs.Prelude.{Err}
 use Rattle.udt_disk.specs.declared.traits.Failed.{Failed}
-use Rattle.recovery.proofs.MakeLemmas.{unmade_opened}
+use Rattle.plain_recovery.proofs.MakeLemmas.{unmade_opened}
 use Rattle.client_runner.specs.Left.{crashes}
-use Rattle.client_runner.proofs.GivenBack.{IsMakingFailed, given_back, init_left, made_at}
+use Rattle.client_runner.proofs.GivenBack.{given_back}
+use Rattle.client_runner.proofs.GivenMakings.{IsMakingFailed, init_left, made_at}
 use Rattle.client_runner.proofs.init.init_folder.Goals as goal
 
 pub returns-in-Ok-made-clause-made : goal.returns-in-Ok-made-clause-made

@@ -1,10 +1,10 @@
 use Rattle.std.proofs.Common.{inl, subst}
 use Rattle.udt_disk.specs.Causes.{IsCause}
 use Rattle.udt_disk.proofs.Moments.{stands_all, leaves_all}
-use Rattle.recovery.specs.Fault.{is_open_disk_fault}
-use Rattle.recovery.specs.declared.fault.OpenFault.{OpenFault}
+use Rattle.plain_recovery.specs.Fault.{is_open_disk_fault}
+use Rattle.plain_recovery.specs.declared.fault.OpenFault.{OpenFault}
 use Rattle.client_runner.specs.Runs.{HasRunParts}
-use Rattle.client_runner.proofs.RunLemmas.{IsOpenedFrom, run_ready, run_refused}
+use Rattle.client_runner.proofs.OpenedRun.{IsOpenedFrom, run_ready, run_refused}
 use Rattle.client_runner.proofs.run.run_disk.Goals as goal
 
 pub returns-in-Ok-ready-clause-ready : goal.returns-in-Ok-ready-clause-ready

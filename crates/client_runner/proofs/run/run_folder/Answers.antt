@@ -3,7 +3,8 @@ use Rattle.client_runner.specs.HostRuns.{IsRunAt, IsStoppedAt}
 use Rattle.client_runner.specs.Left.{crashes}
 use Rattle.client_runner.specs.Runs.{IsRunReady, IsRunRefused}
 use Rattle.udt_disk.specs.declared.traits.Failed.{Failed}
-use Rattle.client_runner.proofs.GivenBack.{given_back, given_back_ready, given_back_stopped}
+use Rattle.client_runner.proofs.GivenBack.{given_back}
+use Rattle.client_runner.proofs.GivenRuns.{given_back_ready, given_back_stopped}
 use Rattle.client_runner.proofs.run.run_folder.Goals as goal
 
 pub returns-clause-ready : goal.returns-clause-ready

@@ -3,9 +3,10 @@ use Rattle.std.specs.Prelude.{None}
 use Rattle.udt_model.specs.State.{State}
 use Rattle.wal.specs.Wals.{wal_file}
 use Rattle.client_lang.specs.Print.{print_header}
-use Rattle.solo_runner.specs.LoggedStores.{state_of, wal_of}
+use Rattle.solo_runner.specs.LoggedStores.{store_state, wal_of}
 use Rattle.client_runner.specs.Runs.{HasRunParts, state_of_parts}
-use Rattle.client_runner.proofs.RunLemmas.{IsClosed, parts_over, parts_unmade}
+use Rattle.client_runner.proofs.Closing.{IsClosed}
+use Rattle.client_runner.proofs.RunParts.{parts_over, parts_unmade}
 use Rattle.client_runner.proofs.run.run_parts.Goals.{in-Ok, in-Err}
 use Rattle.client_runner.proofs.run.run_parts.Goals as goal
 
@@ -28,7 +29,7 @@ returns-clause-run g c =
       faults = e.faults;
       later = e.later;
     } in
-    let is : state_of first ≡ state_of_parts parts = c.new-store.ensures.state ∙ ap (λ (m : State). let s : State = record m { halted = None } in s) c.of.ensures in
+    let is : store_state first ≡ state_of_parts parts = c.new-store.ensures.state ∙ ap (λ (m : State). let s : State = record m { halted = None } in s) c.of.ensures in
     let wal : wal_of first ≡ parts.wal = c.new-store.ensures.wal in
     elim c.match-header.branch [
       | in-Ok w ↦

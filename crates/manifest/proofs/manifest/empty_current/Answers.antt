@@ -1,5 +1,5 @@
-use Rattle.std.proofs.Common.{◌≡◌, [], sym, ap, ◌∙◌, subst}
-use Rattle.std.specs.Prelude.{is_some, false, IsTrue}
+use Rattle.std.proofs.Common.{◌≡◌, [], sym, ap, ◌∙◌}
+use Rattle.std.specs.Prelude.{is_some, false}
 use Rattle.std.proofs.lemmas.Result.{on_ok_weaker}
 use Rattle.udt_disk.specs.declared.name.FileName.TheVariants.{Current}
 use Rattle.udt_disk.proofs.Moments.{stands_all, leaves_all}

@@ -3,7 +3,8 @@ use Rattle.udt_disk.specs.Causes.{IsCause}
 use Rattle.gate_log.specs.Reads.{body_of}
 use Rattle.gate_log.specs.Placed.{Placed}
 use Rattle.manifest.specs.Answers.{IsFoldFault}
-use Rattle.manifest.proofs.FoldLemmas.{bad_in_log, not_by_disk_too, manifest_usable}
+use Rattle.manifest.specs.Folds.{IsManifest, IsManifestFold}
+use Rattle.manifest.proofs.FoldLemmas.{bad_in_log, not_by_disk_too}
 use Rattle.manifest.proofs.manifest.read_log.Goals as goal
 
 pub returns-in-Ok-clause-refused : goal.returns-in-Ok-clause-refused
@@ -19,5 +20,20 @@ pub returns-in-Ok-clause-cause : goal.returns-in-Ok-clause-cause
 returns-in-Ok-clause-cause g c =
     subst (λ (b : Bool). IsCause b (g.F.DiskFile.faults c.args.file) (g.F.DiskFile.faults c.into_file.result)) (sym (not_by_disk_too c.deref.result.now c.in-Err-fold_log.fault c.in-Err-fold_log.ensures.refused)) (ap g.F.DiskFile.faults c.into_file.ensures ∙ c.in-Ok.ensures.kept)
 
-pub returns-in-Ok-fold_log-clause-usable : goal.returns-in-Ok-fold_log-clause-usable
-returns-in-Ok-fold_log-clause-usable g c = manifest_usable (map body_of c.deref.result.now) c.in-Ok-fold_log.fold c.in-Ok-fold_log.ensures.folds
+pub returns-in-Ok-fold_log-clause-shows : goal.returns-in-Ok-fold_log-clause-shows
+returns-in-Ok-fold_log-clause-shows g c told =
+    let fold = c.in-Ok-fold_log.fold in
+    let means = subst (λ (l : List Placed). IsManifest (map body_of l) fold) c.deref.ensures.value c.in-Ok-fold_log.ensures.folds in
+    c.manifest_of.ensures.shows (map body_of c.in-Ok.frames.items) (c.in-Ok.ensures.logged told) means
+
+pub returns-in-Ok-fold_log-clause-rests : goal.returns-in-Ok-fold_log-clause-rests
+returns-in-Ok-fold_log-clause-rests g c told only =
+    let fold = c.in-Ok-fold_log.fold in
+    let means = subst (λ (l : List Placed). IsManifest (map body_of l) fold) c.deref.ensures.value c.in-Ok-fold_log.ensures.folds in
+    c.manifest_of.ensures.rests (map body_of c.in-Ok.frames.items) (c.in-Ok.ensures.at_rest told only) means
+
+pub returns-in-Ok-fold_log-clause-folds : goal.returns-in-Ok-fold_log-clause-folds
+returns-in-Ok-fold_log-clause-folds g c =
+    let fold = c.in-Ok-fold_log.fold in
+    let means = subst (λ (l : List Placed). IsManifest (map body_of l) fold) c.deref.ensures.value c.in-Ok-fold_log.ensures.folds in
+    subst IsManifestFold (sym c.manifest_of.ensures.fold) (map body_of c.in-Ok.frames.items, means)

@@ -1,4 +1,4 @@
-use Rattle.std.proofs.Common.{◌≡◌, [], ◌∷◌, sym, ◌∙◌, subst}
+use Rattle.std.proofs.Common.{[], ◌∷◌, sym, ◌∙◌, subst}
 use Rattle.udt_disk.specs.Crash.{Image}
 use Rattle.udt_disk.specs.Moments.{alone, holding}
 use Rattle.udt_disk.specs.declared.name.FileName.{FileName}
@@ -17,7 +17,7 @@ returns-in-Ok-Some-clause-looks g c =
     let x = c.into_file.result in
     let mid = c.read.new.disk in
     let new = c.retire.new.self in
-    let m = c.in-Ok-Some.manifest.log.file in
+    let m = c.in-Ok-Some.manifest.edits.log.file in
     let giving : Giving d f mid new x = record { touches = touches_one d _ (f.name x) mid new (λ n apart. apart) r.others r.time r.told r.model; stands = r.stands; crash = r.crash } in
     only_then d f (λ n. ⊥) (alone c.args.disk.now) (holding mid (m ∷ [])) (alone new) e.reads
     (return_step d f disk_now file_now [] mid new m (subst (Giving d f mid new) c.into_file.ensures giving) (e.file_told ∙ sym e.touches.told) (λ z held. absurd held))

@@ -7,7 +7,7 @@ use Rattle.udt_disk.specs.declared.name.FileName.TheVariants.{Log, Made}
 use Rattle.udt_disk.proofs.TouchLemmas.{touches_nothing, touches_more, touches_then}
 use Rattle.manifest.specs.Making.{IsStoreName}
 use Rattle.recovery.specs.Making.{IsMakingName}
-use Rattle.recovery.proofs.MakeLemmas.{new_stands, log_isn't_touched, at_rest, log_step, still_unmade, manifest_step, all_there}
+use Rattle.recovery.proofs.NewStores.{new_stands, log_isn't_touched, at_rest, log_step, still_unmade, manifest_step, all_there}
 use Rattle.recovery.proofs.making.make_files.Goals as goal
 
 pub returns-in_default-clause-moments : goal.returns-in_default-clause-moments
@@ -28,7 +28,7 @@ returns-clause-made g c =
     on_ok_weaker c.make_manifest.result
     (λ made told.
     let now = subst IsTrue (sym c.make_first_log.ensures.touches.told) told in
-    new_stands (d.stands new) c.args.head.now.families c.requires (made now) ((c.make_manifest.ensures.touches now).same (Log 1) log_isn't_touched ∙ c.in_ok-make_first_log.ensures.made told))
+    new_stands (d.stands new) c.args.head.now.families (made now) ((c.make_manifest.ensures.touches now).same (Log 1) log_isn't_touched ∙ c.in_ok-make_first_log.ensures.made told))
     c.make_manifest.ensures.made
 
 pub returns-clause-stopped : goal.returns-clause-stopped
@@ -39,7 +39,7 @@ returns-clause-stopped g c =
     (λ stopped told none.
     let now = subst IsTrue (sym c.make_first_log.ensures.touches.told) told in
     ⊎_elim (λ still. inl still)
-    (λ means. inr (new_stands (d.stands new) c.args.head.now.families c.requires means ((c.make_manifest.ensures.touches now).same (Log 1) log_isn't_touched ∙ c.in_ok-make_first_log.ensures.made told)))
+    (λ means. inr (new_stands (d.stands new) c.args.head.now.families means ((c.make_manifest.ensures.touches now).same (Log 1) log_isn't_touched ∙ c.in_ok-make_first_log.ensures.made told)))
     (stopped now (c.make_first_log.ensures.touches.same Made (λ is. cc) ∙ none)))
     c.make_manifest.ensures.stopped
 
@@ -49,7 +49,7 @@ returns-clause-moments g c unmade =
     let f = g.D.File.DiskFile in
     let disk_now = λ (x : _) (n : FileName) (image : Image) (left : d.left_since x (d.moment x) n image). (g.met.D.Disk g.world.𝓛 g.world.𝓜 g.world.𝓡 ((λ s x. x), (λ x. x), (λ x. x), λ x. x)).only_now x n image left in
     let file_now = λ (x : _) (image : Image) (left : f.left_since x (f.moment x) image). (g.met.D.File.DiskFile g.world.𝓛 g.world.𝓜 g.world.𝓡 ((λ s x. x), (λ x. x), (λ x. x), λ x. x)).only_now x image left in
-    manifest_step d f c.args.head.now.families disk_now file_now c.args.disk.now c.make_first_log.new.disk unmade c.make_first_log.ensures.touches c.requires c.make_manifest.new.disk (c.in_ok-make_first_log.ensures.durable unmade.told) c.make_manifest.ensures.moments
+    manifest_step d f c.args.head.now.families disk_now file_now c.args.disk.now c.make_first_log.new.disk unmade c.make_first_log.ensures.touches c.make_manifest.new.disk (c.in_ok-make_first_log.ensures.durable unmade.told) c.make_manifest.ensures.moments
 
 pub returns-clause-durable : goal.returns-clause-durable
 returns-clause-durable g c unmade =
@@ -64,7 +64,7 @@ returns-clause-durable g c unmade =
     let log = c.make_first_log.ensures in
     let now = subst IsTrue (sym log.touches.told) unmade.told in
     on_ok_weaker c.make_manifest.result
-    (λ means. all_there d f families disk_now file_now old mid unmade log.touches c.requires new (c.in_ok-make_first_log.ensures.durable unmade.told) (c.make_manifest.ensures.touches now) means)
+    (λ means. all_there d f families disk_now file_now old mid unmade log.touches new (c.in_ok-make_first_log.ensures.durable unmade.told) (c.make_manifest.ensures.touches now) means)
     (c.make_manifest.ensures.durable (still_unmade d f families old mid unmade log.touches))
 
 pub returns-in_default-clause-touches : goal.returns-in_default-clause-touches

@@ -1,6 +1,6 @@
 use Rattle.std.proofs.Common.{◌≡◌, ◌+◌, ◌++◌, ◌∷◌, [], length, ap, ◌∙◌, sym, arith}
 use Rattle.wal.specs.Wals.{waiting_with, wal_file, wal_waiting}
-use Rattle.wal.proofs.WalLemmas.{ready_from}
+use Rattle.wal.proofs.Showing.{ready_from}
 use Rattle.solo_runner.proofs.LoggingLemmas.{holds_synced, is_asked, run_from, same_from}
 use Rattle.solo_runner.proofs.logged.log_batch.Goals.{else-not-sync-via-then-not-sync+else-pending-lt-PENDING_LIMIT, else-not-sync-via-else-not-sync}
 use Rattle.solo_runner.proofs.logged.log_batch.Goals as goal

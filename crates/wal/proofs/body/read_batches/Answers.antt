@@ -2,7 +2,7 @@ use Rattle.std.proofs.Common.{◌≡◌, ◌<◌, ◌++◌, ◌∷◌, [], lengt
 use Rattle.std.proofs.lemmas.Grind.{common_steps}
 use Rattle.wal.specs.Records.{batch_bytes, IsLoggedBatch}
 use Rattle.wal.proofs.Fronts.{none_there, list_more}
-use Rattle.wal.proofs.Bodies.{batches_fault, batches_stop}
+use Rattle.wal.proofs.BodyReading.{batches_fault, batches_stop}
 use Rattle.wal.proofs.body.read_batches.Goals as goal
 
 pub returns-in_err-batch : goal.returns-in_err-batch

@@ -1,6 +1,6 @@
 use Rattle.std.proofs.Common.{◌≡◌, ◌<◌, length, arith, ap}
 use Rattle.std.proofs.lemmas.Grind.{common_steps}
-use Rattle.wal.proofs.Bodies.{no_records, body_read}
+use Rattle.wal.proofs.BodyReading.{no_records, body_read}
 use Rattle.wal.proofs.body.read_body.Goals as goal
 
 pub returns-then-is_empty-clause-read : goal.returns-then-is_empty-clause-read

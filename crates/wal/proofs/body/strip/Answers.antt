@@ -1,6 +1,6 @@
 use Rattle.std.proofs.Common.{length, take, sym}
 use Rattle.std.specs.Cmp.Lexicographic.{same_text, other_text}
-use Rattle.wal.proofs.Bodies.{stripped, begins_otherwise}
+use Rattle.wal.proofs.BodyReading.{stripped, begins_otherwise}
 use Rattle.wal.proofs.body.strip.Goals as goal
 
 pub returns-in-Some : goal.returns-in-Some

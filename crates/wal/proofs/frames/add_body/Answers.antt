@@ -1,6 +1,6 @@
 use Rattle.std.proofs.Common.{◌≡◌, ◌==◌, length, sym, ap, ◌∙◌, subst}
 use Rattle.wal.specs.Sequences.{next_sequence, GoesOn}
-use Rattle.wal.proofs.Bodies.{adds_fault, adds_none, adds_out_of_sequence, adds_all, first_is_empty}
+use Rattle.wal.proofs.BodyReading.{adds_fault, adds_none, adds_out_of_sequence, adds_all, first_is_empty}
 use Rattle.wal.proofs.frames.add_body.Goals as goal
 
 pub returns-in_err-here : goal.returns-in_err-here

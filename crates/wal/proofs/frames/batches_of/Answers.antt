@@ -5,7 +5,7 @@ use Rattle.wal.specs.Bodies.{AddsBody}
 use Rattle.wal.specs.declared.fault.BodyFault.{BodyFault}
 use Rattle.wal.specs.Replays.{IsStrange}
 use Rattle.wal.proofs.Bodies.{holds_within}
-use Rattle.wal.proofs.Logs.{bad_frame}
+use Rattle.wal.proofs.BadFrames.{bad_frame}
 use Rattle.wal.proofs.frames.batches_of.Goals as goal
 
 pub add_body-requires : goal.add_body-requires

@@ -1,6 +1,6 @@
 use Rattle.std.proofs.Common.{◌∙◌, ap, sym}
 use Rattle.gate_log.specs.Faults.{is_frames_disk_fault}
-use Rattle.wal.proofs.Logs.{fault_handed}
+use Rattle.wal.proofs.BadFrames.{fault_handed}
 use Rattle.wal.proofs.wal.replay_fault.Goals as goal
 
 pub returns-in-BadFrame-clause-refused : goal.returns-in-BadFrame-clause-refused

@@ -1,6 +1,6 @@
 use Rattle.std.proofs.Common.{subst, sym, ap, ◌∙◌}
 use Rattle.wal.specs.Replays.{IsReplayFault, is_replay_disk_fault}
-use Rattle.wal.proofs.Logs.{fault_torn, fault_strange, not_the_disks}
+use Rattle.wal.proofs.BadFrames.{fault_torn, fault_strange, not_the_disks}
 use Rattle.wal.proofs.wal.torn_fault.Goals as goal
 
 pub returns-in_default-clause-refused : goal.returns-in_default-clause-refused

@@ -1,15 +1,16 @@
-use Rattle.std.proofs.Common.{◌≡◌, List, [], ◌∷◌, Some, refl, sym, ap, ◌∙◌, subst}
+use Rattle.std.proofs.Common.{◌≡◌, ℕ, List, [], ◌∷◌, ◌++◌, Some, refl, sym, ap, ◌∙◌, subst}
 use Rattle.std.specs.Prelude.{IsTrue}
 use Rattle.udt_disk.specs.Crash.{Image}
-use Rattle.udt_disk.specs.Joint.{Ran}
+use Rattle.udt_disk.specs.Joint.{Folder, LeavesNow, Ran}
 use Rattle.udt_disk.specs.declared.name.FileName.{FileName}
 use Rattle.udt_disk.specs.declared.name.FileName.TheVariants.{Manifest0, Current, Made}
 use Rattle.udt_disk.specs.Moments.{holding, alone}
 use Rattle.udt_disk.proofs.Moments.{Giving, disk_step, take_step}
 use Rattle.udt_disk.proofs.TouchLemmas.{touches_one}
-use Rattle.gate_log.specs.Frames.{IsBody}
+use Rattle.gate_log.specs.Frames.{IsBody, framed}
 use Rattle.manifest.specs.Files.{HasFold}
-use Rattle.manifest.specs.Folders.{chosen_by}
+use Rattle.manifest.specs.Folders.{Means, chosen_by}
+use Rattle.manifest.specs.Folders.Meaning.{store}
 use Rattle.manifest.specs.Folds.{fold_of}
 use Rattle.manifest.specs.Making.{IsNoneOrAll}
 use Rattle.manifest.proofs.Makes.{current_isn't_first, none_or_all, unmade_beside, at_rest_now, first_step, second_step, third_step, gives_back, all_there, head_of, has_fold, early_names}
@@ -25,6 +26,14 @@ make_log-requires-after_bounds g c lifetimes bounds =
 
 pub returns-in_default-clause-moments : goal.returns-in_default-clause-moments
 returns-in_default-clause-moments g c unmade =
+    let d = g.D.Disk in
+    let f = g.F.DiskFile in
+    let disk_now = λ (x : _) (n : FileName) (image : Image) (left : d.left_since x (d.moment x) n image). (g.met.D.Disk g.world.𝓛 g.world.𝓜 g.world.𝓡 ((λ s x. x), (λ x. x), (λ x. x), λ x. x)).only_now x n image left in
+    let file_now = λ (x : _) (image : Image) (left : f.left_since x (f.moment x) image). (g.met.F.DiskFile g.world.𝓛 g.world.𝓜 g.world.𝓡 ((λ s x. x), (λ x. x), (λ x. x), λ x. x)).only_now x image left in
+    at_rest_now d f disk_now file_now c.args.head.now.families c.args.disk.now unmade
+
+pub returns-in_default-new_fold-clause-moments : goal.returns-in_default-new_fold-clause-moments
+returns-in_default-new_fold-clause-moments g c unmade =
     let d = g.D.Disk in
     let f = g.F.DiskFile in
     let disk_now = λ (x : _) (n : FileName) (image : Image) (left : d.left_since x (d.moment x) n image). (g.met.D.Disk g.world.𝓛 g.world.𝓜 g.world.𝓡 ((λ s x. x), (λ x. x), (λ x. x), λ x. x)).only_now x n image left in
@@ -72,7 +81,8 @@ returns-in-Ok-make_empty-clause-moments g c unmade =
     let head = head_of families c.as_slice.result.now c.deref.result.now c.in-Ok.body.items c.requires c.as_slice.ensures c.in-Ok.ensures.text c.in-Ok.ensures.named c.deref.ensures.value in
     let fold = has_fold (f.seen m) c.deref.result.now families rest.logged.file head in
     let file : (image : Image) → f.may_leave m image → HasFold image (fold_of families) = λ image left. subst (λ (k : Image). HasFold k (fold_of families)) (sym (rest.durable image left)) fold in
-    third_step d f disk_now file_now families zero unmade two m touched made.name current file (holding three (m ∷ [])) (disk_step d f disk_now file_now (m ∷ []) (λ n. n ≡ Made) two three c.make_empty.ensures.touches) second
+    subst (λ (x : g.row.F.Denot). Ran d f (IsNoneOrAll d zero families) (alone zero) (holding three (x ∷ []))) (sym c.manifest_of.ensures.file)
+    (third_step d f disk_now file_now families zero unmade two m touched made.name current file (holding three (m ∷ [])) (disk_step d f disk_now file_now (m ∷ []) (λ n. n ≡ Made) two three c.make_empty.ensures.touches) second)
 
 pub returns-in-Ok-make_empty-clause-durable : goal.returns-in-Ok-make_empty-clause-durable
 returns-in-Ok-make_empty-clause-durable g c unmade =
@@ -95,7 +105,8 @@ returns-in-Ok-make_empty-clause-durable g c unmade =
     let fold = has_fold (f.seen m) c.deref.result.now families rest.logged.file head in
     let file : (image : Image) → f.may_leave m image → HasFold image (fold_of families) = λ image left. subst (λ (k : Image). HasFold k (fold_of families)) (sym (rest.durable image left)) fold in
     let told = subst IsTrue (sym touched.told) unmade.told in
-    all_there d f disk_now file_now families zero unmade two m touched made.name current file three c.make_empty.ensures.touches (c.in-Ok-make_empty.ensures.durable told)
+    subst (λ (x : g.row.F.Denot). LeavesNow d f (λ (folder : Folder). Means folder (store (fold_of families))) (holding three (x ∷ []))) (sym c.manifest_of.ensures.file)
+    (all_there d f disk_now file_now families zero unmade two m touched made.name current file three c.make_empty.ensures.touches (c.in-Ok-make_empty.ensures.durable told))
 
 pub returns-clause-moments : goal.returns-clause-moments
 returns-clause-moments g c unmade =
@@ -149,3 +160,38 @@ returns-clause-stopped g c told none =
     let current : d.stands new Current ≡ d.stands c.empty_current.new.disk Current =
     c.retire.ensures.others.same Current (λ is. current_isn't_first (is ∙ name)) ∙ c.make_empty.ensures.touches.same Current (λ is. cc) ∙ c.make_log.ensures.touches.same Current (λ is. cc) in
     none_or_all (d.stands new) families (d.stands new Made) refl (ap chosen_by current ∙ c.in-Ok-empty_current.ensures.chooses told) (subst (λ (k : Image). HasFold k (fold_of families)) (sym first) fold)
+
+pub returns-in-Ok-make_empty-clause-made : goal.returns-in-Ok-make_empty-clause-made
+returns-in-Ok-make_empty-clause-made g c told =
+    let d = g.D.Disk in
+    let f = g.F.DiskFile in
+    let families = c.args.head.now.families in
+    let made = c.in_ok-log.ensures in
+    let told_one = subst IsTrue (sym c.empty_current.ensures.touches.told) told in
+    let told_two = subst IsTrue (sym c.make_log.ensures.touches.told) told_one in
+    let rest = made.at_rest told_one in
+    let head = head_of families c.as_slice.result.now c.deref.result.now c.in-Ok.body.items c.requires c.as_slice.ensures c.in-Ok.ensures.text c.in-Ok.ensures.named c.deref.ensures.value in
+    let file = c.manifest_of.ensures.file in
+    let means = c.in-Ok-new_fold.ensures ∙ ap fold_of c.as_slice-2.ensures in
+    let current : d.stands c.make_empty.new.disk Current ≡ d.stands c.empty_current.new.disk Current =
+    c.make_empty.ensures.touches.same Current (λ is. cc) ∙ c.make_log.ensures.touches.same Current (λ is. cc) in
+    record {
+      name = ap f.name file ∙ made.name;
+      rests = c.manifest_of.ensures.rests (c.deref.result.now ∷ []) rest (families, head, means);
+      fold = c.manifest_of.ensures.fold ∙ means;
+      bytes = ap f.seen file ∙ made.written told_one ∙ ap (λ (b : List ℕ). framed (b ∷ []) ++ 90 ∷ []) head.is;
+      current = current ∙ c.in-Ok-empty_current.ensures.emptied told;
+      chosen = ap chosen_by current ∙ c.in-Ok-empty_current.ensures.chooses told;
+      made = c.in-Ok-make_empty.ensures.empty told_two;
+      durable = c.in-Ok-make_empty.ensures.durable told_two;
+    }
+
+pub returns-in-Ok-make_empty-clause-ready : goal.returns-in-Ok-make_empty-clause-ready
+returns-in-Ok-make_empty-clause-ready g c told =
+    let f = g.F.DiskFile in
+    let families = c.args.head.now.families in
+    let made = c.in_ok-log.ensures in
+    let told_one = subst IsTrue (ap f.is_told c.manifest_of.ensures.file ∙ made.file_told) told in
+    let rest = made.at_rest told_one in
+    let head = head_of families c.as_slice.result.now c.deref.result.now c.in-Ok.body.items c.requires c.as_slice.ensures c.in-Ok.ensures.text c.in-Ok.ensures.named c.deref.ensures.value in
+    c.manifest_of.ensures.shows (c.deref.result.now ∷ []) rest.logged (families, head, c.in-Ok-new_fold.ensures ∙ ap fold_of c.as_slice-2.ensures)

@@ -1,4 +1,4 @@
-use Rattle.std.proofs.Common.{◌≡◌, List, [], ◌∷◌, sym, ap, ◌∙◌, subst}
+use Rattle.std.proofs.Common.{◌≡◌, ℕ, List, [], ◌∷◌, sym, ap, ◌∙◌, subst}
 use Rattle.std.specs.Prelude.{Some, IsTrue}
 use Rattle.udt_disk.specs.Crash.{Image}
 use Rattle.udt_disk.specs.Touches.{Touches}
@@ -7,8 +7,10 @@ use Rattle.udt_disk.specs.declared.name.FileName.TheVariants.{Current, Made}
 use Rattle.udt_disk.specs.Moments.{OnlyReads, alone, holding}
 use Rattle.udt_disk.proofs.Moments.{only_then, stands_all, disk_step, open_step, read_step, look_step}
 use Rattle.udt_disk.proofs.TouchLemmas.{touches_one, touches_then, touches_none}
-use Rattle.gate_log.specs.Frames.{IsLog}
+use Rattle.manifest.specs.Files.{HasFold}
 use Rattle.manifest.specs.Folders.{chosen, chosen_by}
+use Rattle.manifest.specs.Manifest.{manifest_file, manifest_folded}
+use Rattle.manifest.proofs.Edits.{shows_fold}
 use Rattle.manifest.proofs.Files.{none_read}
 use Rattle.manifest.proofs.Makes.{read_names}
 use Rattle.manifest.proofs.Meanings.{made_there, refused_once, found_once}
@@ -95,6 +97,31 @@ returns-in_default-clause-touches g c =
     let e = rw c.in_default.is at c.in_ok-file.ensures in
     touched (touches_one d _ name two three (λ n apart. tt) e.others e.time e.told e.model)
 
+pub returns-in-Ok-clause-means : goal.returns-in-Ok-clause-means
+returns-in-Ok-clause-means g c told =
+    let d = g.D.Disk in
+    let f = g.F.DiskFile in
+    let disk_now = λ (x : _) (n : FileName) (image : Image) (left : d.left_since x (d.moment x) n image). (g.met.D.Disk g.world.𝓛 g.world.𝓜 g.world.𝓡 ((λ s x. x), (λ x. x), (λ x. x), λ x. x)).only_now x n image left in
+    let file_now = λ (x : _) (image : Image) (left : f.left_since x (f.moment x) image). (g.met.F.DiskFile g.world.𝓛 g.world.𝓜 g.world.𝓡 ((λ s x. x), (λ x. x), (λ x. x), λ x. x)).only_now x image left in
+    let zero = c.args.disk.now in
+    let one = c.is_there.new.disk in
+    let two = c.chosen.new.disk in
+    let look = only_then d f (λ n. ⊥) (alone zero) (alone one) (alone two) c.is_there.ensures.looks c.chosen.ensures.looks in
+    let told_two : d.is_told two ≡ d.is_told zero = c.chosen.ensures.touches.told ∙ c.is_there.ensures.touches.told in
+    let three = c.open_file.new.self in
+    let name = c.in_ok-name.name in
+    let e = rw c.in-Some.is at c.in_ok-file.ensures in
+    let folder = d.stands zero in
+    let made = made_there c.in_ok-is_there.field-0 (folder Made) c.if-not-branch.false (c.in_ok-is_there.ensures.there told) in
+    let told_one = subst IsTrue (sym c.is_there.ensures.touches.told) told in
+    let told_now = subst IsTrue (sym told_two) told in
+    let named : name ≡ chosen folder = c.in_ok-name.ensures.chosen told_one ∙ ap chosen_by (stands_all d f zero one c.is_there.ensures.looks told Current) in
+    let is : folder (chosen folder) ≡ Some (f.seen c.in-Some.file) = ap folder (sym named) ∙ sym (stands_all d f zero two look told name) ∙ e.stood told_now in
+    let told_file = subst IsTrue (sym (e.file_told ∙ told_two)) told in
+    let manifest = c.in-Ok.manifest in
+    let has = subst (λ (bytes : List ℕ). HasFold (Some bytes) (manifest_folded manifest)) c.in-Ok.ensures.same.seen (shows_fold f manifest (c.in-Ok.ensures.shows told_file)) in
+    (made, subst (λ (image : Image). HasFold image (manifest_folded manifest)) (sym is) has)
+
 pub returns-in-Ok-clause-only : goal.returns-in-Ok-clause-only
 returns-in-Ok-clause-only g c told m means =
     let d = g.D.Disk in
@@ -116,8 +143,9 @@ returns-in-Ok-clause-only g c told m means =
     let named : name ≡ chosen folder = c.in_ok-name.ensures.chosen told_one ∙ ap chosen_by (stands_all d f zero one c.is_there.ensures.looks told Current) in
     let is : folder (chosen folder) ≡ Some (f.seen c.in-Some.file) = ap folder (sym named) ∙ sym (stands_all d f zero two look told name) ∙ e.stood told_now in
     let told_file = subst IsTrue (sym (e.file_told ∙ told_two)) told in
-    let shows = c.in-Ok.ensures.shows told_file in
-    found_once folder (f.seen c.in-Some.file) c.in-Ok.fold made is (shows.0, subst (IsLog shows.0) c.in-Ok.ensures.same.seen shows.1.file, shows.2) m means
+    let manifest = c.in-Ok.manifest in
+    let has = subst (λ (bytes : List ℕ). HasFold (Some bytes) (manifest_folded manifest)) c.in-Ok.ensures.same.seen (shows_fold f manifest (c.in-Ok.ensures.shows told_file)) in
+    found_once folder (f.seen c.in-Some.file) (manifest_folded manifest) made is has m means
 
 pub returns-in-Ok-clause-reads : goal.returns-in-Ok-clause-reads
 returns-in-Ok-clause-reads g c =
@@ -134,7 +162,7 @@ returns-in-Ok-clause-reads g c =
     let name = c.in_ok-name.name in
     let e = rw c.in-Some.is at c.in_ok-file.ensures in
     let x = c.in-Some.file in
-    let y = c.in-Ok.log.file in
+    let y = manifest_file c.in-Ok.manifest in
     only_then d f (λ n. ⊥) (alone zero) (holding three (x ∷ [])) (holding three (y ∷ []))
     (only_then d f (λ n. ⊥) (alone zero) (alone two) (holding three (x ∷ [])) look (open_step d f disk_now file_now [] name two three x
     (record { touches = touches_one d _ name two three (λ n apart. apart) e.others e.time e.told e.model; stood = e.stood; told = e.file_told; name = e.name; crash = e.crash })))
@@ -225,3 +253,6 @@ returns-in-Err-clause-touches g c =
     let back = subst (λ (m : FileName). Touches d (λ n. n ≡ m) three new) there (touches_one d _ (f.name y) three new (λ n apart. apart) r.others r.time r.told r.model) in
     let opened = touches_one d _ name two three (λ n apart. apart) e.others e.time e.told e.model in
     read_names d zero one two new name c.in_ok-name.ensures.either c.is_there.ensures.touches c.chosen.ensures.touches (touches_then d (λ n. n ≡ name) two three new opened back)
+
+pub returns-in-Ok-clause-ready : goal.returns-in-Ok-clause-ready
+returns-in-Ok-clause-ready g c told = c.in-Ok.ensures.shows (subst IsTrue c.in-Ok.ensures.same.told told)

@@ -1,5 +1,5 @@
 use Rattle.std.proofs.Common.{◌+◌, length, arith}
-use Rattle.wal.proofs.WalLemmas.{goes_on_at}
+use Rattle.wal.proofs.Showing.{goes_on_at}
 use Rattle.store_rows.proofs.tests.wal_rows.add_put.Goals as goal
 
 pub returns-in-Ok-clause-goes_on : goal.returns-in-Ok-clause-goes_on

@@ -1,4 +1,4 @@
-use Rattle.wal.proofs.WalLemmas.{ready_from}
+use Rattle.wal.proofs.Showing.{ready_from}
 use Rattle.store_rows.proofs.tests.wal_rows.sync_twice.Goals as goal
 
 pub add_put-requires-2-clause-next : goal.add_put-requires-2-clause-next

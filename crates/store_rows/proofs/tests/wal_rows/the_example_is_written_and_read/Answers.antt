@@ -1,4 +1,4 @@
-use Rattle.wal.proofs.WalLemmas.{ready_from}
+use Rattle.wal.proofs.Showing.{ready_from}
 use Rattle.store_rows.proofs.tests.wal_rows.the_example_is_written_and_read.Goals as goal
 
 pub sync-requires-after_bounds : goal.sync-requires-after_bounds

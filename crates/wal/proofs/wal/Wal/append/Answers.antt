@@ -1,6 +1,6 @@
 use Rattle.std.proofs.Common.{◌≡◌, ◌≤◌, ◌&&◌, ◌==◌, length, refl, ap, arith}
 use Rattle.wal.proofs.Appends.{fits_frame, logged_batch, cut_back}
-use Rattle.wal.proofs.WalLemmas.{appended, appended_holds, goes_on_appended, goes_on_kept}
+use Rattle.wal.proofs.Waiting.{appended, appended_holds, goes_on_appended, goes_on_kept}
 use Rattle.wal.specs.declared.numbered.Numbered.{Numbered}
 use Rattle.wal.proofs.wal.Wal.append.Goals as goal
 

@@ -8,7 +8,7 @@ use Rattle.gate_log.specs.Faults.{IsUntouched}
 use Rattle.gate_log.specs.GateLog as gate
 use Rattle.gate_log.specs.declared.fault.LogFault.{LogFault}
 use Rattle.wal.proofs.Making.{not_made, is_made, is_unmade}
-use Rattle.wal.proofs.WalLemmas.{shows_nothing}
+use Rattle.wal.proofs.Showing.{shows_nothing}
 use Rattle.wal.proofs.wal.Wal.create.Goals as goal
 
 pub returns-in-Ok-create-clause-goes_on : goal.returns-in-Ok-create-clause-goes_on

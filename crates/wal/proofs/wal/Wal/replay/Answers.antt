@@ -5,7 +5,8 @@ use Rattle.gate_log.specs.Reads.{body_of}
 use Rattle.wal.specs.Bodies.{HoldsBatches}
 use Rattle.wal.specs.Replays.{IsReplayFault, is_replay_disk_fault}
 use Rattle.wal.proofs.Bodies.{holds_within}
-use Rattle.wal.proofs.Logs.{reading_only, reading_refused, not_the_disks}
+use Rattle.wal.proofs.Logs.{reading_only}
+use Rattle.wal.proofs.BadFrames.{reading_refused, not_the_disks}
 use Rattle.wal.proofs.wal.Wal.replay.Goals as goal
 
 pub returns-in-Err-clause-cause : goal.returns-in-Err-clause-cause

@@ -12,7 +12,7 @@ use Rattle.gate_log.specs.declared.log.GateLog.{GateLog}
 use Rattle.wal.specs.Making.{IsWhileMade}
 use Rattle.wal.specs.Wals.{wal_file}
 use Rattle.wal.proofs.Making.{not_made, is_unmade, is_rolled}
-use Rattle.wal.proofs.WalLemmas.{shows_nothing, same_wal}
+use Rattle.wal.proofs.Showing.{shows_nothing, same_wal}
 use Rattle.wal.proofs.wal.Wal.roll.Goals as goal
 
 pub returns-in_err-file-clause-moments : goal.returns-in_err-file-clause-moments

@@ -1,6 +1,6 @@
 use Rattle.std.proofs.Common.{◌<◌, length, refl}
 use Rattle.gate_log.specs.GateLog as gate
-use Rattle.wal.proofs.WalLemmas.{synced, synced_holds, adds_as, some_wait, goes_on_synced}
+use Rattle.wal.proofs.Syncing.{synced, synced_holds, adds_as, some_wait, goes_on_synced}
 use Rattle.wal.proofs.wal.Wal.sync.Goals as goal
 
 pub returns-in_err-append-clause-moments : goal.returns-in_err-append-clause-moments

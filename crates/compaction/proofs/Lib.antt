@@ -1,0 +1,11 @@
+pub mod Numbers
+pub mod Counting
+pub mod Hulls
+pub mod Closing
+pub mod PlanRows
+pub mod Feeds
+pub mod Pieces
+pub mod Growing
+pub mod Drawn
+pub mod Written
+pub mod Outputs

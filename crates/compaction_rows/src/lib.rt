@@ -1,0 +1,5 @@
+//! Tests of compactions, by their public calls.
+#![tactic(auto)]
+
+#[cfg(test)]
+mod tests;

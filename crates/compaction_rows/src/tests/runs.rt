@@ -1,0 +1,230 @@
+//! Runs of compactions, and files that fail.
+
+ghost use Rattle.std.specs.Prelude.{All, IfOk};
+ghost use Rattle.ts_key.specs.declared.version.Form.TheVariants.{Persist};
+ghost use Rattle.compaction.specs.Made.{IsInput};
+ghost use Rattle.compaction_rows.specs.Inputs.{IsOfFirst};
+
+use super::files::DiskFiles;
+use super::tables::{files, holds, put, table};
+use collection_laws::plain_collect;
+use compaction::{JobCause, Output, Plan, run_compaction};
+use std::alloc::Global;
+use std::test::Fail;
+use super_version::LiveTable;
+use ts_key::{Family, Form, Key, Op, Seq, Ts, Version};
+use udt_disk::{FileName, MemDisk, MemFile, Trouble};
+use udt_model::{Items, KeySpan};
+
+fn plan(inputs: Vec<LiveTable>, deeper: Vec<KeySpan>) -> Plan
+    requires { All IsOfFirst inputs.items }
+    ensures { All (IsInput result.family Persist) result.inputs }
+{
+    Plan {
+        family: Family(0),
+        inputs: Items::of(inputs),
+        level: 1,
+        deeper: Items::of(deeper),
+    }
+}
+
+/// The plan of one table.
+fn plan_of(alloc: Global, versions: &[Version]) -> Result<Plan, Fail>
+    ensures { IfOk result (λ p. All (IsInput p.family Persist) p.inputs) }
+{
+    let mut tables = Vec::new(alloc);
+    tables.push(table(alloc, 3, versions)?)?;
+    Ok(plan(tables, Vec::new(alloc)))
+}
+
+/// The plan of two tables.
+fn plan_of_both(alloc: Global, a: &[Version], b: &[Version]) -> Result<Plan, Fail>
+    ensures { IfOk result (λ p. All (IsInput p.family Persist) p.inputs) }
+{
+    let mut tables = Vec::new(alloc);
+    tables.push(table(alloc, 3, a)?)?;
+    tables.push(table(alloc, 4, b)?)?;
+    Ok(plan(tables, Vec::new(alloc)))
+}
+
+/// How many versions each table has.
+fn counts(alloc: Global, outs: &[Output<MemFile>]) -> Result<Vec<u64>, Fail> {
+    let mut counts = Vec::new(alloc);
+    for out in outs {
+        counts.push(out.kept)?;
+    }
+    Ok(counts)
+}
+
+/// Forty versions of forty keys, with large values.
+fn forty(alloc: Global) -> Result<Vec<Version>, Fail> {
+    let value = vec![in alloc; b'v'; 65536]?;
+    let mut versions = Vec::new(alloc);
+    for i in 10..50u64 {
+        let key = format!(in alloc; "k{i}")?;
+        versions.push(put(alloc, key.as_bytes(), 1, i - 9, &value)?)?;
+    }
+    Ok(versions)
+}
+
+#[test]
+fn tables_end_at_their_size(rt: HostRuntime) -> Result<(), Fail> {
+    let alloc = rt.alloc();
+    let plan = plan_of(alloc, &forty(alloc)?)?;
+    let mut files = files(alloc, 4)?;
+    let Ok(outs) = run_compaction(alloc, &plan, Form::Persist, Ts(0), &[], &mut files) else {
+        return Err(Fail::new("no tables"));
+    };
+    assert!(rt; files.next == 6 && files.out == 2);
+    let counts = counts(alloc, &outs)?;
+    assert!(rt; counts.as_slice() == [32, 8].as_slice());
+    Ok(())
+}
+
+#[test]
+fn what_the_floor_hides_is_left_out(rt: HostRuntime) -> Result<(), Fail> {
+    let alloc = rt.alloc();
+    let mut versions = Vec::new(alloc);
+    versions.push(put(alloc, b"a", 9, 3, b"w")?)?;
+    versions.push(put(alloc, b"a", 8, 2, b"v")?)?;
+    versions.push(put(alloc, b"a", 5, 1, b"u")?)?;
+    let plan = plan_of(alloc, &versions)?;
+    let mut files = files(alloc, 4)?;
+    let Ok(outs) = run_compaction(alloc, &plan, Form::Persist, Ts(8), &[], &mut files) else {
+        return Err(Fail::new("no tables"));
+    };
+    let counts = counts(alloc, &outs)?;
+    assert!(rt; counts.as_slice() == [2].as_slice());
+    Ok(())
+}
+
+#[test]
+fn nothing_is_kept_and_drawn(rt: HostRuntime) -> Result<(), Fail> {
+    let alloc = rt.alloc();
+    let mut versions = Vec::new(alloc);
+    let mut delete = put(alloc, b"a", 6, 2, b"")?;
+    delete.op = Op::Del;
+    versions.push(delete)?;
+    versions.push(put(alloc, b"a", 5, 1, b"v")?)?;
+    let plan = plan_of(alloc, &versions)?;
+    let mut files = files(alloc, 4)?;
+    let Ok(outs) = run_compaction(alloc, &plan, Form::Persist, Ts(6), &[], &mut files) else {
+        return Err(Fail::new("no tables"));
+    };
+    assert!(rt; outs.is_empty() && files.next == 4);
+    Ok(())
+}
+
+#[test]
+fn one_version_in_two_inputs_is_want_of_memory(rt: HostRuntime) -> Result<(), Fail> {
+    let alloc = rt.alloc();
+    let mut versions = Vec::new(alloc);
+    versions.push(put(alloc, b"a", 5, 1, b"v")?)?;
+    let plan = plan_of_both(alloc, &versions, &versions)?;
+    let mut files = files(alloc, 5)?;
+    match run_compaction(alloc, &plan, Form::Persist, Ts(0), &[], &mut files) {
+        Ok(_) => return Err(Fail::new("tables")),
+        Err(cause) => assert!(rt; cause == JobCause::Memory && files.out == 0),
+    }
+    Ok(())
+}
+
+/// Why a compaction is refused with these files, where it is.
+fn refused(alloc: Global, plan: &Plan, files: &mut DiskFiles) -> Result<Option<JobCause>, Fail>
+    requires { All (IsInput plan.now.family Persist) plan.now.inputs }
+{
+    match run_compaction(alloc, plan, Form::Persist, Ts(0), &[], files) {
+        Ok(_) => Ok(None),
+        Err(cause) => Ok(Some(cause)),
+    }
+}
+
+/// Files on a disk on which a call of one of them fails.
+fn failing(alloc: Global, name: u64, call: u64) -> Result<DiskFiles, Fail> {
+    let mut troubles = Vec::new(alloc);
+    troubles.push(Trouble {
+        name: FileName::Table(name),
+        call,
+        lasting: false,
+    })?;
+    let disk = MemDisk::new(alloc, troubles)?;
+    Ok(DiskFiles::new(disk, 10, None))
+}
+
+#[test]
+fn files_are_given_back_on_a_refusal(rt: HostRuntime) -> Result<(), Fail> {
+    let alloc = rt.alloc();
+    let plan = plan_of(alloc, &forty(alloc)?)?;
+    for (name, call) in [(10, 1), (10, 2), (11, 1), (11, 2), (11, 3)] {
+        let mut files = failing(alloc, name, call)?;
+        assert!(rt; refused(alloc, &plan, &mut files)? == Some(JobCause::Fault));
+        assert!(rt; files.out == 0);
+    }
+    let mut few = files(alloc, u64::MAX / 2)?;
+    assert!(rt; refused(alloc, &plan, &mut few)? == Some(JobCause::Files { next: 1 << 63 }));
+    assert!(rt; few.out == 0 && few.next == 1 << 63);
+    let mut halted = files(alloc, 10)?;
+    halted.halted = Some(7);
+    assert!(rt; refused(alloc, &plan, &mut halted)? == Some(JobCause::Halted { since: 7 }));
+    assert!(rt; halted.out == 0 && halted.next == 10);
+    Ok(())
+}
+
+/// A scrambled list of versions of a few keys, with sequences from one on.
+fn scrambled(alloc: Global, from: u64, count: u64) -> Result<Vec<Version>, Fail> {
+    let mut versions = Vec::new(alloc);
+    for index in 0..count {
+        let seq = from.wrapping_add(index);
+        let key = format!(in alloc; "key{:02}", seq.wrapping_mul(7919) % 13)?;
+        let mut v = put(alloc, key.as_bytes(), 1 + seq % 97 * 31 % 97, seq, b"value")?;
+        if seq % 5 == 3 {
+            v.op = Op::Del;
+        }
+        versions.push(v)?;
+    }
+    Ok(collection_laws::in_order(alloc, versions)?)
+}
+
+/// The plan of three tables of the versions, with a span of deeper keys.
+fn plan_of_three(alloc: Global, low: &[u8], high: &[u8]) -> Result<Plan, Fail>
+    ensures { IfOk result (λ p. All (IsInput p.family Persist) p.inputs) }
+{
+    let mut tables = Vec::new(alloc);
+    tables.push(table(alloc, 3, &scrambled(alloc, 1, 70)?)?)?;
+    tables.push(table(alloc, 4, &scrambled(alloc, 71, 70)?)?)?;
+    tables.push(table(alloc, 5, &scrambled(alloc, 141, 70)?)?)?;
+    let mut deeper = Vec::new(alloc);
+    deeper.push(span(alloc, low, high)?)?;
+    Ok(plan(tables, deeper))
+}
+
+fn span(alloc: Global, low: &[u8], high: &[u8]) -> Result<KeySpan, Fail> {
+    Ok(KeySpan {
+        low: Key::of(alloc, low)?,
+        high: Key::of(alloc, high)?,
+    })
+}
+
+/// Whether a compaction of three tables keeps what the definition says.
+fn is_right(alloc: Global, floor: Ts, seqs: &[Seq], low: &[u8], high: &[u8]) -> Result<bool, Fail> {
+    let spans = [span(alloc, low, high)?];
+    let all = scrambled(alloc, 1, 210)?;
+    let wanted = plain_collect(alloc, &all, floor, seqs, &spans)?;
+    let plan = plan_of_three(alloc, low, high)?;
+    let mut files = files(alloc, 300)?;
+    let Ok(outs) = run_compaction(alloc, &plan, Form::Persist, floor, seqs, &mut files) else {
+        return Ok(false);
+    };
+    let right = outs.len() == 1 && holds(alloc, &outs[0].table, &wanted)?;
+    Ok(right)
+}
+
+#[test]
+fn three_tables_keep_what_the_definition_says(rt: HostRuntime) -> Result<(), Fail> {
+    let alloc = rt.alloc();
+    assert!(rt; is_right(alloc, Ts(0), &[], b"z", b"z")?);
+    assert!(rt; is_right(alloc, Ts(40), &[Seq(120), Seq(60), Seq(200)], b"z", b"z")?);
+    assert!(rt; is_right(alloc, Ts(96), &[Seq(150)], b"key02", b"key05")?);
+    assert!(rt; is_right(alloc, Ts(200), &[], b"key00", b"key03")?);
+    Ok(())
+}

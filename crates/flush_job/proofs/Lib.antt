@@ -1,0 +1,5 @@
+pub mod Keeping
+pub mod Walking
+pub mod Stripping
+pub mod Pushes
+pub mod Collected

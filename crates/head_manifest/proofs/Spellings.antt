@@ -1,0 +1,132 @@
+-- Bytes spell one thing at most.
+use Rattle.std.proofs.Common.{◌≡◌, ◌==◌, ℕ, ◌<◌, true, false, List, [], ◌∷◌, ◌++◌, length, take, drop, refl, sym, ap, ◌∙◌, arith, append_assoc}
+use Rattle.std.specs.List.{All, flat_map}
+use Rattle.std.proofs.lemmas.List.{take_at, drop_at}
+use Rattle.std.proofs.lemmas.List.Elements.{All-head, All-tail}
+use Rattle.byteorder.specs.Endian.{little_number}
+use Rattle.byteorder.specs.Numbers.{little_number-reads_back}
+use Rattle.ts_key.specs.declared.version.Form.{Form}
+use Rattle.ts_key.specs.declared.version.Form.TheVariants.{Persist}
+use Rattle.ts_key.specs.declared.numbers.Ts.{Ts}
+use Rattle.udt_model.specs.declared.line.FamilyHead.{FamilyHead}
+use Rattle.head_manifest.specs.Heads.{form_code, family_text, IsNewFamily, IsNamed, IsHead, differ}
+use Rattle.head_manifest.specs.Reading.{StartsWithName, StartsWith, AreSpelled}
+
+-- fronts of one length, and what stands behind them
+split_once : (a b x y : List ℕ) → length a ≡ length b → a ++ x ≡ b ++ y → (a ≡ b) × (x ≡ y)
+split_once a b x y long same = (
+  sym (take_at a x (length b) long) ∙ ap (take (length b)) same ∙ take_at b y (length b) refl,
+  sym (drop_at a x (length b) long) ∙ ap (drop (length b)) same ∙ drop_at b y (length b) refl,
+)
+
+-- ---- families
+
+pub name_once : (bytes a x b y : List ℕ) → StartsWithName bytes a x → StartsWithName bytes b y → (a ≡ b) × (x ≡ y)
+name_once bytes a x b y p q =
+    let same = sym p ∙ q in
+    let long : length a ≡ length b = cc in
+    let text : a ++ 0 ∷ 8 ∷ x ≡ b ++ 0 ∷ 8 ∷ y = cc in
+    let parts = split_once a b (0 ∷ 8 ∷ x) (0 ∷ 8 ∷ y) long text in
+    (parts.0, ap (drop 2) parts.1)
+
+pub name_of : (bytes : List ℕ) (f : FamilyHead) (rest : List ℕ) → StartsWith bytes f rest → StartsWithName bytes f.name rest
+name_of bytes f rest h =
+    h.is ∙ ap (λ (l : List ℕ). length f.name ∷ l) (append_assoc f.name (form_code f.form ∷ 8 ∷ []) rest)
+    ∙ ap (λ (form : Form). length f.name ∷ (f.name ++ form_code form ∷ 8 ∷ rest)) h.new.form
+
+abbrev at_ts : ℕ → Ts
+at_ts n = record { 0 = n }
+
+abbrev family : List ℕ → Form → Ts → FamilyHead
+family name form floor = record { name = name; form = form; floor = floor }
+
+same_family : (f g : FamilyHead) → IsNewFamily f → IsNewFamily g → f.name ≡ g.name → f ≡ g
+same_family f g p q same =
+    ap (λ (name : List ℕ). family name f.form f.floor) same ∙ ap (λ (form : Form). family g.name form f.floor) (p.form ∙ sym q.form)
+    ∙ ap (λ (n : ℕ). family g.name g.form (at_ts n)) (p.floor ∙ sym q.floor)
+
+pub family_once : (bytes : List ℕ) (f g : FamilyHead) (x y : List ℕ) → StartsWith bytes f x → StartsWith bytes g y → (f ≡ g) × (x ≡ y)
+family_once bytes f g x y p q =
+    let parts = name_once bytes f.name x g.name y (name_of bytes f x p) (name_of bytes g y q) in
+    (same_family f g p.new q.new parts.0, parts.1)
+
+-- no family begins where the name isn't one
+pub no_family : (bytes name rest : List ℕ) → StartsWithName bytes name rest → (IsNamed (family name Persist (at_ts 0)) → ⊥) → (f : FamilyHead) (x : List ℕ) → StartsWith bytes f x → ⊥
+no_family bytes name rest p bad f x q =
+    let parts = name_once bytes name rest f.name x p (name_of bytes f x q) in
+    bad (rw parts.0 q.named)
+
+-- ---- lists of families
+
+abbrev AreFine : List FamilyHead → Type 0
+AreFine families = All IsNewFamily families × All IsNamed families
+
+starts : (f : FamilyHead) (families : List FamilyHead) (rest : List ℕ) → AreFine (f ∷ families) → StartsWith (family_text f ++ rest) f rest
+starts f families rest fine = record { new = All-head IsNewFamily f families fine.0; named = All-head IsNamed f families fine.1; is = refl }
+
+fine_tail : (f : FamilyHead) (families : List FamilyHead) → AreFine (f ∷ families) → AreFine families
+fine_tail f families fine = (All-tail IsNewFamily f families fine.0, All-tail IsNamed f families fine.1)
+
+-- the first families agree, and so does what stands behind them
+step : (f g : FamilyHead) (fs gs : List FamilyHead) (x y : List ℕ) → AreFine (f ∷ fs) → AreFine (g ∷ gs) → flat_map family_text (f ∷ fs) ++ x ≡ flat_map family_text (g ∷ gs) ++ y
+    → (f ≡ g) × (flat_map family_text fs ++ x ≡ flat_map family_text gs ++ y)
+step f g fs gs x y p q same =
+    let front : StartsWith (family_text g ++ (flat_map family_text gs ++ y)) f (flat_map family_text fs ++ x) = record {
+      new = All-head IsNewFamily f fs p.0;
+      named = All-head IsNamed f fs p.1;
+      is = sym (append_assoc (family_text g) (flat_map family_text gs) y) ∙ sym same ∙ append_assoc (family_text f) (flat_map family_text fs) x;
+    } in
+    family_once (family_text g ++ (flat_map family_text gs ++ y)) f g (flat_map family_text fs ++ x) (flat_map family_text gs ++ y) front (starts g gs (flat_map family_text gs ++ y) q)
+
+-- as many families, and what stands behind them
+pub as_many : (fs gs : List FamilyHead) (x y : List ℕ) → AreFine fs → AreFine gs → length fs ≡ length gs → flat_map family_text fs ++ x ≡ flat_map family_text gs ++ y → (fs ≡ gs) × (x ≡ y)
+as_many [] [] x y p q long same = (refl, same)
+as_many [] (g ∷ gs) x y p q long same = absurd (omega arith)
+as_many (f ∷ fs) [] x y p q long same = absurd (omega arith)
+as_many (f ∷ fs) (g ∷ gs) x y p q long same =
+    let first = step f g fs gs x y p q same in
+    let others = as_many fs gs x y (fine_tail f fs p) (fine_tail g gs q) (omega arith) first.1 in
+    (ap (λ (h : FamilyHead). h ∷ fs) first.0 ∙ ap (λ (l : List FamilyHead). g ∷ l) others.0, others.1)
+
+-- where no family goes on there aren't more of them
+pub no_more : (fs gs : List FamilyHead) (x y : List ℕ) → AreFine fs → AreFine gs → length fs < length gs → ((f : FamilyHead) (rest : List ℕ) → StartsWith x f rest → ⊥) → flat_map family_text fs ++ x ≡ flat_map family_text gs ++ y → ⊥
+no_more fs [] x y p q long none same = omega arith
+no_more [] (g ∷ gs) x y p q long none same =
+    none g (flat_map family_text gs ++ y) (record { new = All-head IsNewFamily g gs q.0; named = All-head IsNamed g gs q.1; is = same ∙ append_assoc (family_text g) (flat_map family_text gs) y })
+no_more (f ∷ fs) (g ∷ gs) x y p q long none same =
+    no_more fs gs x y (fine_tail f fs p) (fine_tail g gs q) (omega arith) none (step f g fs gs x y p q same).1
+
+-- ---- heads
+
+pub count_of : (body : List ℕ) (families : List FamilyHead) → IsHead body families → little_number 4 (drop 2 body) ≡ length families
+count_of body families h =
+    ap (λ (l : List ℕ). little_number 4 (drop 2 l)) h.is
+    ∙ little_number-reads_back 4 (length families) (flat_map family_text families) (omega (arith, h.new.few))
+
+pub families_of : (body : List ℕ) (families : List FamilyHead) → IsHead body families → drop 6 body ≡ flat_map family_text families
+families_of body families h = ap (drop 6) h.is
+
+spelled_of : (body : List ℕ) (families : List FamilyHead) → IsHead body families → AreSpelled (drop 6 body) (little_number 4 (drop 2 body)) families
+spelled_of body families h = record { long = sym (count_of body families h); new = h.new.each; named = h.named; is = families_of body families h }
+
+-- so many families are one list
+pub spelled_once : (bytes : List ℕ) (count : ℕ) (fs gs : List FamilyHead) → AreSpelled bytes count fs → AreSpelled bytes count gs → fs ≡ gs
+spelled_once bytes count fs gs p q =
+    (as_many fs gs [] [] (p.new, p.named) (q.new, q.named) (p.long ∙ sym q.long) (ap (λ (l : List ℕ). l ++ []) (sym p.is ∙ q.is))).0
+
+-- a body is the head of one list of families at most
+pub head_once : (body : List ℕ) (fs gs : List FamilyHead) → IsHead body fs → IsHead body gs → fs ≡ gs
+head_once body fs gs p q = spelled_once (drop 6 body) (little_number 4 (drop 2 body)) fs gs (spelled_of body fs p) (spelled_of body gs q)
+
+-- the families that are spelled there have one name twice
+pub names_again : (body : List ℕ) (fs : List FamilyHead) → AreSpelled (drop 6 body) (little_number 4 (drop 2 body)) fs → differ fs ≡ false → (families : List FamilyHead) → IsHead body families → ⊥
+names_again body fs p same families h =
+    let e = spelled_once (drop 6 body) (little_number 4 (drop 2 body)) fs families p (spelled_of body families h) in
+    let apart : differ families ≡ true = h.new.apart in
+    let at : differ families ≡ false = rw (← e) same in
+    cc
+
+-- there are bytes where their count isn't 0
+pub some_left : (bytes : List ℕ) → (length bytes == 0) ≡ false → bytes ≡ [] → ⊥
+some_left [] p same = cc
+some_left (b ∷ bytes) p same = cc

@@ -1,0 +1,22 @@
+-- What the parts of a head's reader find.
+use Rattle.std.specs.Prelude.{◌≡◌, ℕ, List, ◌∷◌, ◌++◌, length}
+use Rattle.std.specs.List.{flat_map, All}
+use Rattle.udt_model.specs.declared.line.FamilyHead.{FamilyHead}
+use Rattle.head_manifest.specs.Heads.{family_text, IsNewFamily, IsNamed}
+
+-- the bytes begin with a family of form persist that has this name
+abbrev pub StartsWithName : List ℕ → List ℕ → List ℕ → Type 0
+StartsWithName bytes name rest = bytes ≡ length name ∷ (name ++ 0 ∷ 8 ∷ rest)
+
+-- the bytes begin with this family
+pub record StartsWith (bytes : List ℕ) (f : FamilyHead) (rest : List ℕ) : Type 0 where
+  pub new : IsNewFamily f
+  pub named : IsNamed f
+  pub is : bytes ≡ family_text f ++ rest
+
+-- the bytes are so many families
+pub record AreSpelled (bytes : List ℕ) (count : ℕ) (families : List FamilyHead) : Type 0 where
+  pub long : length families ≡ count
+  pub new : All IsNewFamily families
+  pub named : All IsNamed families
+  pub is : bytes ≡ flat_map family_text families

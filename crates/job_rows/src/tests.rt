@@ -1,0 +1,4 @@
+//! Flushes, and what the tests of jobs share.
+
+mod flushes;
+mod flushing;

@@ -1,0 +1,5 @@
+pub mod SaidLemmas
+pub mod OpeningLemmas
+pub mod OneRefusal
+pub mod States
+pub mod MakeLemmas

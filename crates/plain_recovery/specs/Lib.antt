@@ -1,0 +1,4 @@
+pub mod Stores
+pub mod Fault
+pub mod Opening
+pub mod Making

@@ -1,0 +1,3 @@
+//! Stores that are made, opened and refused.
+
+mod stores;

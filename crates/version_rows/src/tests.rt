@@ -1,0 +1,5 @@
+//! Tests of super versions.
+
+mod changes;
+mod lists;
+mod making;
