@@ -1,3 +1,11 @@
 pub mod Stamps
 pub mod Shown
 pub mod Admitting
+pub mod Answering
+pub mod Files
+pub mod Synced
+pub mod Written
+pub mod Raised
+pub mod Closed
+pub mod Taken
+pub mod Current

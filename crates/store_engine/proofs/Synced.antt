@@ -1,0 +1,101 @@
+-- A sync of the log: what the engine holds behind it.
+use Rattle.std.proofs.Common.{◌≡◌, ℕ, ◌+◌, List, [], ◌∷◌, ◌++◌, Result, Ok, Err, refl, sym, ap, ◌∙◌, subst, arith}
+use Rattle.std.specs.Prelude.{All, None, OnOk, Unit}
+use Rattle.udt_disk.specs.Crash.{Image}
+use Rattle.udt_disk.specs.Joint.{Folder, Joint, Ran}
+use Rattle.udt_disk.specs.Moments.{MayLeave, holding}
+use Rattle.udt_disk.specs.Runs.{Leaves}
+use Rattle.udt_disk.specs.declared.file.DiskFile as file
+use Rattle.udt_disk.specs.declared.disk.Disk as disk
+use Rattle.udt_disk.specs.declared.name.FileName.{FileName}
+use Rattle.udt_disk.specs.declared.name.FileName.TheVariants.{Log}
+use Rattle.wal.specs.declared.numbered.Numbered.{Numbered}
+use Rattle.wal.specs.declared.wal.Wal.{Wal}
+use Rattle.wal.specs.Replays.{IsBeforeOrAfter, ReadsAs}
+use Rattle.wal.specs.Wals as log
+use Rattle.wal.specs.Wals.{wal_file, wal_sizes}
+use Rattle.wal.proofs.Showing.{images_read}
+use Rattle.udt_model.specs.State.{State}
+use Rattle.udt_model.specs.Crashes.{Course, IsOutcome}
+use Rattle.manifest.specs.declared.manifest.Manifest.{Manifest}
+use Rattle.manifest.specs.Folders.{IsManifestName}
+use Rattle.manifest.specs.Folds.{sizes_of}
+use Rattle.manifest.specs.Manifest.{FoldRests, manifest_file, manifest_folded}
+use Rattle.engine_laws.specs.Joints.{IsNowLast, OneRan}
+use Rattle.engine_laws.specs.JointLaws.{RestIn}
+use Rattle.engine_laws.specs.Standing.{Grammar, Says, StandsForSome}
+use Rattle.engine_laws.specs.Engine.{Holds, newest_of, with_batches}
+use Rattle.engine_laws.proofs.Joined.{newest_rests, now_leaves, ran_sync, sync_rests}
+use Rattle.engine_laws.proofs.Moving.{newest_log_is}
+use Rattle.recovery.specs.Tables.{ReadsAsTable}
+use Rattle.store_engine.specs.Engines.{IsEngineOf, IsOneFolder, held}
+use Rattle.store_engine.specs.Steps.{IsLogSynced}
+use Rattle.store_engine.specs.Together.{AreNamed, AreTogether}
+use Rattle.store_engine.specs.declared.engine.Engine.{Engine}
+use Rattle.store_engine.specs.declared.fault.EngineFault.{EngineFault}
+use Rattle.store_engine.proofs.Files.{first_ran, same_joint}
+
+module _ {D F : Type 0} (d : disk.Ghosts D F) (f : file.Ghosts F) (now_last : IsNowLast d f) where
+  -- the sizes are those of the fold
+  pub sizes_are : (engine : Engine D F f) (s : Says) (waiting : List Numbered) → IsEngineOf d f engine s waiting → AreTogether engine.manifest engine.wal engine.next → wal_sizes engine.wal ≡ sizes_of s.fold
+  sizes_are engine s waiting of together = together.sizes ∙ ap sizes_of of.fold
+
+  -- the log is the newest of the fold
+  pub log_is : (engine : Engine D F f) (s : Says) (waiting : List Numbered) → IsEngineOf d f engine s waiting → AreTogether engine.manifest engine.wal engine.next → f.name (wal_file engine.wal) ≡ Log (newest_of s)
+  log_is engine s waiting of together = together.name ∙ ap (λ fold. Log (newest_of (record s { fold = fold }))) of.fold
+
+  module _ (old new : Engine D F f) (result : Result (Unit {0}) EngineFault) (synced : IsLogSynced f old new result) where
+    -- its files behind the sync
+    pub synced_held : held new ≡ holding old.disk (wal_file new.wal ∷ manifest_file old.manifest ∷ [])
+    synced_held = same_joint new.disk old.disk (wal_file new.wal) (wal_file new.wal) (manifest_file new.manifest) (manifest_file old.manifest) synced.disk refl (ap (λ m. manifest_file m) synced.manifest)
+
+    pub synced_one : IsOneFolder d f old → IsOneFolder d f new
+    synced_one one =
+        let told : d.is_told new.disk ≡ d.is_told old.disk = ap d.is_told synced.disk in
+        let model : d.keeps_model new.disk ≡ d.keeps_model old.disk = ap d.keeps_model synced.disk in
+        record {
+          wal_told = synced.same.told ∙ one.wal_told ∙ sym told;
+          wal_model = synced.same.model ∙ one.wal_model ∙ sym model;
+          manifest_told = ap (λ m. f.is_told (manifest_file m)) synced.manifest ∙ one.manifest_told ∙ sym told;
+          manifest_model = ap (λ m. f.keeps_model (manifest_file m)) synced.manifest ∙ one.manifest_model ∙ sym model;
+        }
+
+    module _ (m : State) (c : Course) (s : Says) (waiting : List Numbered) (h : Holds m c s waiting) (of : IsEngineOf d f old s waiting) (named : AreNamed old.manifest old.wal) (together : AreTogether old.manifest old.wal old.next) where
+      abbrev name : FileName
+      name = f.name (manifest_file old.manifest)
+
+      abbrev before : List F
+      before = wal_file old.wal ∷ manifest_file old.manifest ∷ []
+
+      abbrev after_it : List F
+      after_it = wal_file new.wal ∷ manifest_file old.manifest ∷ []
+
+      ran_one : OneRan f before after_it (wal_file old.wal) (wal_file new.wal)
+      ran_one = first_ran f (wal_file old.wal) (wal_file new.wal) (manifest_file old.manifest) synced.same.name
+
+      newest_now : (i : Image) → MayLeave d f (holding old.disk before) (Log (newest_of s)) i → ReadsAs (sizes_of s.fold) (s.logs (newest_of s)) i
+      newest_now = newest_rests d f now_last ReadsAsTable name s (holding old.disk before) h.well of.rests
+
+      leaves : Leaves f (wal_file old.wal) (wal_file new.wal) (IsBeforeOrAfter (sizes_of s.fold) (s.logs (newest_of s)) waiting)
+      leaves = subst (λ sizes. Leaves f (wal_file old.wal) (wal_file new.wal) (IsBeforeOrAfter sizes (s.logs (newest_of s)) waiting)) (sizes_are old s waiting of together) (synced.moments (s.logs (newest_of s)) waiting of.log)
+
+      -- while it ran a crash left only folders that stand for outcomes
+      pub synced_ran : Ran d f (λ folder. StandsForSome ReadsAsTable folder (IsOutcome m c)) (held old) (held new)
+      synced_ran = subst (λ j. Ran d f (λ folder. StandsForSome ReadsAsTable folder (IsOutcome m c)) (held old) j) (sym synced_held)
+          (ran_sync d f now_last ReadsAsTable name named.of_manifest s waiting old.disk before after_it (wal_file old.wal) (wal_file new.wal) ran_one (log_is old s waiting of together) newest_now m c h of.rests leaves)
+
+      -- and where it ended well all that waited is on the disk
+      pub synced_of : OnOk result (IsEngineOf d f new (with_batches s waiting) [])
+      synced_of = elim result as (λ r. OnOk r (log.Holds f new.wal (s.logs (newest_of s) ++ waiting) []) → OnOk r (IsEngineOf d f new (with_batches s waiting) [])) [
+        | Ok u ↦ λ holds. record {
+          rests = subst (λ j. RestIn d f ReadsAsTable j (f.name (manifest_file new.manifest)) (with_batches s waiting)) (sym synced_held)
+              (subst (λ n. RestIn d f ReadsAsTable (holding old.disk after_it) n (with_batches s waiting)) (ap (λ m. f.name (manifest_file m)) (sym synced.manifest))
+              (sync_rests d f now_last ReadsAsTable name named.of_manifest s waiting old.disk before after_it (wal_file old.wal) (wal_file new.wal) ran_one (log_is old s waiting of together) newest_now of.rests
+              (λ i left. subst (λ sizes. ReadsAs sizes (s.logs (newest_of s) ++ waiting) i) (synced.sizes ∙ sizes_are old s waiting of together) (images_read f new.wal (s.logs (newest_of s) ++ waiting) [] holds i left))));
+          fold = ap manifest_folded synced.manifest ∙ of.fold;
+          edits = subst (FoldRests f) (sym synced.manifest) of.edits;
+          log = subst (λ bs. log.Holds f new.wal bs []) (sym (newest_log_is s waiting)) holds;
+          one = synced_one of.one;
+        }
+        | Err e ↦ λ holds. tt
+      ] (synced.holds (s.logs (newest_of s)) waiting of.log)
