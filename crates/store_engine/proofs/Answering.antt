@@ -1,7 +1,6 @@
--- Small facts of answers and of counts.
-use Rattle.std.proofs.Common.{◌≡◌, ◌⊎◌, ℕ, ◌+◌, ◌-◌, ◌^◌, ◌≤◌, Bool, true, false, Result, Ok, Err, Option, Some, None, refl, sym, ap, ◌∙◌, subst, arith, inl, inr, min}
-use Rattle.std.specs.Prelude.{OnOk, OnErr, IfErr, IfSome, Unit}
-use Rattle.udt_disk.specs.Causes.{HasCause, IsCause, Rose, plus_faults}
+-- Small facts of answers.
+use Rattle.std.proofs.Common.{◌≡◌, ◌⊎◌, ℕ, Result, Ok, Err, Option, Some, None, refl, sym, ap, ◌∙◌, subst, inl, inr}
+use Rattle.std.specs.Prelude.{IfErr, IfSome, OnOk, Unit}
 use Rattle.udt_disk.specs.Joint.{Folder, LeavesNow, Ran}
 use Rattle.udt_disk.specs.declared.file.DiskFile as file
 use Rattle.udt_disk.specs.declared.disk.Disk as disk
@@ -17,18 +16,16 @@ use Rattle.std.specs.Prelude.{option_map}
 use Rattle.engine_laws.specs.Standing.{StandsForSome}
 use Rattle.engine_laws.proofs.Acting.{fault_keeps}
 use Rattle.recovery.specs.Tables.{ReadsAsTable}
-use Rattle.store_engine.specs.Calls.{LeavesFailed, RanUnder}
+use Rattle.store_engine.specs.Calls.{LeavesFailed, RanUnder, Tells}
 use Rattle.store_engine.specs.Engines.{held}
+use Rattle.store_engine.specs.Replies.{told_by}
 use Rattle.store_engine.specs.declared.engine.Engine.{Engine}
+use Rattle.store_engine.specs.declared.fault.EngineFault.{EngineFault}
+use Rattle.store_engine.specs.declared.fault.EngineFault.TheVariants.{DiskFault}
 
 pub on_ok : {A E : Type 0} (r : Result A E) (P Q : Type 0) → (P → Q) → OnOk r P → OnOk r Q
 on_ok (Ok a) P Q step h = step h
 on_ok (Err e) P Q step h = h
-
--- ---- counts
-
-pub rose_in : (a b c : ℕ) → c ≤ 2 ^ 64 - 1 → Rose a b → Rose (plus_faults a c) (plus_faults b c)
-rose_in a b c low rose = omega (arith, rose)
 
 -- ---- the model's answers where no disk has failed
 
@@ -37,6 +34,10 @@ sync_told m runs = record { running = refl; is = inl (ap (λ h. option_map Halte
 
 pub sync_fails : (m : State) → m.halted ≡ None → IsReplyTo m sync_all Fault
 sync_fails m runs = record { running = refl; is = inr (inl (refl, refl, ap (option_map Halted) runs)) }
+
+pub sync_tells : (m : State) → m.halted ≡ None → (result : Result (Unit {0}) EngineFault) → IfErr result (λ fault. fault ≡ DiskFault) → Tells m sync_all Done result
+sync_tells m runs (Ok u) fault = sync_told m runs
+sync_tells m runs (Err e) fault = subst (λ (x : EngineFault). IfSome (told_by x) (IsReplyTo m sync_all)) (sym fault) (sync_fails m runs)
 
 -- ---- where the disk failed under an act
 

@@ -2,7 +2,9 @@ pub mod Stamps
 pub mod Shown
 pub mod Admitting
 pub mod Answering
+pub mod Counts
 pub mod Files
+pub mod Together
 pub mod Synced
 pub mod Written
 pub mod Raised

@@ -50,7 +50,7 @@ use Rattle.recovery.specs.Replayed.{IsLogName}
 use Rattle.recovery.specs.Tables.{ReadsAsTable}
 use Rattle.store_engine.specs.Engines.{HoldsNow, IsEngineOf, IsOneFolder, held}
 use Rattle.store_engine.specs.Now.{IsNow}
-use Rattle.store_engine.specs.Steps.{IsEdited, IsLogSynced}
+use Rattle.store_engine.specs.Steps.{IsEdited, IsReserved}
 use Rattle.store_engine.specs.Together.{AreNamed, AreTogether}
 use Rattle.store_engine.specs.declared.engine.Engine.{Engine}
 use Rattle.store_engine.specs.declared.fault.EngineFault.{EngineFault}
@@ -58,22 +58,8 @@ use Rattle.store_engine.proofs.Answering.{on_ok}
 use Rattle.store_engine.proofs.Files.{same_joint, second_ran}
 use Rattle.store_engine.proofs.Synced.{synced_held, synced_of, synced_ran}
 
--- the manifest made ready for an edit, and nothing else is changed
-pub record Reserved {D F : Type 0} (f : file.Ghosts F) (old mid : Engine D F f) : Type 0 where
-  pub disk : mid.disk ≡ old.disk
-  pub wal : mid.wal ≡ old.wal
-  pub next : mid.next ≡ old.next
-  pub file : manifest_file mid.manifest ≡ manifest_file old.manifest
-  pub fold : manifest_folded mid.manifest ≡ manifest_folded old.manifest
-  pub rests : FoldRests f old.manifest → FoldRests f mid.manifest
-  pub ready : IsManifestReady f old.manifest → IsManifestReady f mid.manifest
-
--- without logs more the newest is the same
-pub same_newest : (logs : List ℕ) → newest_log (logs ++ []) ≡ newest_log logs
-same_newest logs = ap newest_log (append-nil logs)
-
 module _ {D F : Type 0} (d : disk.Ghosts D F) (f : file.Ghosts F) (now_last : IsNowLast d f) where
-  module _ (old mid : Engine D F f) (kept : Reserved f old mid) where
+  module _ (old mid : Engine D F f) (edit : Edit) (result : Result (Unit {0}) EngineFault) (kept : IsReserved f edit old mid result) where
     pub reserved_held : held mid ≡ held old
     reserved_held = same_joint mid.disk old.disk (wal_file mid.wal) (wal_file old.wal) (manifest_file mid.manifest) (manifest_file old.manifest) kept.disk (ap (λ w. wal_file w) kept.wal) kept.file
 
@@ -82,20 +68,6 @@ module _ {D F : Type 0} (d : disk.Ghosts D F) (f : file.Ghosts F) (now_last : Is
       of_manifest = subst (λ x. IsManifestName (f.name x)) (sym kept.file) named.of_manifest;
       of_log = subst (λ w. IsLogName (f.name (wal_file w))) (sym kept.wal) named.of_log;
     }
-
-    pub reserved_together : AreTogether old.manifest old.wal old.next → AreTogether mid.manifest mid.wal mid.next
-    reserved_together together =
-        let P : Wal F f → ℕ → Type 0 = λ w n. AreTogether mid.manifest w n in
-        let here : P old.wal old.next = record {
-          well = subst IsWell (sym kept.fold) together.well;
-          name = together.name ∙ ap (λ fold. Log (newest_log fold.logs)) (sym kept.fold);
-          sizes = together.sizes ∙ ap sizes_of (sym kept.fold);
-          edits = kept.ready together.edits;
-          log = together.log;
-          more = subst (λ fold. fold.next_file ≤ old.next) (sym kept.fold) together.more;
-          most = together.most;
-        } in
-        subst (λ w. P w mid.next) (sym kept.wal) (subst (λ n. P old.wal n) (sym kept.next) here)
 
     pub reserved_of : (s : Says) (waiting : List Numbered) → IsEngineOf d f old s waiting → IsEngineOf d f mid s waiting
     reserved_of s waiting of =

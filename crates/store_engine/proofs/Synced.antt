@@ -1,6 +1,7 @@
 -- A sync of the log: what the engine holds behind it.
-use Rattle.std.proofs.Common.{◌≡◌, ℕ, ◌+◌, List, [], ◌∷◌, ◌++◌, Result, Ok, Err, refl, sym, ap, ◌∙◌, subst, arith}
+use Rattle.std.proofs.Common.{◌≡◌, ℕ, ◌+◌, ◌<◌, List, [], ◌∷◌, ◌++◌, Result, Ok, Err, refl, sym, ap, ◌∙◌, subst, arith}
 use Rattle.std.specs.Prelude.{All, None, OnOk, Unit}
+use Rattle.udt_disk.specs.Causes.{HasCause, plus_faults}
 use Rattle.udt_disk.specs.Crash.{Image}
 use Rattle.udt_disk.specs.Joint.{Folder, Joint, Ran}
 use Rattle.udt_disk.specs.Moments.{MayLeave, holding}
@@ -10,14 +11,16 @@ use Rattle.udt_disk.specs.declared.disk.Disk as disk
 use Rattle.udt_disk.specs.declared.name.FileName.{FileName}
 use Rattle.udt_disk.specs.declared.name.FileName.TheVariants.{Log}
 use Rattle.wal.specs.declared.numbered.Numbered.{Numbered}
-use Rattle.wal.specs.declared.wal.Wal.{Wal}
 use Rattle.wal.specs.Replays.{IsBeforeOrAfter, ReadsAs}
 use Rattle.wal.specs.Wals as log
-use Rattle.wal.specs.Wals.{wal_file, wal_sizes}
+use Rattle.wal.specs.Wals.{MayGoOn, wal_file, wal_pending, wal_sizes}
 use Rattle.wal.proofs.Showing.{images_read}
 use Rattle.udt_model.specs.State.{State}
-use Rattle.udt_model.specs.Crashes.{Course, IsOutcome}
-use Rattle.manifest.specs.declared.manifest.Manifest.{Manifest}
+use Rattle.udt_model.specs.Acts.Act.{sync_all}
+use Rattle.udt_model.specs.declared.reply.Reply.TheVariants.{Done}
+use Rattle.udt_model.specs.Steps.{IsReplyTo, after}
+use Rattle.udt_model.specs.Crashes.{Course, IsOutcome, course_after}
+use Rattle.super_version.specs.declared.version.SuperVersion.{SuperVersion}
 use Rattle.manifest.specs.Folders.{IsManifestName}
 use Rattle.manifest.specs.Folds.{sizes_of}
 use Rattle.manifest.specs.Manifest.{FoldRests, manifest_file, manifest_folded}
@@ -27,12 +30,17 @@ use Rattle.engine_laws.specs.Standing.{Grammar, Says, StandsForSome}
 use Rattle.engine_laws.specs.Engine.{Holds, newest_of, with_batches}
 use Rattle.engine_laws.proofs.Joined.{newest_rests, now_leaves, ran_sync, sync_rests}
 use Rattle.engine_laws.proofs.Moving.{newest_log_is}
+use Rattle.engine_laws.proofs.Syncing.{sync_holds}
 use Rattle.recovery.specs.Tables.{ReadsAsTable}
-use Rattle.store_engine.specs.Engines.{IsEngineOf, IsOneFolder, held}
+use Rattle.recovery.specs.Versions.{FitsFold}
+use Rattle.store_engine.specs.Engines.{HoldsNow, IsCurrent, IsEngineOf, IsOneFolder, faults_of, held}
+use Rattle.store_engine.specs.Now.{IsNow}
 use Rattle.store_engine.specs.Steps.{IsLogSynced}
 use Rattle.store_engine.specs.Together.{AreNamed, AreTogether}
 use Rattle.store_engine.specs.declared.engine.Engine.{Engine}
 use Rattle.store_engine.specs.declared.fault.EngineFault.{EngineFault}
+use Rattle.store_engine.proofs.Answering.{on_ok}
+use Rattle.store_engine.proofs.Counts.{cause_second}
 use Rattle.store_engine.proofs.Files.{first_ran, same_joint}
 
 module _ {D F : Type 0} (d : disk.Ghosts D F) (f : file.Ghosts F) (now_last : IsNowLast d f) where
@@ -99,3 +107,39 @@ module _ {D F : Type 0} (d : disk.Ghosts D F) (f : file.Ghosts F) (now_last : Is
         }
         | Err e ↦ λ holds. tt
       ] (synced.holds (s.logs (newest_of s)) waiting of.log)
+
+      -- it goes on with what it held
+      pub synced_now : (number : ℕ) (now : SuperVersion) → IsReplyTo m sync_all Done → IsNow now m → All (λ n. n < old.next) m.used → m.halted ≡ None → c.failing ≡ None
+          → OnOk result (HoldsNow d f new now (after m number sync_all Done) (course_after m number c sync_all Done))
+      synced_now number now told shows used runs unfailed =
+          on_ok result (IsEngineOf d f new (with_batches s waiting) []) (HoldsNow d f new now (after m number sync_all Done) (course_after m number c sync_all Done))
+          (λ of_new. record {
+            says = with_batches s waiting;
+            waiting = [];
+            engine_of = of_new;
+            holds = sync_holds m c s waiting h number told;
+            shows = shows;
+            used = subst (λ k. All (λ n. n < k) m.used) (sym synced.next) used;
+            runs = runs;
+            unfailed = unfailed;
+          }) synced_of
+
+    -- and with the version that it went on with
+    pub synced_current : (now : SuperVersion) → IsCurrent old now → OnOk result (IsCurrent new now)
+    synced_current now current = elim result as (λ r. OnOk r (MayGoOn f new.wal (now.last.0 + 1)) → OnOk r (wal_pending new.wal ≡ 0) → OnOk r (IsCurrent new now)) [
+      | Ok u ↦ λ goes_on none. record {
+        fits = subst (λ m. FitsFold (manifest_folded m) now) (sym synced.manifest) current.fits;
+        goes_on = goes_on;
+        room = let e = none in omega (arith, e);
+      }
+      | Err e ↦ λ goes_on none. tt
+    ] (synced.goes_on (now.last.0 + 1) current.goes_on) synced.pending
+
+    pub synced_cause : HasCause (faults_of d f old) (faults_of d f new) result
+    synced_cause =
+        let a = d.faults old.disk in
+        let b = f.faults (manifest_file old.manifest) in
+        let y = f.faults (wal_file new.wal) in
+        subst (λ k. HasCause (faults_of d f old) (plus_faults (plus_faults (d.faults k) y) (f.faults (manifest_file new.manifest))) result) (sym synced.disk)
+        (subst (λ k. HasCause (faults_of d f old) (plus_faults (plus_faults a y) (f.faults (manifest_file k))) result) (sym synced.manifest)
+        (cause_second a (f.faults (wal_file old.wal)) y b result synced.cause))

@@ -39,7 +39,7 @@ use Rattle.recovery.specs.Replayed.{IsLogName}
 use Rattle.recovery.specs.Tables.{ReadsAsTable}
 use Rattle.store_engine.specs.Engines.{HoldsNow, IsEngineOf, IsOneFolder, held}
 use Rattle.store_engine.specs.Now.{IsNow}
-use Rattle.store_engine.specs.Steps.{IsLogSynced}
+use Rattle.store_engine.specs.Steps.{IsAdded, IsLogSynced}
 use Rattle.store_engine.specs.Together.{AreNamed, AreTogether}
 use Rattle.store_engine.specs.declared.engine.Engine.{Engine}
 use Rattle.store_engine.specs.declared.fault.EngineFault.{EngineFault}
@@ -47,18 +47,8 @@ use Rattle.store_engine.proofs.Answering.{on_ok}
 use Rattle.store_engine.proofs.Files.{first_ran, same_joint}
 use Rattle.store_engine.proofs.Synced.{log_is, sizes_are, synced_held, synced_of}
 
--- the batch waits behind the others, and nothing else is changed
-pub record Appended {D F : Type 0} (f : file.Ghosts F) (old mid : Engine D F f) (b : Numbered) : Type 0 where
-  pub disk : mid.disk ≡ old.disk
-  pub manifest : mid.manifest ≡ old.manifest
-  pub next : mid.next ≡ old.next
-  pub file : wal_file mid.wal ≡ wal_file old.wal
-  pub sizes : wal_sizes mid.wal ≡ wal_sizes old.wal
-  pub ready : log.IsWalReady f mid.wal
-  pub holds : (bs ws : List Numbered) → log.Holds f old.wal bs ws → log.Holds f mid.wal bs (ws ++ b ∷ [])
-
 module _ {D F : Type 0} (d : disk.Ghosts D F) (f : file.Ghosts F) (now_last : IsNowLast d f) where
-  module _ (old mid : Engine D F f) (b : Numbered) (added : Appended f old mid b) where
+  module _ (old mid : Engine D F f) (b : Numbered) (added : IsAdded f b old mid (Ok tt)) where
     pub appended_held : held mid ≡ held old
     appended_held = same_joint mid.disk old.disk (wal_file mid.wal) (wal_file old.wal) (manifest_file mid.manifest) (manifest_file old.manifest) added.disk added.file (ap (λ m. manifest_file m) added.manifest)
 
@@ -67,20 +57,6 @@ module _ {D F : Type 0} (d : disk.Ghosts D F) (f : file.Ghosts F) (now_last : Is
       of_manifest = subst (λ m. IsManifestName (f.name (manifest_file m))) (sym added.manifest) named.of_manifest;
       of_log = subst (λ x. IsLogName (f.name x)) (sym added.file) named.of_log;
     }
-
-    pub appended_together : AreTogether old.manifest old.wal old.next → AreTogether mid.manifest mid.wal mid.next
-    appended_together together =
-        let P : Manifest F f → ℕ → Type 0 = λ m n. AreTogether m mid.wal n in
-        let here : P old.manifest old.next = record {
-          well = together.well;
-          name = ap f.name added.file ∙ together.name;
-          sizes = added.sizes ∙ together.sizes;
-          edits = together.edits;
-          log = added.ready;
-          more = together.more;
-          most = together.most;
-        } in
-        subst (λ m. P m mid.next) (sym added.manifest) (subst (λ n. P old.manifest n) (sym added.next) here)
 
     pub appended_of : (s : Says) (waiting : List Numbered) → IsEngineOf d f old s waiting → IsEngineOf d f mid s (waiting ++ b ∷ [])
     appended_of s waiting of =
@@ -109,7 +85,7 @@ module _ {D F : Type 0} (d : disk.Ghosts D F) (f : file.Ghosts F) (now_last : Is
   pub next_is : (now : SuperVersion) (m : State) (ops : List WriteOp) → IsNow now m → (let b : Numbered = record { first = record { 0 = now.last.0 + 1 }; batch = ops } in b) ≡ next_batch m ops
   next_is now m ops shows = ap (λ (k : ℕ). (let b : Numbered = record { first = record { 0 = k + 1 }; batch = ops } in b)) (ap (λ q. q.0) shows.last)
 
-  module _ (m : State) (c : Course) (number : ℕ) (ops : List WriteOp) (old mid : Engine D F f) (now : SuperVersion) (h : HoldsNow d f old now m c) (added : Appended f old mid (next_batch m ops)) (named : AreNamed old.manifest old.wal) (together : AreTogether old.manifest old.wal old.next) where
+  module _ (m : State) (c : Course) (number : ℕ) (ops : List WriteOp) (old mid : Engine D F f) (now : SuperVersion) (h : HoldsNow d f old now m c) (added : IsAdded f (next_batch m ops) old mid (Ok tt)) (named : AreNamed old.manifest old.wal) (together : AreTogether old.manifest old.wal old.next) (together_mid : AreTogether mid.manifest mid.wal mid.next) where
     abbrev more : List Numbered
     more = h.waiting ++ next_batch m ops ∷ []
 
@@ -144,7 +120,7 @@ module _ {D F : Type 0} (d : disk.Ghosts D F) (f : file.Ghosts F) (now_last : Is
       module _ (new : Engine D F f) (result : Result (Unit {0}) EngineFault) (synced : IsLogSynced f mid new result) where
         leaves : Leaves f (wal_file mid.wal) (wal_file new.wal) (IsBeforeOrAfter (sizes_of h.says.fold) (h.says.logs (newest_of h.says)) more)
         leaves = subst (λ sizes. Leaves f (wal_file mid.wal) (wal_file new.wal) (IsBeforeOrAfter sizes (h.says.logs (newest_of h.says)) more))
-            (sizes_are d f now_last mid h.says more of_mid (appended_together old mid (next_batch m ops) added together)) (synced.moments (h.says.logs (newest_of h.says)) more of_mid.log)
+            (sizes_are d f now_last mid h.says more of_mid together_mid) (synced.moments (h.says.logs (newest_of h.says)) more of_mid.log)
 
         -- while it was synced a crash left an outcome under the write
         pub sync_ran : Ran d f (λ folder. StandsForSome ReadsAsTable folder (IsOutcomeUnder m c number (write ops sync))) (held old) (held new)
@@ -155,7 +131,7 @@ module _ {D F : Type 0} (d : disk.Ghosts D F) (f : file.Ghosts F) (now_last : Is
             let k = manifest_file mid.manifest in
             let P : Folder → Type 0 = λ folder. StandsForSome ReadsAsTable folder (IsOutcomeUnder m c number (write ops sync)) in
             let newest = newest_rests d f now_last ReadsAsTable name h.says (held mid) h.holds.well of_mid.rests in
-            let at : f.name a ≡ Log (newest_of h.says) = log_is d f now_last mid h.says more of_mid (appended_together old mid (next_batch m ops) added together) in
+            let at : f.name a ≡ Log (newest_of h.says) = log_is d f now_last mid h.says more of_mid together_mid in
             let ran = ran_write d f now_last ReadsAsTable name (appended_named old mid (next_batch m ops) added named).of_manifest m c h.says h.waiting number ops sync mid.disk (a ∷ k ∷ []) (b ∷ k ∷ []) a b h.holds told fits of_mid.rests (first_ran f a b k synced.same.name) at newest leaves in
             subst (λ j. Ran d f P j (held new)) (appended_held old mid (next_batch m ops) added) (subst (λ j. Ran d f P (held mid) j) (sym (synced_held d f now_last mid new result synced)) ran)
 
@@ -166,7 +142,7 @@ module _ {D F : Type 0} (d : disk.Ghosts D F) (f : file.Ghosts F) (now_last : Is
     written_holds false told =
         sync_unasked (after_write m number ops false) (course_after_write m number c ops false) s (waiting ++ next_batch m ops ∷ []) (write_waits m c s waiting number ops (m.last.0 + length ops) h told fits refl)
 
-  module _ (m : State) (c : Course) (number : ℕ) (ops : List WriteOp) (old mid : Engine D F f) (now : SuperVersion) (h : HoldsNow d f old now m c) (added : Appended f old mid (next_batch m ops)) (named : AreNamed old.manifest old.wal) (together : AreTogether old.manifest old.wal old.next)
+  module _ (m : State) (c : Course) (number : ℕ) (ops : List WriteOp) (old mid : Engine D F f) (now : SuperVersion) (h : HoldsNow d f old now m c) (added : IsAdded f (next_batch m ops) old mid (Ok tt)) (named : AreNamed old.manifest old.wal) (together : AreTogether old.manifest old.wal old.next) (together_mid : AreTogether mid.manifest mid.wal mid.next)
       (new : Engine D F f) (result : Result (Unit {0}) EngineFault) (synced : IsLogSynced f mid new result) where
     pub synced_now : (told : IsReplyTo m (write ops false) (OkAt (m.last.0 + length ops))) (sync : Bool) → IsReplyTo m (write ops sync) (OkAt (m.last.0 + length ops)) → (next : SuperVersion) → IsNow next (after_write m number ops sync)
         → OnOk result (HoldsNow d f new next (after_write m number ops sync) (course_after_write m number c ops sync))
@@ -188,4 +164,4 @@ module _ {D F : Type 0} (d : disk.Ghosts D F) (f : file.Ghosts F) (now_last : Is
           runs = h.runs;
           unfailed = h.unfailed;
         })
-        (synced_of d f now_last mid new result synced (after_write m number ops false) (course_after_write m number c ops false) s more waits of (appended_named old mid b added named) (appended_together old mid b added together))
+        (synced_of d f now_last mid new result synced (after_write m number ops false) (course_after_write m number c ops false) s more waits of (appended_named old mid b added named) together_mid)

@@ -1,20 +1,21 @@
--- What the two steps of a call leave: a sync of the log, and an edit of the manifest.
-use Rattle.std.specs.Prelude.{◌≡◌, ℕ, Unit, List, [], ◌++◌, Bool, IsOk, IfErr, OnOk, OnErr, Result}
+-- What the steps of a call leave: a batch and a sync of the log, and an edit of the manifest.
+use Rattle.std.specs.Prelude.{◌≡◌, ℕ, Unit, List, [], ◌∷◌, ◌++◌, false, IsOk, IfErr, OnOk, OnErr, Result}
 use Rattle.udt_disk.specs.Causes.{HasCause}
 use Rattle.udt_disk.specs.Runs.{IsSameFile, Leaves}
 use Rattle.udt_disk.specs.declared.file.DiskFile.{Ghosts}
 use Rattle.wal.specs.declared.numbered.Numbered.{Numbered}
 use Rattle.wal.specs.Replays.{IsBeforeOrAfter}
-use Rattle.wal.specs.Wals.{Holds, MayGoOn, wal_file, wal_pending, wal_sizes}
+use Rattle.wal.specs.Sequences.{sequence_after}
+use Rattle.wal.specs.Wals.{Holds, MayGoOn, waiting_with, wal_file, wal_pending, wal_sizes, wal_waiting}
 use Rattle.manifest_edit.specs.declared.edit.Edit.{Edit}
 use Rattle.manifest_fold.specs.Folds.{fold_with}
 use Rattle.manifest.specs.Files.{IsEditImage}
-use Rattle.manifest.specs.Manifest.{FoldRests, manifest_file, manifest_folded}
+use Rattle.manifest.specs.Manifest.{FoldRests, IsEditReserved, manifest_file, manifest_folded}
 use Rattle.store_engine.specs.Calls.{is_disk_failure}
 use Rattle.store_engine.specs.Engines.{has_failed}
 use Rattle.store_engine.specs.declared.engine.Engine.{Engine}
 use Rattle.store_engine.specs.declared.fault.EngineFault.{EngineFault}
-use Rattle.store_engine.specs.declared.fault.EngineFault.TheVariants.{DiskFault}
+use Rattle.store_engine.specs.declared.fault.EngineFault.TheVariants.{DiskFault, NoMemory}
 
 -- The log was synced, and nothing else was touched.
 pub record IsLogSynced {D F : Type 0} (f : Ghosts F) (old new : Engine D F f) (result : Result (Unit {0}) EngineFault) : Type 0 where
@@ -31,6 +32,34 @@ pub record IsLogSynced {D F : Type 0} (f : Ghosts F) (old new : Engine D F f) (r
   pub sizes : wal_sizes new.wal ≡ wal_sizes old.wal
   pub failed : has_failed new ≡ is_disk_failure result
   pub fault : IfErr result (λ fault. fault ≡ DiskFault)
+
+-- The batch waits in the log where memory didn't run out. No file is touched.
+pub record IsAdded {D F : Type 0} (f : Ghosts F) (b : Numbered) (old new : Engine D F f) (result : Result (Unit {0}) EngineFault) : Type 0 where
+  pub disk : new.disk ≡ old.disk
+  pub manifest : new.manifest ≡ old.manifest
+  pub next : new.next ≡ old.next
+  pub file : wal_file new.wal ≡ wal_file old.wal
+  pub sizes : wal_sizes new.wal ≡ wal_sizes old.wal
+  pub holds : (batches waiting : List Numbered) → Holds f old.wal batches waiting → OnOk result (Holds f new.wal batches (waiting ++ b ∷ []))
+  pub goes_on : OnOk result (MayGoOn f new.wal (sequence_after b))
+  pub bytes : OnOk result (wal_waiting new.wal ≡ waiting_with old.wal b)
+  pub err_holds : (batches waiting : List Numbered) → Holds f old.wal batches waiting → OnErr result (Holds f new.wal batches waiting)
+  pub err_goes_on : (first : ℕ) → MayGoOn f old.wal first → OnErr result (MayGoOn f new.wal first)
+  pub err_pending : OnErr result (wal_pending new.wal ≡ wal_pending old.wal)
+  pub failed : has_failed new ≡ false
+  pub fault : IfErr result (λ fault. fault ≡ NoMemory)
+
+-- The manifest is ready for the edit where memory didn't run out. No file is touched.
+pub record IsReserved {D F : Type 0} (f : Ghosts F) (edit : Edit) (old new : Engine D F f) (result : Result (Unit {0}) EngineFault) : Type 0 where
+  pub disk : new.disk ≡ old.disk
+  pub wal : new.wal ≡ old.wal
+  pub next : new.next ≡ old.next
+  pub file : manifest_file new.manifest ≡ manifest_file old.manifest
+  pub fold : manifest_folded new.manifest ≡ manifest_folded old.manifest
+  pub rests : FoldRests f old.manifest → FoldRests f new.manifest
+  pub reserved : OnOk result (IsEditReserved f new.manifest edit)
+  pub failed : has_failed new ≡ false
+  pub fault : IfErr result (λ fault. fault ≡ NoMemory)
 
 -- The edit was added to the manifest, and nothing else was touched.
 pub record IsEdited {D F : Type 0} (f : Ghosts F) (edit : Edit) (old new : Engine D F f) (result : Result (Unit {0}) EngineFault) : Type 0 where

@@ -1,14 +1,15 @@
 //! The engine of a store: its folder, its manifest and its newest log, and the calls that write to them.
 
-ghost use Rattle.std.specs.Prelude.{◌≡◌, ◌≢◌, ◌⊎◌, ◌+◌, ◌<◌, ◌≤◌, ◌∷◌, [], ℕ, length, false, true, IfErr, IfOk, OnOk, OnErr, IsTrue};
+ghost use Rattle.std.specs.Prelude.{◌≡◌, ◌≢◌, ◌⊎◌, ◌+◌, ◌<◌, ◌≤◌, ◌∷◌, [], ℕ, length, All, false, true, IfErr, IfOk, IsOk, OnOk, IsTrue};
 ghost use Rattle.std.specs.Arc.{arc_value};
 ghost use Rattle.udt_disk.specs.Causes.{HasCause, IsCause};
 ghost use Rattle.udt_disk.specs.Joint.{LeavesNow};
 ghost use Rattle.udt_disk.specs.Moments.{IsClean, OnlyReads, alone, holding};
 ghost use Rattle.wal.specs.declared.wal.TheConstants.{PENDING_LIMIT};
-ghost use Rattle.wal.specs.Wals.{waiting_with, wal_file, wal_pending};
-ghost use Rattle.manifest_edit.specs.declared.edit.Edit.{Edit as ManifestEdit};
-ghost use Rattle.manifest_fold.specs.Folds.{IsAccepted, fold_with};
+ghost use Rattle.ts_key.specs.declared.batch.WriteOp.{WriteOp as Operation};
+ghost use Rattle.ts_key.specs.declared.limits.TheConstants.{SEQUENCE_LIMIT};
+ghost use Rattle.wal.specs.Wals.{MayGoOn, waiting_with, wal_file, wal_pending};
+ghost use Rattle.manifest_fold.specs.Folds.{IsAccepted};
 ghost use Rattle.manifest.specs.Manifest.{IsEditReserved, manifest_file, manifest_folded};
 ghost use Rattle.udt_model.specs.Acts.Act.{raise as raise_act, sync_all, write as write_act};
 ghost use Rattle.udt_model.specs.declared.reply.Reply.TheVariants.{Done, OkAt};
@@ -71,7 +72,7 @@ fn raise_edit(alloc: Global, next: u64, last: Seq, family: Family, floor: Ts, th
 impl<D: Disk> Engine<D> {
     ghost use Rattle.store_engine.specs.Calls.{LeavesFailed, RanOn, RanUnder, Tells, is_disk_failure};
     ghost use Rattle.store_engine.specs.Engines.{HoldsAsBefore, HoldsNow, IsCurrent, IsOneFolder, faults_of, has_failed, held};
-    ghost use Rattle.store_engine.specs.Steps.{IsEdited, IsLogSynced, IsSameFolder};
+    ghost use Rattle.store_engine.specs.Steps.{IsAdded, IsEdited, IsLogSynced, IsReserved, IsSameFolder};
 
     /// The engine of an opened store, whose folder, manifest and newest log these are. It takes no memory.
     pub fn from_parts(disk: D, manifest: Manifest<D::File>, wal: Wal<D::File>) -> Engine<D>
@@ -101,6 +102,22 @@ impl<D: Disk> Engine<D> {
         self.failed
     }
 
+    /// Adds a batch to those that wait in the log.
+    fn add_batch(&mut self, first: Seq, batch: &Batch) -> Result<(), EngineFault>
+        requires runs { has_failed self.old ≡ false }
+        requires first { 1 ≤ first.0 }
+        requires last { first.0 + length batch.now ≤ SEQUENCE_LIMIT + 1 }
+        requires families { All (λ (op : Operation). op.family.0 < length (manifest_folded self.old.manifest).families) batch.now }
+        requires room { wal_pending self.old.wal < PENDING_LIMIT }
+        requires next { MayGoOn D.File.DiskFile self.old.wal first.0 }
+        ensures { IsAdded D.File.DiskFile (record { first = first; batch = batch.now }) self.old self.new result }
+    {
+        match self.wal.append(first, batch) {
+            Ok(()) => Ok(()),
+            Err(_) => Err(EngineFault::NoMemory),
+        }
+    }
+
     /// Puts all that waits in the log on the disk. It takes no memory.
     fn sync_log(&mut self) -> Result<(), EngineFault>
         requires { has_failed self.old ≡ false }
@@ -112,6 +129,30 @@ impl<D: Disk> Engine<D> {
                 self.failed = true;
                 Err(EngineFault::DiskFault)
             }
+        }
+    }
+
+    /// The same where that is asked for, or `PENDING_LIMIT` bytes or more wait.
+    fn sync_due(&mut self, sync: bool) -> Result<(), EngineFault>
+        requires { has_failed self.old ≡ false }
+        ensures due { (sync ≡ true) ⊎ (PENDING_LIMIT ≤ wal_pending self.old.wal) → IsLogSynced D.File.DiskFile self.old self.new result }
+        ensures waits { sync ≡ false → wal_pending self.old.wal < PENDING_LIMIT → IsOk result × (self.new ≡ self.old) }
+    {
+        if sync || self.wal.pending() >= PENDING_LIMIT {
+            self.sync_log()
+        } else {
+            Ok(())
+        }
+    }
+
+    /// Makes the manifest ready for an edit.
+    fn reserve_edit(&mut self, alloc: Global, edit: &Edit) -> Result<(), EngineFault>
+        requires { has_failed self.old ≡ false }
+        ensures { IsReserved D.File.DiskFile edit.now self.old self.new result }
+    {
+        match self.manifest.reserve(alloc, edit) {
+            Ok(()) => Ok(()),
+            Err(_) => Err(EngineFault::NoMemory),
         }
     }
 
@@ -163,10 +204,8 @@ impl<D: Disk> Engine<D> {
         ensures cause { IfErr result (λ fault. IsCause (is_disk_fault fault) (faults_of D.Disk D.File.DiskFile self.old) (faults_of D.Disk D.File.DiskFile self.new)) }
     {
         let next = admit(alloc, now, batch)?;
-        self.wal.append(Seq(now.last.0 + 1), batch)?;
-        if sync || self.wal.pending() >= PENDING_LIMIT {
-            self.sync_log()?;
-        }
+        self.add_batch(Seq(now.last.0 + 1), batch)?;
+        self.sync_due(sync)?;
         Ok(next)
     }
 
@@ -201,7 +240,7 @@ impl<D: Disk> Engine<D> {
             return Err(EngineFault::UnknownFamily);
         };
         let edit = raise_edit(alloc, self.next, now.last, family, floor, state.through);
-        self.manifest.reserve(alloc, &edit)?;
+        self.reserve_edit(alloc, &edit)?;
         self.sync_log()?;
         self.append_edit(&edit)?;
         Ok(next)
