@@ -1,0 +1,5 @@
+pub mod Stamps
+pub mod Shown
+pub mod Admitting
+pub mod NowWritten
+pub mod NowRaised
