@@ -1,6 +1,7 @@
 -- Admission over a super version answers as the model does over all writes.
 use Rattle.std.proofs.Common.{◌≡◌, ◌⊎◌, ℕ, zero, suc, ◌+◌, ◌<◌, ◌≤◌, Bool, true, false, List, [], ◌∷◌, ◌++◌, length, Option, Some, None, refl, sym, ap, ◌∙◌, subst, arith, inl, inr, append_assoc, append-nil}
-use Rattle.std.specs.Prelude.{AllPairs, IfSome, Result, Ok, Err, OnOk, IfErr, if◌then◌else◌, nat_lt, option_map, option_or, slice_get}
+use Rattle.std.specs.Prelude.{AllPairs, IfSome, Result, Ok, Err, OnOk, IfErr, if◌then◌else◌, nat_lt, option_map, slice_get}
+use Rattle.std.specs.Option.{option_or}
 use Rattle.std.proofs.lemmas.Bool.{cases_Bool, ltb-false}
 use Rattle.ts_key.specs.declared.batch.WriteOp.{WriteOp}
 use Rattle.ts_key.specs.declared.limits.TheConstants.{SEQUENCE_LIMIT}
@@ -164,17 +165,22 @@ module _ (m : State) (now : SuperVersion) (sound : IsSoundState m) (shows : IsNo
         rw (of, there) two
   ]
 
+  -- behind the first operation, where the rest is judged so
+  first_told : (before : List WriteOp) (k : ℕ) (o : WriteOp) (ops : List WriteOp) (r : Option Reply) (e : Option EngineFault) → op_refusal (writes before) k (place_at m o.family) o ≡ r → r ≡ told e
+      → (r ≡ None → refused m (writes (before ++ o ∷ [])) (reached (before ++ o ∷ [])) (k + 1) ops ≡ told (ops_fault now.families (before ++ o ∷ []) (k + 1) ops))
+      → (r or_else refused m (writes before ++ version_of o (reached before + 1) ∷ []) (reached before + 1) (k + 1) ops) ≡ told (option_or e (ops_fault now.families (before ++ o ∷ []) (k + 1) ops))
+  first_told before k o ops r (Some e) is same rest = ap (λ (z : Option Reply). z or_else refused m (writes before ++ version_of o (reached before + 1) ∷ []) (reached before + 1) (k + 1) ops) same
+  first_told before k o ops r None is same rest =
+      ap (λ (z : Option Reply). z or_else refused m (writes before ++ version_of o (reached before + 1) ∷ []) (reached before + 1) (k + 1) ops) same
+      ∙ ap (λ (vs : List Version). refused m vs (reached before + 1) (k + 1) ops) (writes_more before o)
+      ∙ ap (λ (n : ℕ). refused m (writes (before ++ o ∷ [])) n (k + 1) ops) (reached_more before o)
+      ∙ rest same
+
   ops_told : (before : List WriteOp) (k : ℕ) (ops : List WriteOp) → IsBehind before → refused m (writes before) (reached before) k ops ≡ told (ops_fault now.families before k ops)
   ops_told before k [] b = refl
-  ops_told before k (o ∷ ops) b = on_first (op_refusal (writes before) k (place_at m o.family) o) (op_fault (slice_get now.families o.family.0) before k o) refl (op_told before k o b) where
-    on_first : (r : Option Reply) (e : Option EngineFault) → op_refusal (writes before) k (place_at m o.family) o ≡ r → r ≡ told e
-        → (r or_else refused m (writes before ++ version_of o (reached before + 1) ∷ []) (reached before + 1) (k + 1) ops) ≡ told (option_or e (ops_fault now.families (before ++ o ∷ []) (k + 1) ops))
-    on_first r (Some e) is same = ap (λ (z : Option Reply). z or_else refused m (writes before ++ version_of o (reached before + 1) ∷ []) (reached before + 1) (k + 1) ops) same
-    on_first r None is same =
-        ap (λ (z : Option Reply). z or_else refused m (writes before ++ version_of o (reached before + 1) ∷ []) (reached before + 1) (k + 1) ops) same
-        ∙ ap (λ (vs : List Version). refused m vs (reached before + 1) (k + 1) ops) (writes_more before o)
-        ∙ ap (λ (n : ℕ). refused m (writes (before ++ o ∷ [])) n (k + 1) ops) (reached_more before o)
-        ∙ ops_told (before ++ o ∷ []) (k + 1) ops (goes_on before k o (is ∙ same) b)
+  ops_told before k (o ∷ ops) b =
+      let r = op_refusal (writes before) k (place_at m o.family) o in
+      first_told before k o ops r (op_fault (slice_get now.families o.family.0) before k o) refl (op_told before k o b) (λ ok. ops_told (before ++ o ∷ []) (k + 1) ops (goes_on before k o ok b))
 
 -- ---- whole writes
 

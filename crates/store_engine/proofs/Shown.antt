@@ -30,7 +30,7 @@ use Rattle.store_engine.proofs.Stamps.{IsStampIn, IsStampOf, IsStampOn, Top, sta
 
 pub In-flat : {X Y : Type 0} (f : X → List Y) (x : X) (y : Y) (xs : List X) → In x xs → In y (f x) → In y (flat_map f xs)
 In-flat f x y [] i j = absurd i
-In-flat f x y (z ∷ zs) (inl q) j = In-left y (f z) (flat_map f zs) (subst (λ (w : X). In y (f w)) (sym q) j)
+In-flat f x y (z ∷ zs) (inl q) j = In-left y (f z) (flat_map f zs) (subst (λ w. In y (f w)) (sym q) j)
 In-flat f x y (z ∷ zs) (inr i) j = In-right y (f z) (flat_map f zs) (In-flat f x y zs i j)
 
 pub flat-In : {X Y : Type 0} (f : X → List Y) (y : Y) (xs : List X) → In y (flat_map f xs) → (x : X) × In x xs × In y (f x)

@@ -1,5 +1,6 @@
 -- Why a write and a raise are refused, by what a super version holds.
-use Rattle.std.specs.Prelude.{◌≡◌, ℕ, ◌+◌, nat_lt, ◌==◌, ◌&&◌, Bool, if◌then◌else◌, List, [], ◌∷◌, ◌++◌, length, slice_get, Option, Some, None, option_map, option_or, Result, Ok, Err, ⊤}
+use Rattle.std.specs.Prelude.{◌≡◌, ℕ, ◌+◌, nat_lt, ◌==◌, ◌&&◌, Bool, if◌then◌else◌, List, [], ◌∷◌, ◌++◌, length, slice_get, Option, Some, None, Result, Ok, Err, ⊤}
+use Rattle.std.specs.Option.{option_or}
 use Rattle.std.specs.Str.{bytes_eq}
 use Rattle.ts_key.specs.declared.batch.WriteOp.{WriteOp}
 use Rattle.ts_key.specs.declared.limits.TheConstants.{SEQUENCE_LIMIT}
@@ -10,9 +11,6 @@ use Rattle.ts_key.specs.Items.{Item}
 use Rattle.ts_key.specs.Visible.{newest_ts}
 use Rattle.memtable.specs.Memtables.{greater}
 use Rattle.block_table.specs.Contents.{greatest_of}
-use Rattle.udt_model.specs.Acts.{Act}
-use Rattle.udt_model.specs.Acts.Act.{raise, write}
-use Rattle.udt_model.specs.Refusals.{refusal}
 use Rattle.udt_model.specs.State.{State}
 use Rattle.udt_model.specs.Steps.{admitted, raised}
 use Rattle.super_version.specs.Contents.{items_in}

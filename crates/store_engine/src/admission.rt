@@ -12,7 +12,7 @@ ghost use Rattle.super_version.specs.Changes.{ChangesFamily, with_floor as floor
 ghost use Rattle.super_version.specs.Contents.{items_in};
 ghost use Rattle.super_version.specs.Writes.{AddsBatch};
 ghost use Rattle.super_version.specs.declared.family.FamilyState.{FamilyState as StateOf};
-ghost use Rattle.store_engine.specs.Admission.{IsInMemory, RefusesRaise, RefusesWrite, fault_of, full_fault, latest_at as latest_of_key, op_fault, ops_fault, raise_fault, unknown_in, where_above, write_fault};
+ghost use Rattle.store_engine.specs.Admission.{IsInMemory, RefusesRaise, RefusesWrite, fault_of, full_fault, is_on as stands_on, latest_at as latest_of_key, op_fault, ops_fault, raise_fault, unknown_in, where_above, write_fault};
 ghost use Rattle.store_engine.specs.Now.{IsNow};
 
 use crate::fault::EngineFault;
@@ -20,7 +20,7 @@ use crate::latest::latest_in;
 use memtable::later_of;
 use std::alloc::Global;
 use std::sync::Arc;
-use super_version::{FamilyState, SuperVersion};
+use super_version::{FamilyState, NoMemory, SuperVersion};
 use ts_key::limits::SEQUENCE_LIMIT;
 use ts_key::{Batch, Family, Seq, Ts, WriteOp};
 
@@ -36,13 +36,20 @@ fn newest_above(state: &FamilyState, key: &[u8], ts: Ts) -> Option<Ts>
     if ts.0 < newest.0 { Some(newest) } else { None }
 }
 
+/// Whether the operation is on this key.
+fn is_on(op: &WriteOp, family: Family, key: &[u8]) -> bool
+    ensures { result ≡ stands_on family key.now op.now }
+{
+    op.family.0 == family.0 && op.key.bytes() == key
+}
+
 /// The greatest timestamp of operations on a key.
 fn latest_at(ops: &[WriteOp], family: Family, key: &[u8]) -> Option<Ts>
     ensures { option_map (λ latest. latest.0) result ≡ latest_of_key family key.now ops.now }
 {
     let mut latest = None;
     for op in ops {
-        if op.family.0 == family.0 && op.key.bytes() == key {
+        if is_on(op, family, key) {
             latest = later_of(latest, Some(op.ts));
         }
     }
@@ -128,6 +135,13 @@ fn judge(now: &SuperVersion, ops: &[WriteOp]) -> Result<(), EngineFault>
     judge_room(now.last, ops.len())
 }
 
+/// A super version that is shared.
+fn share(alloc: Global, version: SuperVersion) -> Result<Arc<SuperVersion>, NoMemory>
+    ensures { IfOk result (λ shared. arc_value shared ≡ version) }
+{
+    Ok(Arc::new(alloc, version)?)
+}
+
 /// The super version behind a batch, which follows the last sequence, or why the batch isn't admitted: the model's refusal. It asks for
 /// the newest version of a key at most once an operation, and not at all where the family has nothing above its timestamp.
 pub(crate) fn admit(
@@ -144,7 +158,7 @@ pub(crate) fn admit(
     ensures memory { IfErr result IsInMemory }
 {
     judge(now, batch.ops())?;
-    Ok(Arc::new(alloc, now.with_write(alloc, batch)?)?)
+    Ok(share(alloc, now.with_write(alloc, batch)?)?)
 }
 
 /// Judges a raise.
@@ -178,5 +192,5 @@ pub(crate) fn admit_raise(
     ensures memory { IfErr result IsInMemory }
 {
     judge_raise(now, family, floor)?;
-    Ok(Arc::new(alloc, now.with_floor(alloc, family, floor)?)?)
+    Ok(share(alloc, now.with_floor(alloc, family, floor)?)?)
 }

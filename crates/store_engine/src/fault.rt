@@ -24,6 +24,7 @@ pub enum EngineFault {
 }
 
 impl From<AllocError> for EngineFault {
+    ghost use Rattle.std.specs.Prelude.{◌≡◌};
     ghost use Rattle.store_engine.specs.declared.fault.EngineFault.{EngineFault};
 
     ghost from_gives = { λ _ fault. fault ≡ EngineFault.NoMemory };
