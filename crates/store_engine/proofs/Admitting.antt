@@ -1,6 +1,6 @@
 -- Admission over a super version answers as the model does over all writes.
 use Rattle.std.proofs.Common.{◌≡◌, ◌⊎◌, ℕ, zero, suc, ◌+◌, ◌<◌, ◌≤◌, Bool, true, false, List, [], ◌∷◌, ◌++◌, length, Option, Some, None, refl, sym, ap, ◌∙◌, subst, arith, inl, inr, append_assoc, append-nil}
-use Rattle.std.specs.Prelude.{AllPairs, IfSome, Result, Ok, Err, OnOk, IfErr, if◌then◌else◌, nat_lt, option_map, slice_get}
+use Rattle.std.specs.Prelude.{AllPairs, IfSome, Result, Ok, Err, IfErr, IsErrAnd, if◌then◌else◌, nat_lt, option_map, slice_get}
 use Rattle.std.specs.Option.{option_or}
 use Rattle.std.proofs.lemmas.Bool.{cases_Bool, ltb-false}
 use Rattle.ts_key.specs.declared.batch.WriteOp.{WriteOp}
@@ -37,6 +37,13 @@ use Rattle.store_engine.specs.declared.fault.EngineFault.{EngineFault}
 use Rattle.store_engine.specs.declared.fault.EngineFault.TheVariants.{UnknownFamily, BelowFloor, Fell, SequenceFull, FloorFell, FilesFull, NoMemory, DiskFault}
 use Rattle.store_engine.proofs.Shown.{newest_shown}
 use Rattle.store_engine.proofs.Stamps.{stamp_of}
+
+-- ---- answers
+
+-- a fault that is handed on
+pub handed_on : {A : Type 0} (P : EngineFault → Type 0) (r : Result A EngineFault) (e : EngineFault) → IsErrAnd r (λ y. y ≡ e) → P e → IfErr r P
+handed_on P (Ok x) e is h = tt
+handed_on P (Err y) e is h = subst P (sym is) h
 
 -- ---- two lists of one length
 
