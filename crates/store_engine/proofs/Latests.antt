@@ -1,8 +1,8 @@
 -- The greatest timestamp of several lists, and of operations one after the other.
-use Rattle.std.proofs.Common.{◌≡◌, ℕ, suc, ◌+◌, ◌<◌, ◌≤◌, Bool, true, false, List, [], ◌∷◌, ◌++◌, length, get_or, map, max, take, drop, Option, Some, None, refl, sym, ap, ◌∙◌, subst, arith, inl, inr}
+use Rattle.std.proofs.Common.{◌≡◌, Bor, ℕ, suc, ◌+◌, ◌<◌, ◌≤◌, Bool, true, false, List, [], ◌∷◌, ◌++◌, length, get_or, map, max, take, drop, Option, Some, None, refl, sym, ap, ◌∙◌, subst, arith, inl, inr}
 use Rattle.std.specs.Prelude.{All, IfSome, nat_lt, option_map, slice_get}
 use Rattle.std.specs.List.{flat_map}
-use Rattle.std.specs.Option.{option_or}
+use Rattle.std.specs.Option.{is_some, option_copied, option_or}
 use Rattle.std.proofs.lemmas.Bool.{cases_Bool, le-ltb, ltb-false, ltb-true}
 use Rattle.std.proofs.lemmas.List.{drop_all, drop_more, take_all, take_more}
 use Rattle.std.proofs.lemmas.List.Elements.{All-push}
@@ -104,6 +104,11 @@ pub latest_off : (family : Family) (key : List ℕ) (ops : List WriteOp) (i : �
 latest_off family key ops i o latest l is off so_far =
     let one : stamp_at family key o ≡ None = rw off refl in
     so_far ∙ sym (greater_none (latest_at family key (take i ops))) ∙ ap (greater (latest_at family key (take i ops))) (sym one) ∙ sym (latest_at-push family key (take i ops) o) ∙ ap (latest_at family key) (sym (take_push ops i o l is))
+
+-- what is lent is there
+pub there_is : (lent : Option (Bor FamilyState)) (o : Option FamilyState) → option_copied lent ≡ o → is_some lent ≡ true → (f : FamilyState) × (o ≡ Some f)
+there_is None o e y = absurd cc
+there_is (Some b) o e y = (b.now, sym e)
 
 -- ---- operations one after the other
 

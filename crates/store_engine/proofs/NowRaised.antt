@@ -68,7 +68,6 @@ family_raised i unflushed f g floor high s = record {
   number = record { active = s.number.active; sealed = s.number.sealed; tables = s.number.tables };
   holds = s.holds;
   tables = s.tables;
-  only = s.only;
   levels = s.levels;
   order = s.order;
   fit = fits_higher g floor high s.fit;

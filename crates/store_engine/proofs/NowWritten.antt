@@ -102,7 +102,6 @@ family_written i unflushed more f g h w s =
       number = record { active = ap (λ (z : Family). z.0) w.family ∙ s.number.active; sealed = s.number.sealed; tables = s.number.tables };
       holds = subst (λ (vs : List Version). IsPermutation (unflushed ++ more) (vs ++ sealed)) (sym w.versions) moved;
       tables = s.tables;
-      only = s.only;
       levels = s.levels;
       order = s.order;
       fit = s.fit;

@@ -83,7 +83,7 @@ module _ (m : State) (family : Family) (f : ModelFamily) (g : FamilyState) (show
   of_table tables t item i j k =
       let r = shown-In family 0 g.levels tables t i j in
       let u = table_shown family r.0 t in
-      let live = contains_In f.tables u (shows.only u (In-contains (tables_shown family 0 g.levels) u r.1)) in
+      let live = contains_In f.tables u (Contains-permutation (tables_shown family 0 g.levels) f.tables u (IsPermutation-sym f.tables (tables_shown family 0 g.levels) shows.tables) (In-contains (tables_shown family 0 g.levels) u r.1)) in
       let w = version_of_item family item in
       (w, In-right w (between family f.through.0 m.last.0 m.versions) (contents f.tables) (contents-from f.tables u w live (In-map (version_of_item family) item t.table.contents.items k)), refl, record { key = refl; ts = refl })
 
@@ -117,7 +117,7 @@ module _ (m : State) (family : Family) (f : ModelFamily) (g : FamilyState) (show
     ]
     | inr b ↦
         let x = In-contents f.tables v b in
-        let y = In-shown family 0 g.levels x.0 (contains_In (tables_shown family 0 g.levels) x.0 (shows.tables x.0 (In-contains f.tables x.0 x.1))) in
+        let y = In-shown family 0 g.levels x.0 (contains_In (tables_shown family 0 g.levels) x.0 (Contains-permutation f.tables (tables_shown family 0 g.levels) x.0 shows.tables (In-contains f.tables x.0 x.1))) in
         let t = y.2.0 in
         let l = y.2.2.0 in
         let in_t : In v (table_shown family l t).versions = subst (λ (z : LiveTable). In v z.versions) (sym y.2.2.1) x.2 in

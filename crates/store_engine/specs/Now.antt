@@ -1,5 +1,5 @@
 -- What a super version shows of a state of the model.
-use Rattle.std.specs.Prelude.{◌≡◌, ℕ, ◌+◌, ◌≤◌, List, [], ◌∷◌, ◌++◌, length, map, slice_get, Contains, Some}
+use Rattle.std.specs.Prelude.{◌≡◌, ℕ, ◌+◌, ◌≤◌, List, [], ◌∷◌, ◌++◌, length, map, slice_get, Some}
 use Rattle.std.specs.List.{AllByRecursion, flat_map}
 use Rattle.std.specs.List.Sorted.{IsPermutation}
 use Rattle.ts_key.specs.declared.numbers.Family.{Family}
@@ -37,15 +37,14 @@ pub record FitsFamily (form : Form) (floor : Ts) (t : Live) : Type 0 where
   pub collected : t.table.contents.collected_by ≤ floor.0
 
 -- The family is as the model has it, with these versions in no table: form, floor and `through` are the model's, the memtables hold
--- exactly those versions, and the levels show exactly the live tables, each in order.
+-- exactly those versions, and the levels show the live tables, each once and in order.
 pub record ShowsFamily (family : Family) (unflushed : List Version) (f : ModelFamily) (g : FamilyState) : Type 0 where
   pub form : g.form ≡ f.head.form
   pub floor : g.floor ≡ f.head.floor
   pub through : g.through ≡ f.through
   pub number : BearsNumber family.0 g
   pub holds : IsPermutation unflushed (versions_held g)
-  pub tables : (t : LiveTable) → Contains f.tables t → Contains (tables_shown family 0 g.levels) t
-  pub only : (t : LiveTable) → Contains (tables_shown family 0 g.levels) t → Contains f.tables t
+  pub tables : IsPermutation f.tables (tables_shown family 0 g.levels)
   pub levels : length g.levels ≡ LEVELS
   pub order : (level : ℕ) (tables : List Live) → slice_get g.levels level ≡ Some tables → StandInOrder level tables
   pub fit : AllByRecursion (AllByRecursion (FitsFamily g.form g.floor)) g.levels
