@@ -1,6 +1,9 @@
 pub mod Stamps
 pub mod Shown
+pub mod Latests
 pub mod Admitting
+pub mod NowWritten
+pub mod NowRaised
 pub mod Answering
 pub mod Counts
 pub mod Files
