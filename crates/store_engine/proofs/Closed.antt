@@ -19,7 +19,6 @@ use Rattle.recovery.specs.Replayed.{IsLogName}
 use Rattle.recovery.specs.Tables.{ReadsAsTable}
 use Rattle.recovery.proofs.Openings.{logs_free}
 use Rattle.store_engine.specs.Engines.{HoldsNow, held}
-use Rattle.store_engine.specs.Together.{AreNamed}
 use Rattle.store_engine.specs.declared.engine.Engine.{Engine}
 
 module _ {D F : Type 0} (d : disk.Ghosts D F) (f : file.Ghosts F) (now_last : IsNowLast d f) where
@@ -31,9 +30,9 @@ module _ {D F : Type 0} (d : disk.Ghosts D F) (f : file.Ghosts F) (now_last : Is
       (return_step d f now_last.disk now_last.file [] y z m second (manifest_told ∙ sym one.told) (λ k none. absurd none))
 
   -- a crash leaves what it might have left
-  pub closed_leaves : (engine : Engine D F f) (z : D) (now : SuperVersion) (m : State) (c : Course) → HoldsNow d f engine now m c → AreNamed engine.manifest engine.wal → OnlyReads d f (held engine) (alone z)
+  pub closed_leaves : (engine : Engine D F f) (z : D) (now : SuperVersion) (m : State) (c : Course) → HoldsNow d f engine now m c → OnlyReads d f (held engine) (alone z)
       → LeavesNow d f (λ folder. StandsForSome ReadsAsTable folder (IsOutcome m c)) (alone z)
-  closed_leaves engine z now m c h named only =
+  closed_leaves engine z now m c h only =
       let name = f.name (manifest_file engine.manifest) in
-      let r = dead_rests d f now_last ReadsAsTable name named.of_manifest h.says (λ n. ⊥) (held engine) (alone z) h.engine_of.rests (λ n none. absurd none) only.no_more in
+      let r = dead_rests d f now_last ReadsAsTable name h.engine_of.one.named.of_manifest h.says (λ n. ⊥) (held engine) (alone z) h.engine_of.rests (λ n none. absurd none) only.no_more in
       now_leaves d f now_last ReadsAsTable name m c h.says h.waiting (alone z) h.holds r

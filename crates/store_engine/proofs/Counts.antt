@@ -1,6 +1,6 @@
 -- Counts of faults that are added up.
 use Rattle.std.proofs.Common.{◌≡◌, ℕ, ◌+◌, ◌-◌, ◌^◌, ◌≤◌, min, Result, Ok, Err, refl, sym, ap, ◌∙◌, subst, arith}
-use Rattle.std.specs.Prelude.{OnErr, OnOk, Unit}
+use Rattle.std.specs.Prelude.{OnErr, OnOk}
 use Rattle.udt_disk.specs.Causes.{HasCause, Rose, plus_faults}
 
 grows : (most a x y : ℕ) → x ≤ y → min (a + x) most ≤ min (a + y) most

@@ -14,3 +14,5 @@ pub mod Raised
 pub mod Closed
 pub mod Taken
 pub mod Current
+pub mod Writing
+pub mod Raising

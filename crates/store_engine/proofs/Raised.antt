@@ -1,6 +1,6 @@
 -- A floor that was written to the manifest: what the engine holds behind it.
 use Rattle.std.proofs.Common.{◌≡◌, ℕ, ◌≤◌, ◌<◌, Bool, true, false, List, [], ◌∷◌, ◌++◌, length, Result, Ok, Err, refl, sym, ap, ◌∙◌, subst, arith, inl, inr}
-use Rattle.std.specs.Prelude.{All, Contains, OnOk, Some, Unit, slice_get}
+use Rattle.std.specs.Prelude.{All, Contains, OnOk, Some, slice_get}
 use Rattle.std.proofs.lemmas.List.{append-nil}
 use Rattle.ts_key.specs.declared.numbers.Family.{Family}
 use Rattle.ts_key.specs.declared.numbers.Ts.{Ts}
@@ -51,23 +51,16 @@ use Rattle.recovery.specs.Tables.{ReadsAsTable}
 use Rattle.store_engine.specs.Engines.{HoldsNow, IsEngineOf, IsOneFolder, held}
 use Rattle.store_engine.specs.Now.{IsNow}
 use Rattle.store_engine.specs.Steps.{IsEdited, IsReserved}
-use Rattle.store_engine.specs.Together.{AreNamed, AreTogether}
 use Rattle.store_engine.specs.declared.engine.Engine.{Engine}
 use Rattle.store_engine.specs.declared.fault.EngineFault.{EngineFault}
 use Rattle.store_engine.proofs.Answering.{on_ok}
 use Rattle.store_engine.proofs.Files.{same_joint, second_ran}
-use Rattle.store_engine.proofs.Synced.{synced_held, synced_of, synced_ran}
+use Rattle.store_engine.proofs.Together.{named_on}
 
 module _ {D F : Type 0} (d : disk.Ghosts D F) (f : file.Ghosts F) (now_last : IsNowLast d f) where
   module _ (old mid : Engine D F f) (edit : Edit) (result : Result (Unit {0}) EngineFault) (kept : IsReserved f edit old mid result) where
     pub reserved_held : held mid ≡ held old
     reserved_held = same_joint mid.disk old.disk (wal_file mid.wal) (wal_file old.wal) (manifest_file mid.manifest) (manifest_file old.manifest) kept.disk (ap (λ w. wal_file w) kept.wal) kept.file
-
-    pub reserved_named : AreNamed old.manifest old.wal → AreNamed mid.manifest mid.wal
-    reserved_named named = record {
-      of_manifest = subst (λ x. IsManifestName (f.name x)) (sym kept.file) named.of_manifest;
-      of_log = subst (λ w. IsLogName (f.name (wal_file w))) (sym kept.wal) named.of_log;
-    }
 
     pub reserved_of : (s : Says) (waiting : List Numbered) → IsEngineOf d f old s waiting → IsEngineOf d f mid s waiting
     reserved_of s waiting of =
@@ -79,6 +72,7 @@ module _ {D F : Type 0} (d : disk.Ghosts D F) (f : file.Ghosts F) (now_last : Is
           edits = kept.rests of.edits;
           log = subst (λ w. log.Holds f w (s.logs (newest_of s)) waiting) (sym kept.wal) of.log;
           one = record {
+            named = named_on f old.manifest mid.manifest old.wal mid.wal (ap f.name kept.file) (ap (λ w. f.name (wal_file w)) kept.wal) of.one.named;
             wal_told = ap (λ w. f.is_told (wal_file w)) kept.wal ∙ of.one.wal_told ∙ sym told;
             wal_model = ap (λ w. f.keeps_model (wal_file w)) kept.wal ∙ of.one.wal_model ∙ sym model;
             manifest_told = ap f.is_told kept.file ∙ of.one.manifest_told ∙ sym told;
@@ -105,7 +99,7 @@ module _ {D F : Type 0} (d : disk.Ghosts D F) (f : file.Ghosts F) (now_last : Is
     pub edited_held : held new ≡ holding two.disk (wal_file two.wal ∷ manifest_file new.manifest ∷ [])
     edited_held = same_joint new.disk two.disk (wal_file new.wal) (wal_file two.wal) (manifest_file new.manifest) (manifest_file new.manifest) edited.disk (ap (λ w. wal_file w) edited.wal) refl
 
-    module _ (m next : State) (c : Course) (s : Says) (h : Holds m c s []) (of : IsEngineOf d f two s []) (named : AreNamed two.manifest two.wal) (may : MayEdit m s edit next) (logs : edit.add_logs ≡ []) (tables : (t : TableAt) → Contains (added_tables edit.family) t → ⊥) where
+    module _ (m next : State) (c : Course) (s : Says) (h : Holds m c s []) (of : IsEngineOf d f two s []) (may : MayEdit m s edit next) (logs : edit.add_logs ≡ []) (tables : (t : TableAt) → Contains (added_tables edit.family) t → ⊥) where
       abbrev name : FileName
       name = f.name (manifest_file two.manifest)
 
@@ -123,7 +117,7 @@ module _ {D F : Type 0} (d : disk.Ghosts D F) (f : file.Ghosts F) (now_last : Is
 
       pub edited_ran : Ran d f (λ folder. StandsForSome ReadsAsTable folder (IsOutcomeOr m c next)) (held two) (held new)
       edited_ran = subst (λ j. Ran d f (λ folder. StandsForSome ReadsAsTable folder (IsOutcomeOr m c next)) (held two) j) (sym edited_held)
-          (ran_edit d f now_last ReadsAsTable name named.of_manifest m next c s edit two.disk start done (manifest_file two.manifest) (manifest_file new.manifest) ran_one refl may of.rests ready h
+          (ran_edit d f now_last ReadsAsTable name of.one.named.of_manifest m next c s edit two.disk start done (manifest_file two.manifest) (manifest_file new.manifest) ran_one refl may of.rests ready h
           (subst (λ fold. Leaves f (manifest_file two.manifest) (manifest_file new.manifest) (IsEditImage fold edit)) of.fold (edited.moments of.edits)))
 
       -- where it ended well, the engine holds what the files say with the edit
@@ -136,12 +130,13 @@ module _ {D F : Type 0} (d : disk.Ghosts D F) (f : file.Ghosts F) (now_last : Is
             record {
               rests = subst (λ j. RestIn d f ReadsAsTable j (f.name (manifest_file new.manifest)) (with_edit s edit)) (sym edited_held)
                   (subst (λ n. RestIn d f ReadsAsTable (holding two.disk done) n (with_edit s edit)) (sym edited.same.name)
-                  (edit_rests d f now_last ReadsAsTable name named.of_manifest m next c s edit two.disk start done (manifest_file two.manifest) (manifest_file new.manifest) ran_one refl may of.rests ready
+                  (edit_rests d f now_last ReadsAsTable name of.one.named.of_manifest m next c s edit two.disk start done (manifest_file two.manifest) (manifest_file new.manifest) ran_one refl may of.rests ready
                   (λ i left. subst (HasFold i) is (rests_fold f new.manifest rests i left))));
               fold = is;
               edits = rests;
               log = subst (λ w. log.Holds f w (s.logs (newest_log (fold_with s.fold edit).logs)) []) (sym edited.wal) (subst (λ n. log.Holds f two.wal (s.logs n) []) (sym newest) of.log);
               one = record {
+                named = named_on f two.manifest new.manifest two.wal new.wal edited.same.name (ap (λ w. f.name (wal_file w)) edited.wal) of.one.named;
                 wal_told = ap (λ w. f.is_told (wal_file w)) edited.wal ∙ of.one.wal_told ∙ sym told;
                 wal_model = ap (λ w. f.keeps_model (wal_file w)) edited.wal ∙ of.one.wal_model ∙ sym model;
                 manifest_told = edited.same.told ∙ of.one.manifest_told ∙ sym told;

@@ -1,6 +1,6 @@
 -- A sync of the log: what the engine holds behind it.
 use Rattle.std.proofs.Common.{◌≡◌, ℕ, ◌+◌, ◌<◌, List, [], ◌∷◌, ◌++◌, Result, Ok, Err, refl, sym, ap, ◌∙◌, subst, arith}
-use Rattle.std.specs.Prelude.{All, None, OnOk, Unit}
+use Rattle.std.specs.Prelude.{All, None, OnOk}
 use Rattle.udt_disk.specs.Causes.{HasCause, plus_faults}
 use Rattle.udt_disk.specs.Crash.{Image}
 use Rattle.udt_disk.specs.Joint.{Folder, Joint, Ran}
@@ -35,13 +35,14 @@ use Rattle.recovery.specs.Tables.{ReadsAsTable}
 use Rattle.recovery.specs.Versions.{FitsFold}
 use Rattle.store_engine.specs.Engines.{HoldsNow, IsCurrent, IsEngineOf, IsOneFolder, faults_of, held}
 use Rattle.store_engine.specs.Now.{IsNow}
-use Rattle.store_engine.specs.Steps.{IsLogSynced}
-use Rattle.store_engine.specs.Together.{AreNamed, AreTogether}
+use Rattle.store_engine.specs.Steps.{IsLogSynced, IsSameFolder}
+use Rattle.store_engine.specs.Together.{AreTogether}
 use Rattle.store_engine.specs.declared.engine.Engine.{Engine}
 use Rattle.store_engine.specs.declared.fault.EngineFault.{EngineFault}
 use Rattle.store_engine.proofs.Answering.{on_ok}
 use Rattle.store_engine.proofs.Counts.{cause_second}
 use Rattle.store_engine.proofs.Files.{first_ran, same_joint}
+use Rattle.store_engine.proofs.Together.{named_on}
 
 module _ {D F : Type 0} (d : disk.Ghosts D F) (f : file.Ghosts F) (now_last : IsNowLast d f) where
   -- the sizes are those of the fold
@@ -62,13 +63,14 @@ module _ {D F : Type 0} (d : disk.Ghosts D F) (f : file.Ghosts F) (now_last : Is
         let told : d.is_told new.disk ≡ d.is_told old.disk = ap d.is_told synced.disk in
         let model : d.keeps_model new.disk ≡ d.keeps_model old.disk = ap d.keeps_model synced.disk in
         record {
+          named = named_on f old.manifest new.manifest old.wal new.wal (ap (λ m. f.name (manifest_file m)) synced.manifest) synced.same.name one.named;
           wal_told = synced.same.told ∙ one.wal_told ∙ sym told;
           wal_model = synced.same.model ∙ one.wal_model ∙ sym model;
           manifest_told = ap (λ m. f.is_told (manifest_file m)) synced.manifest ∙ one.manifest_told ∙ sym told;
           manifest_model = ap (λ m. f.keeps_model (manifest_file m)) synced.manifest ∙ one.manifest_model ∙ sym model;
         }
 
-    module _ (m : State) (c : Course) (s : Says) (waiting : List Numbered) (h : Holds m c s waiting) (of : IsEngineOf d f old s waiting) (named : AreNamed old.manifest old.wal) (together : AreTogether old.manifest old.wal old.next) where
+    module _ (m : State) (c : Course) (s : Says) (waiting : List Numbered) (h : Holds m c s waiting) (of : IsEngineOf d f old s waiting) (together : AreTogether old.manifest old.wal old.next) where
       abbrev name : FileName
       name = f.name (manifest_file old.manifest)
 
@@ -90,7 +92,7 @@ module _ {D F : Type 0} (d : disk.Ghosts D F) (f : file.Ghosts F) (now_last : Is
       -- while it ran a crash left only folders that stand for outcomes
       pub synced_ran : Ran d f (λ folder. StandsForSome ReadsAsTable folder (IsOutcome m c)) (held old) (held new)
       synced_ran = subst (λ j. Ran d f (λ folder. StandsForSome ReadsAsTable folder (IsOutcome m c)) (held old) j) (sym synced_held)
-          (ran_sync d f now_last ReadsAsTable name named.of_manifest s waiting old.disk before after_it (wal_file old.wal) (wal_file new.wal) ran_one (log_is old s waiting of together) newest_now m c h of.rests leaves)
+          (ran_sync d f now_last ReadsAsTable name of.one.named.of_manifest s waiting old.disk before after_it (wal_file old.wal) (wal_file new.wal) ran_one (log_is old s waiting of together) newest_now m c h of.rests leaves)
 
       -- and where it ended well all that waited is on the disk
       pub synced_of : OnOk result (IsEngineOf d f new (with_batches s waiting) [])
@@ -98,7 +100,7 @@ module _ {D F : Type 0} (d : disk.Ghosts D F) (f : file.Ghosts F) (now_last : Is
         | Ok u ↦ λ holds. record {
           rests = subst (λ j. RestIn d f ReadsAsTable j (f.name (manifest_file new.manifest)) (with_batches s waiting)) (sym synced_held)
               (subst (λ n. RestIn d f ReadsAsTable (holding old.disk after_it) n (with_batches s waiting)) (ap (λ m. f.name (manifest_file m)) (sym synced.manifest))
-              (sync_rests d f now_last ReadsAsTable name named.of_manifest s waiting old.disk before after_it (wal_file old.wal) (wal_file new.wal) ran_one (log_is old s waiting of together) newest_now of.rests
+              (sync_rests d f now_last ReadsAsTable name of.one.named.of_manifest s waiting old.disk before after_it (wal_file old.wal) (wal_file new.wal) ran_one (log_is old s waiting of together) newest_now of.rests
               (λ i left. subst (λ sizes. ReadsAs sizes (s.logs (newest_of s) ++ waiting) i) (synced.sizes ∙ sizes_are old s waiting of together) (images_read f new.wal (s.logs (newest_of s) ++ waiting) [] holds i left))));
           fold = ap manifest_folded synced.manifest ∙ of.fold;
           edits = subst (FoldRests f) (sym synced.manifest) of.edits;
@@ -124,16 +126,23 @@ module _ {D F : Type 0} (d : disk.Ghosts D F) (f : file.Ghosts F) (now_last : Is
             unfailed = unfailed;
           }) synced_of
 
-    -- and with the version that it went on with
-    pub synced_current : (now : SuperVersion) → IsCurrent old now → OnOk result (IsCurrent new now)
-    synced_current now current = elim result as (λ r. OnOk r (MayGoOn f new.wal (now.last.0 + 1)) → OnOk r (wal_pending new.wal ≡ 0) → OnOk r (IsCurrent new now)) [
+    -- a version goes on with it
+    pub synced_goes : (next : SuperVersion) → FitsFold (manifest_folded old.manifest) next → MayGoOn f old.wal (next.last.0 + 1) → OnOk result (IsCurrent new next)
+    synced_goes next fits goes = elim result as (λ r. OnOk r (MayGoOn f new.wal (next.last.0 + 1)) → OnOk r (wal_pending new.wal ≡ 0) → OnOk r (IsCurrent new next)) [
       | Ok u ↦ λ goes_on none. record {
-        fits = subst (λ m. FitsFold (manifest_folded m) now) (sym synced.manifest) current.fits;
+        fits = subst (λ m. FitsFold (manifest_folded m) next) (sym synced.manifest) fits;
         goes_on = goes_on;
         room = let e = none in omega (arith, e);
       }
       | Err e ↦ λ goes_on none. tt
-    ] (synced.goes_on (now.last.0 + 1) current.goes_on) synced.pending
+    ] (synced.goes_on (next.last.0 + 1) goes) synced.pending
+
+    pub synced_folder : IsSameFolder f old new
+    synced_folder = record {
+      disk = synced.disk;
+      wal = synced.same;
+      manifest = record { name = ap (λ m. f.name (manifest_file m)) synced.manifest; told = ap (λ m. f.is_told (manifest_file m)) synced.manifest; model = ap (λ m. f.keeps_model (manifest_file m)) synced.manifest };
+    }
 
     pub synced_cause : HasCause (faults_of d f old) (faults_of d f new) result
     synced_cause =

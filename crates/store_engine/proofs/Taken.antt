@@ -53,6 +53,7 @@ use Rattle.store_engine.specs.Now.{IsNow}
 use Rattle.store_engine.specs.Parts.{ArePartsOf}
 use Rattle.store_engine.specs.Together.{AreNamed, AreTogether}
 use Rattle.store_engine.specs.declared.engine.Engine.{Engine}
+use Rattle.store_engine.proofs.Together.{named_on}
 
 -- ---- sequences
 
@@ -158,6 +159,7 @@ module _ {D F : Type 0} (d : disk.Ghosts D F) (f : file.Ghosts F) (old : D) (par
       let told : d.is_told engine.disk ≡ d.is_told old = ap d.is_told disk ∙ are.reads.told in
       let model : d.keeps_model engine.disk ≡ d.keeps_model old = ap d.keeps_model disk ∙ are.reads.model in
       record {
+        named = named_on f parts.manifest engine.manifest parts.wal engine.wal (ap (λ m. f.name (manifest_file m)) manifest) (ap (λ w. f.name (wal_file w)) wal) parts_named;
         wal_told = ap (λ w. f.is_told (wal_file w)) wal ∙ are.wal_told ∙ sym told;
         wal_model = ap (λ w. f.keeps_model (wal_file w)) wal ∙ are.wal_model ∙ sym model;
         manifest_told = ap (λ m. f.is_told (manifest_file m)) manifest ∙ are.manifest_told ∙ sym told;

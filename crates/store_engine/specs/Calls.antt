@@ -1,5 +1,5 @@
 -- What the calls of an engine answer and leave.
-use Rattle.std.specs.Prelude.{◌≡◌, ◌≢◌, ℕ, ◌+◌, Bool, false, IfSome, IfOk, Result, Ok, Err}
+use Rattle.std.specs.Prelude.{ℕ, Bool, false, IfSome, Result, Ok, Err}
 use Rattle.udt_disk.specs.Joint.{LeavesNow, Ran}
 use Rattle.udt_disk.specs.declared.file.DiskFile as file
 use Rattle.udt_disk.specs.declared.disk.Disk as disk
@@ -15,7 +15,6 @@ use Rattle.store_engine.specs.Engines.{held}
 use Rattle.store_engine.specs.Replies.{is_disk_fault, told_by}
 use Rattle.store_engine.specs.declared.engine.Engine.{Engine}
 use Rattle.store_engine.specs.declared.fault.EngineFault.{EngineFault}
-use Rattle.store_engine.specs.declared.fault.EngineFault.TheVariants.{DiskFault}
 
 -- The answer is the model's, where memory didn't run out: with this reply, or by the fault.
 abbrev pub Tells : {A : Type 0} → State → Act → Reply → Result A EngineFault → Type 0

@@ -1,5 +1,5 @@
 -- What an engine holds.
-use Rattle.std.specs.Prelude.{◌≡◌, ◌≢◌, ℕ, ◌+◌, ◌<◌, Bool, List, [], ◌∷◌, All, None}
+use Rattle.std.specs.Prelude.{◌≡◌, ℕ, ◌+◌, ◌<◌, Bool, false, List, [], ◌∷◌, All, None}
 use Rattle.udt_disk.specs.Causes.{plus_faults}
 use Rattle.udt_disk.specs.Joint.{Joint}
 use Rattle.udt_disk.specs.Moments.{holding}
@@ -19,6 +19,7 @@ use Rattle.engine_laws.specs.JointLaws.{RestIn}
 use Rattle.recovery.specs.Tables.{ReadsAsTable}
 use Rattle.recovery.specs.Versions.{FitsFold}
 use Rattle.store_engine.specs.Now.{IsNow}
+use Rattle.store_engine.specs.Together.{AreNamed, AreTogether}
 use Rattle.store_engine.specs.declared.engine.Engine.{Engine}
 
 module _ {D F : Type 0} {f : file.Ghosts F} where
@@ -28,6 +29,11 @@ module _ {D F : Type 0} {f : file.Ghosts F} where
 
   abbrev pub has_failed : Engine D F f → Bool
   has_failed engine = engine.failed
+
+  -- It may be called: no disk has failed in a call, and its manifest and its log go on together.
+  pub record IsRunning (engine : Engine D F f) : Type 0 where
+    pub together : AreTogether engine.manifest engine.wal engine.next
+    pub runs : has_failed engine ≡ false
 
   -- It may go on with this super version, which has the manifest's families, and whose last sequence is that of the log.
   pub record IsCurrent (engine : Engine D F f) (now : SuperVersion) : Type 0 where
@@ -40,8 +46,10 @@ module _ {D F : Type 0} (d : disk.Ghosts D F) (f : file.Ghosts F) where
   abbrev pub faults_of : Engine D F f → ℕ
   faults_of engine = plus_faults (plus_faults (d.faults engine.disk) (f.faults (wal_file engine.wal))) (f.faults (manifest_file engine.manifest))
 
-  -- the disk and its files tell what they hold, and keep the model of crashes, all or none
+  -- The two files are held under the names of a log and of a manifest. They and the disk tell what they hold, and keep the model of
+  -- crashes, all or none.
   pub record IsOneFolder (engine : Engine D F f) : Type 0 where
+    pub named : AreNamed engine.manifest engine.wal
     pub wal_told : f.is_told (wal_file engine.wal) ≡ d.is_told engine.disk
     pub wal_model : f.keeps_model (wal_file engine.wal) ≡ d.keeps_model engine.disk
     pub manifest_told : f.is_told (manifest_file engine.manifest) ≡ d.is_told engine.disk
@@ -71,4 +79,4 @@ module _ {D F : Type 0} (d : disk.Ghosts D F) (f : file.Ghosts F) where
   pub record HoldsAsBefore (old new : Engine D F f) : Type 0 where
     pub current : (now : SuperVersion) → IsCurrent old now → IsCurrent new now
     pub holds : (now : SuperVersion) (m : State) (c : Course) → HoldsNow old now m c → HoldsNow new now m c
-    pub runs : has_failed new ≡ has_failed old
+    pub running : IsRunning old → IsRunning new

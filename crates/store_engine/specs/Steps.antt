@@ -1,5 +1,5 @@
 -- What the steps of a call leave: a batch and a sync of the log, and an edit of the manifest.
-use Rattle.std.specs.Prelude.{◌≡◌, ℕ, Unit, List, [], ◌∷◌, ◌++◌, false, IsOk, IfErr, OnOk, OnErr, Result}
+use Rattle.std.specs.Prelude.{◌≡◌, ℕ, List, [], ◌∷◌, ◌++◌, IsOk, IfErr, OnOk, OnErr, Result}
 use Rattle.udt_disk.specs.Causes.{HasCause}
 use Rattle.udt_disk.specs.Runs.{IsSameFile, Leaves}
 use Rattle.udt_disk.specs.declared.file.DiskFile.{Ghosts}
@@ -12,7 +12,7 @@ use Rattle.manifest_fold.specs.Folds.{fold_with}
 use Rattle.manifest.specs.Files.{IsEditImage}
 use Rattle.manifest.specs.Manifest.{FoldRests, IsEditReserved, manifest_file, manifest_folded}
 use Rattle.store_engine.specs.Calls.{is_disk_failure}
-use Rattle.store_engine.specs.Engines.{has_failed}
+use Rattle.store_engine.specs.Engines.{IsRunning, has_failed}
 use Rattle.store_engine.specs.declared.engine.Engine.{Engine}
 use Rattle.store_engine.specs.declared.fault.EngineFault.{EngineFault}
 use Rattle.store_engine.specs.declared.fault.EngineFault.TheVariants.{DiskFault, NoMemory}
@@ -30,6 +30,7 @@ pub record IsLogSynced {D F : Type 0} (f : Ghosts F) (old new : Engine D F f) (r
   pub cause : HasCause (f.faults (wal_file old.wal)) (f.faults (wal_file new.wal)) result
   pub same : IsSameFile f (wal_file old.wal) (wal_file new.wal)
   pub sizes : wal_sizes new.wal ≡ wal_sizes old.wal
+  pub running : OnOk result (IsRunning new)
   pub failed : has_failed new ≡ is_disk_failure result
   pub fault : IfErr result (λ fault. fault ≡ DiskFault)
 
@@ -46,7 +47,7 @@ pub record IsAdded {D F : Type 0} (f : Ghosts F) (b : Numbered) (old new : Engin
   pub err_holds : (batches waiting : List Numbered) → Holds f old.wal batches waiting → OnErr result (Holds f new.wal batches waiting)
   pub err_goes_on : (first : ℕ) → MayGoOn f old.wal first → OnErr result (MayGoOn f new.wal first)
   pub err_pending : OnErr result (wal_pending new.wal ≡ wal_pending old.wal)
-  pub failed : has_failed new ≡ false
+  pub running : IsRunning new
   pub fault : IfErr result (λ fault. fault ≡ NoMemory)
 
 -- The manifest is ready for the edit where memory didn't run out. No file is touched.
@@ -58,7 +59,7 @@ pub record IsReserved {D F : Type 0} (f : Ghosts F) (edit : Edit) (old new : Eng
   pub fold : manifest_folded new.manifest ≡ manifest_folded old.manifest
   pub rests : FoldRests f old.manifest → FoldRests f new.manifest
   pub reserved : OnOk result (IsEditReserved f new.manifest edit)
-  pub failed : has_failed new ≡ false
+  pub running : IsRunning new
   pub fault : IfErr result (λ fault. fault ≡ NoMemory)
 
 -- The edit was added to the manifest, and nothing else was touched.
@@ -72,6 +73,7 @@ pub record IsEdited {D F : Type 0} (f : Ghosts F) (edit : Edit) (old new : Engin
   pub unchanged : OnErr result (manifest_folded new.manifest ≡ manifest_folded old.manifest)
   pub cause : HasCause (f.faults (manifest_file old.manifest)) (f.faults (manifest_file new.manifest)) result
   pub same : IsSameFile f (manifest_file old.manifest) (manifest_file new.manifest)
+  pub running : OnOk result (IsRunning new)
   pub failed : has_failed new ≡ is_disk_failure result
   pub fault : IfErr result (λ fault. fault ≡ DiskFault)
 

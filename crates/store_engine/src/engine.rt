@@ -22,7 +22,6 @@ ghost use Rattle.recovery.specs.Tables.{ReadsAsTable};
 ghost use Rattle.recovery.specs.declared.opening.Parts.{Parts as PartsOf};
 ghost use Rattle.store_engine.specs.Parts.{ArePartsOf};
 ghost use Rattle.store_engine.specs.Replies.{is_disk_fault};
-ghost use Rattle.store_engine.specs.Together.{AreNamed, AreTogether};
 
 use crate::EngineFault;
 use crate::admission::{admit, admit_raise};
@@ -46,8 +45,6 @@ pub struct Engine<D: Disk> {
     /// The number of the next file.
     next: u64,
     failed: bool,
-    ghost named: { AreNamed manifest wal },
-    ghost together: { failed ≡ false → AreTogether manifest wal next },
 }
 
 /// The edit that gives a family another floor.
@@ -71,14 +68,14 @@ fn raise_edit(alloc: Global, next: u64, last: Seq, family: Family, floor: Ts, th
 
 impl<D: Disk> Engine<D> {
     ghost use Rattle.store_engine.specs.Calls.{LeavesFailed, RanOn, RanUnder, Tells, is_disk_failure};
-    ghost use Rattle.store_engine.specs.Engines.{HoldsAsBefore, HoldsNow, IsCurrent, IsOneFolder, faults_of, has_failed, held};
+    ghost use Rattle.store_engine.specs.Engines.{HoldsAsBefore, HoldsNow, IsCurrent, IsOneFolder, IsRunning, faults_of, has_failed, held};
     ghost use Rattle.store_engine.specs.Steps.{IsAdded, IsEdited, IsLogSynced, IsReserved, IsSameFolder};
 
     /// The engine of an opened store, whose folder, manifest and newest log these are. It takes no memory.
     pub fn from_parts(disk: D, manifest: Manifest<D::File>, wal: Wal<D::File>) -> Engine<D>
         requires { (old : D) × (version : Version) × ArePartsOf D.Disk D.File.DiskFile old (record { disk = disk; manifest = manifest; wal = wal; version = version }) }
         ensures held { held result ≡ holding disk (wal_file wal ∷ manifest_file manifest ∷ []) }
-        ensures runs { has_failed result ≡ false }
+        ensures running { IsRunning result }
         ensures one { IsOneFolder D.Disk D.File.DiskFile result }
         ensures current { (old : D) (version : Version) → ArePartsOf D.Disk D.File.DiskFile old (record { disk = disk; manifest = manifest; wal = wal; version = version }) → IsCurrent result version }
         // It and the version of the opening hold each state that the folder stands for.
@@ -104,7 +101,7 @@ impl<D: Disk> Engine<D> {
 
     /// Adds a batch to those that wait in the log.
     fn add_batch(&mut self, first: Seq, batch: &Batch) -> Result<(), EngineFault>
-        requires runs { has_failed self.old ≡ false }
+        requires running { IsRunning self.old }
         requires first { 1 ≤ first.0 }
         requires last { first.0 + length batch.now ≤ SEQUENCE_LIMIT + 1 }
         requires families { All (λ (op : Operation). op.family.0 < length (manifest_folded self.old.manifest).families) batch.now }
@@ -120,7 +117,7 @@ impl<D: Disk> Engine<D> {
 
     /// Puts all that waits in the log on the disk. It takes no memory.
     fn sync_log(&mut self) -> Result<(), EngineFault>
-        requires { has_failed self.old ≡ false }
+        requires { IsRunning self.old }
         ensures { IsLogSynced D.File.DiskFile self.old self.new result }
     {
         match self.wal.sync() {
@@ -134,7 +131,7 @@ impl<D: Disk> Engine<D> {
 
     /// The same where that is asked for, or `PENDING_LIMIT` bytes or more wait.
     fn sync_due(&mut self, sync: bool) -> Result<(), EngineFault>
-        requires { has_failed self.old ≡ false }
+        requires { IsRunning self.old }
         ensures due { (sync ≡ true) ⊎ (PENDING_LIMIT ≤ wal_pending self.old.wal) → IsLogSynced D.File.DiskFile self.old self.new result }
         ensures waits { sync ≡ false → wal_pending self.old.wal < PENDING_LIMIT → IsOk result × (self.new ≡ self.old) }
     {
@@ -147,7 +144,7 @@ impl<D: Disk> Engine<D> {
 
     /// Makes the manifest ready for an edit.
     fn reserve_edit(&mut self, alloc: Global, edit: &Edit) -> Result<(), EngineFault>
-        requires { has_failed self.old ≡ false }
+        requires { IsRunning self.old }
         ensures { IsReserved D.File.DiskFile edit.now self.old self.new result }
     {
         match self.manifest.reserve(alloc, edit) {
@@ -158,7 +155,7 @@ impl<D: Disk> Engine<D> {
 
     /// Adds a reserved edit of families to the manifest. It takes no memory.
     fn append_edit(&mut self, edit: &Edit) -> Result<(), EngineFault>
-        requires runs { has_failed self.old ≡ false }
+        requires running { IsRunning self.old }
         requires accepted { IsAccepted (manifest_folded self.old.manifest) edit.now }
         requires reserved { IsEditReserved D.File.DiskFile self.old.manifest edit.now }
         requires logs { (edit.now.add_logs ≡ []) × (edit.now.drop_logs ≡ []) }
@@ -184,7 +181,7 @@ impl<D: Disk> Engine<D> {
         batch: &Batch,
         sync: bool,
     ) -> Result<Arc<SuperVersion>, EngineFault>
-        requires runs { has_failed self.old ≡ false }
+        requires running { IsRunning self.old }
         requires current { IsCurrent self.old now.now }
 
         ensures tells { (m : State) (c : Course) → HoldsNow D.Disk D.File.DiskFile self.old now.now m c → Tells m (write_act batch.now sync) (OkAt (m.last.0 + length batch.now)) result }
@@ -199,14 +196,23 @@ impl<D: Disk> Engine<D> {
         ensures waits { OnOk result (sync ≡ false → length (waiting_with self.old.wal (record { first = record { 0 = now.now.last.0 + 1 }; batch = batch.now })) < PENDING_LIMIT → held self.new ≡ held self.old) }
         ensures synced { OnOk result ((sync ≡ true) ⊎ (PENDING_LIMIT ≤ length (waiting_with self.old.wal (record { first = record { 0 = now.now.last.0 + 1 }; batch = batch.now }))) → wal_pending self.new.wal ≡ 0) }
         ensures same { IsSameFolder D.File.DiskFile self.old self.new }
+        ensures running { is_disk_failure result ≡ false → IsRunning self.new }
         ensures failed { has_failed self.new ≡ is_disk_failure result }
         ensures kept { OnOk result (faults_of D.Disk D.File.DiskFile self.new ≡ faults_of D.Disk D.File.DiskFile self.old) }
         ensures cause { IfErr result (λ fault. IsCause (is_disk_fault fault) (faults_of D.Disk D.File.DiskFile self.old) (faults_of D.Disk D.File.DiskFile self.new)) }
     {
-        let next = admit(alloc, now, batch)?;
-        self.add_batch(Seq(now.last.0 + 1), batch)?;
-        self.sync_due(sync)?;
-        Ok(next)
+        let next = match admit(alloc, now, batch) {
+            Ok(next) => next,
+            Err(fault) => return Err(fault),
+        };
+        match self.add_batch(Seq(now.last.0 + 1), batch) {
+            Ok(()) => {}
+            Err(fault) => return Err(fault),
+        }
+        match self.sync_due(sync) {
+            Ok(()) => Ok(next),
+            Err(fault) => Err(fault),
+        }
     }
 
     /// Gives a family another floor, or refuses it. After `Ok` the floor is on the disk, with all that waited. A crash at any moment
@@ -218,7 +224,7 @@ impl<D: Disk> Engine<D> {
         family: Family,
         floor: Ts,
     ) -> Result<Arc<SuperVersion>, EngineFault>
-        requires runs { has_failed self.old ≡ false }
+        requires running { IsRunning self.old }
         requires current { IsCurrent self.old now.now }
 
         ensures tells { (m : State) (c : Course) → HoldsNow D.Disk D.File.DiskFile self.old now.now m c → Tells m (raise_act family floor) Done result }
@@ -231,24 +237,36 @@ impl<D: Disk> Engine<D> {
 
         // Whether or not the disk tells what it holds.
         ensures same { IsSameFolder D.File.DiskFile self.old self.new }
+        ensures running { is_disk_failure result ≡ false → IsRunning self.new }
         ensures failed { has_failed self.new ≡ is_disk_failure result }
         ensures kept { OnOk result (faults_of D.Disk D.File.DiskFile self.new ≡ faults_of D.Disk D.File.DiskFile self.old) }
         ensures cause { IfErr result (λ fault. IsCause (is_disk_fault fault) (faults_of D.Disk D.File.DiskFile self.old) (faults_of D.Disk D.File.DiskFile self.new)) }
     {
-        let next = admit_raise(alloc, now, family, floor)?;
+        let next = match admit_raise(alloc, now, family, floor) {
+            Ok(next) => next,
+            Err(fault) => return Err(fault),
+        };
         let Some(state) = now.family(family) else {
-            return Err(EngineFault::UnknownFamily);
+            unreachable!()
         };
         let edit = raise_edit(alloc, self.next, now.last, family, floor, state.through);
-        self.reserve_edit(alloc, &edit)?;
-        self.sync_log()?;
-        self.append_edit(&edit)?;
-        Ok(next)
+        match self.reserve_edit(alloc, &edit) {
+            Ok(()) => {}
+            Err(fault) => return Err(fault),
+        }
+        match self.sync_log() {
+            Ok(()) => {}
+            Err(fault) => return Err(fault),
+        }
+        match self.append_edit(&edit) {
+            Ok(()) => Ok(next),
+            Err(fault) => Err(fault),
+        }
     }
 
     /// Puts all that waits on the disk. Where nothing waits no call is made on it. It takes no memory.
     pub fn sync(&mut self) -> Result<(), EngineFault>
-        requires { has_failed self.old ≡ false }
+        requires { IsRunning self.old }
 
         ensures tells { (now : Version) (m : State) (c : Course) → HoldsNow D.Disk D.File.DiskFile self.old now m c → Tells m sync_all Done result }
         ensures holds { (now : Version) (m : State) (c : Course) (number : ℕ) → HoldsNow D.Disk D.File.DiskFile self.old now m c
@@ -260,6 +278,7 @@ impl<D: Disk> Engine<D> {
         ensures none { wal_pending self.old.wal ≡ 0 → held self.new ≡ held self.old }
         ensures synced { OnOk result (wal_pending self.new.wal ≡ 0) }
         ensures same { IsSameFolder D.File.DiskFile self.old self.new }
+        ensures running { is_disk_failure result ≡ false → IsRunning self.new }
         ensures failed { has_failed self.new ≡ is_disk_failure result }
         ensures fault { IfErr result (λ fault. fault ≡ EngineFault.DiskFault) }
         ensures cause { HasCause (faults_of D.Disk D.File.DiskFile self.old) (faults_of D.Disk D.File.DiskFile self.new) result }
