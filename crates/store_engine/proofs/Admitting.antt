@@ -1,6 +1,7 @@
 -- Admission over a super version answers as the model does over all writes.
-use Rattle.std.proofs.Common.{◌≡◌, ◌⊎◌, ℕ, zero, suc, ◌+◌, ◌<◌, ◌≤◌, Bool, true, false, List, [], ◌∷◌, ◌++◌, length, Option, Some, None, refl, sym, ap, ◌∙◌, subst, arith, inl, inr, append_assoc, append-nil}
-use Rattle.std.specs.Prelude.{AllPairs, IfSome, Result, Ok, Err, OnOk, IfErr, if◌then◌else◌, nat_lt, option_map, option_or, slice_get}
+use Rattle.std.proofs.Common.{◌≡◌, ◌⊎◌, ℕ, zero, suc, ◌+◌, ◌≤◌, false, List, [], ◌∷◌, ◌++◌, length, Option, Some, None, refl, sym, ap, ◌∙◌, subst, arith, inl, inr, append_assoc, append-nil}
+use Rattle.std.specs.Prelude.{AllPairs, IfSome, Result, Ok, Err, IfErr, IsErrAnd, if◌then◌else◌, nat_lt, option_map, slice_get}
+use Rattle.std.specs.Option.{option_or}
 use Rattle.std.proofs.lemmas.Bool.{cases_Bool, ltb-false}
 use Rattle.ts_key.specs.declared.batch.WriteOp.{WriteOp}
 use Rattle.ts_key.specs.declared.limits.TheConstants.{SEQUENCE_LIMIT}
@@ -23,19 +24,24 @@ use Rattle.super_version.specs.declared.family.FamilyState.{FamilyState}
 use Rattle.super_version.specs.declared.version.SuperVersion.{SuperVersion}
 use Rattle.floor_laws.specs.Sound.{IsSoundState}
 use Rattle.floor_laws.specs.Tables.{contents}
-use Rattle.floor_laws.proofs.Members.{In}
 use Rattle.floor_laws.proofs.Families.{FamilyHolds}
 use Rattle.floor_laws.proofs.ListLaws.{fell_same}
 use Rattle.floor_laws.proofs.Stating.{stands_from}
 use Rattle.floor_laws.proofs.States.{holds_of, written_of}
-use Rattle.floor_laws.proofs.Writing.{Fams, write_all}
-use Rattle.store_engine.specs.Admission.{IsInMemory, RefusesRaise, RefusesWrite, fault_of, fell_fault, full_fault, latest_at, op_fault, ops_fault, raise_fault, unknown_fault, unknown_in, write_fault}
-use Rattle.store_engine.specs.Now.{IsNow, ShowsFamily}
-use Rattle.store_engine.specs.Replies.{told_by}
+use Rattle.floor_laws.proofs.Writing.{write_all}
+use Rattle.store_engine.specs.Admission.{IsInMemory, RefusesRaise, RefusesWrite, fell_fault, full_fault, latest_at, op_fault, ops_fault, raise_fault, unknown_fault, unknown_in, write_fault}
+use Rattle.store_engine.specs.Now.{IsNow}
 use Rattle.store_engine.specs.declared.fault.EngineFault.{EngineFault}
 use Rattle.store_engine.specs.declared.fault.EngineFault.TheVariants.{UnknownFamily, BelowFloor, Fell, SequenceFull, FloorFell, FilesFull, NoMemory, DiskFault}
 use Rattle.store_engine.proofs.Shown.{newest_shown}
 use Rattle.store_engine.proofs.Stamps.{stamp_of}
+
+-- ---- answers
+
+-- a fault that is handed on
+pub handed_on : {A : Type 0} (P : EngineFault → Type 0) (r : Result A EngineFault) (e : EngineFault) → IsErrAnd r (λ y. y ≡ e) → P e → IfErr r P
+handed_on P (Ok x) e is h = tt
+handed_on P (Err y) e is h = subst P (sym is) h
 
 -- ---- two lists of one length
 
@@ -87,6 +93,9 @@ floor_told k o floor a b h = elim (cases_Bool (nat_lt o.ts.0 floor.0)) [ inl y �
 logged_more : (n : ℕ) (before : List WriteOp) (o : WriteOp) → logged n (before ++ o ∷ []) ≡ logged n before ++ version_of o (n + length before) ∷ []
 logged_more n [] o = ap (λ (k : ℕ). version_of o k ∷ []) (omega arith)
 logged_more n (x ∷ xs) o = ap (λ (vs : List Version). version_of x n ∷ vs) (logged_more (n + 1) xs o ∙ ap (λ (k : ℕ). logged (n + 1) xs ++ version_of o k ∷ []) (omega arith))
+
+abbrev Fams : State → List Version → ℕ → Type 0
+Fams m w n = (i : Family) (f : ModelFamily) → family_at m i ≡ Some f → FamilyHolds i f.head.form f.head.floor f.through.0 f.tables w n (seqs_of m)
 
 module _ (m : State) (now : SuperVersion) (sound : IsSoundState m) (shows : IsNow now m) where
   -- the writes behind operations, and their last sequence
@@ -157,21 +166,26 @@ module _ (m : State) (now : SuperVersion) (sound : IsSoundState m) (shows : IsNo
         let floor : g.floor ≡ f.head.floor = (shows.families o.family f g of there).floor in
         let one = floor_told k o f.head.floor (newest_of (of_key (writes before) o.family o.key)) (greater (newest_ts (items_in g) o.key) (latest_at o.family o.key before)) (falls before k o f g b of there) in
         let two = subst (λ (z : Ts). (if nat_lt o.ts.0 f.head.floor.0 then Some (replies.Below k f.head.floor) else fell k o.ts (newest_of (of_key (writes before) o.family o.key)))
-            ≡ told (if nat_lt o.ts.0 z.0 then Some (BelowFloor k z) else fell_fault k o.ts (greater (newest_ts (items_in g) o.key) (latest_at o.family o.key before)))) (sym floor) one in
+        ≡ told (if nat_lt o.ts.0 z.0 then Some (BelowFloor k z) else fell_fault k o.ts (greater (newest_ts (items_in g) o.key) (latest_at o.family o.key before)))) (sym floor) one in
         rw (of, there) two
   ]
 
+  -- behind the first operation, where the rest is judged so
+  first_told : (before : List WriteOp) (k : ℕ) (o : WriteOp) (ops : List WriteOp) (r : Option Reply) (e : Option EngineFault) → op_refusal (writes before) k (place_at m o.family) o ≡ r → r ≡ told e
+      → (r ≡ None → refused m (writes (before ++ o ∷ [])) (reached (before ++ o ∷ [])) (k + 1) ops ≡ told (ops_fault now.families (before ++ o ∷ []) (k + 1) ops))
+      → (r or_else refused m (writes before ++ version_of o (reached before + 1) ∷ []) (reached before + 1) (k + 1) ops) ≡ told (option_or e (ops_fault now.families (before ++ o ∷ []) (k + 1) ops))
+  first_told before k o ops r (Some e) is same rest = ap (λ (z : Option Reply). z or_else refused m (writes before ++ version_of o (reached before + 1) ∷ []) (reached before + 1) (k + 1) ops) same
+  first_told before k o ops r None is same rest =
+      ap (λ (z : Option Reply). z or_else refused m (writes before ++ version_of o (reached before + 1) ∷ []) (reached before + 1) (k + 1) ops) same
+      ∙ ap (λ (vs : List Version). refused m vs (reached before + 1) (k + 1) ops) (writes_more before o)
+      ∙ ap (λ (n : ℕ). refused m (writes (before ++ o ∷ [])) n (k + 1) ops) (reached_more before o)
+      ∙ rest same
+
   ops_told : (before : List WriteOp) (k : ℕ) (ops : List WriteOp) → IsBehind before → refused m (writes before) (reached before) k ops ≡ told (ops_fault now.families before k ops)
   ops_told before k [] b = refl
-  ops_told before k (o ∷ ops) b = on_first (op_refusal (writes before) k (place_at m o.family) o) (op_fault (slice_get now.families o.family.0) before k o) refl (op_told before k o b) where
-    on_first : (r : Option Reply) (e : Option EngineFault) → op_refusal (writes before) k (place_at m o.family) o ≡ r → r ≡ told e
-        → (r or_else refused m (writes before ++ version_of o (reached before + 1) ∷ []) (reached before + 1) (k + 1) ops) ≡ told (option_or e (ops_fault now.families (before ++ o ∷ []) (k + 1) ops))
-    on_first r (Some e) is same = ap (λ (z : Option Reply). z or_else refused m (writes before ++ version_of o (reached before + 1) ∷ []) (reached before + 1) (k + 1) ops) same
-    on_first r None is same =
-        ap (λ (z : Option Reply). z or_else refused m (writes before ++ version_of o (reached before + 1) ∷ []) (reached before + 1) (k + 1) ops) same
-        ∙ ap (λ (vs : List Version). refused m vs (reached before + 1) (k + 1) ops) (writes_more before o)
-        ∙ ap (λ (n : ℕ). refused m (writes (before ++ o ∷ [])) n (k + 1) ops) (reached_more before o)
-        ∙ ops_told (before ++ o ∷ []) (k + 1) ops (goes_on before k o (is ∙ same) b)
+  ops_told before k (o ∷ ops) b =
+      let r = op_refusal (writes before) k (place_at m o.family) o in
+      first_told before k o ops r (op_fault (slice_get now.families o.family.0) before k o) refl (op_told before k o b) (λ ok. ops_told (before ++ o ∷ []) (k + 1) ops (goes_on before k o ok b))
 
 -- ---- whole writes
 
@@ -192,7 +206,7 @@ write_told m now ops sound shows up =
     let a = unknown_told m now shows ops in
     let h : halt m ≡ None = ap (option_map replies.Halted) up in
     let b : refused m m.versions m.last.0 1 ops ≡ told (ops_fault now.families [] 1 ops) =
-        ap (λ (vs : List Version). refused m vs m.last.0 1 ops) (sym (append-nil m.versions)) ∙ ap (λ (n : ℕ). refused m (writes m now sound shows []) n 1 ops) (omega arith) ∙ ops_told m now sound shows [] 1 ops (begins m now sound shows) in
+    ap (λ (vs : List Version). refused m vs m.last.0 1 ops) (sym (append-nil m.versions)) ∙ ap (λ (n : ℕ). refused m (writes m now sound shows []) n 1 ops) (omega arith) ∙ ops_told m now sound shows [] 1 ops (begins m now sound shows) in
     let c = full_told m now.last ops shows.last in
     let u = unknown m ops in
     let r = refused m m.versions m.last.0 1 ops in

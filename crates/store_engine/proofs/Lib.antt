@@ -4,6 +4,8 @@ pub mod Latests
 pub mod Admitting
 pub mod NowWritten
 pub mod NowRaised
+pub mod OneForOne
+pub mod NowOpened
 pub mod Answering
 pub mod Counts
 pub mod Files

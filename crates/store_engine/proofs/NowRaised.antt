@@ -1,6 +1,6 @@
 -- A super version with another floor shows the state behind the raise.
-use Rattle.std.proofs.Common.{◌≡◌, ◌⊎◌, ℕ, zero, suc, ◌≤◌, Bool, true, false, List, [], ◌∷◌, length, Option, Some, None, refl, sym, ap, ◌∙◌, subst, arith, inl, inr}
-use Rattle.std.specs.Prelude.{nat_lt, slice_get, if◌then◌else◌}
+use Rattle.std.proofs.Common.{◌≡◌, ◌⊎◌, ℕ, zero, suc, ◌≤◌, List, [], ◌∷◌, length, Option, Some, None, refl, sym, ap, ◌∙◌, subst, arith, inl, inr}
+use Rattle.std.specs.Prelude.{nat_lt, slice_get}
 use Rattle.std.specs.List.{AllByRecursion}
 use Rattle.std.proofs.lemmas.Bool.{cases_Bool, ltb-false}
 use Rattle.ts_key.specs.declared.numbers.Family.{Family}
@@ -15,12 +15,11 @@ use Rattle.udt_model.specs.Steps.{after}
 use Rattle.udt_model.specs.Versions.{between}
 use Rattle.super_version.specs.Changes.{ChangesFamily, with_floor}
 use Rattle.super_version.specs.Levels.{changed_at}
-use Rattle.super_version.specs.Live.{Live}
 use Rattle.super_version.specs.declared.family.FamilyState.{FamilyState}
 use Rattle.super_version.specs.declared.version.SuperVersion.{SuperVersion}
 use Rattle.floor_laws.proofs.States.{changed_other, changed_same, length-changed, some_same}
 use Rattle.store_engine.specs.Admission.{raise_fault}
-use Rattle.store_engine.specs.Now.{FitsFamily, IsNow, ShowsFamily}
+use Rattle.store_engine.specs.Now.{FitsFamily, IsNow, IsFamilyNow}
 use Rattle.store_engine.specs.declared.fault.EngineFault.{EngineFault}
 use Rattle.store_engine.specs.declared.fault.EngineFault.TheVariants.{FloorFell}
 use Rattle.store_engine.proofs.Admitting.{both}
@@ -44,7 +43,7 @@ elsewhere zero change (y ∷ ys) (suc k) ne = refl
 elsewhere (suc n) change (y ∷ ys) zero ne = refl
 elsewhere (suc n) change (y ∷ ys) (suc k) ne = elsewhere n change ys k (λ e. ne (ap suc e))
 
-same_or_not : (a b : ℕ) → (a ≡ b) ⊎ (a ≡ b → ⊥)
+pub same_or_not : (a b : ℕ) → (a ≡ b) ⊎ (a ≡ b → ⊥)
 same_or_not zero zero = inl refl
 same_or_not zero (suc b) = inr (λ e. omega (arith, e))
 same_or_not (suc a) zero = inr (λ e. omega (arith, e))
@@ -60,7 +59,7 @@ fits_higher : (g : FamilyState) (floor : Ts) → g.floor.0 ≤ floor.0 → AllBy
 fits_higher g floor high h = all_weaker (AllByRecursion (FitsFamily g.form g.floor)) (AllByRecursion (FitsFamily g.form floor)) g.levels
     (λ tables k. all_weaker (FitsFamily g.form g.floor) (FitsFamily g.form floor) tables (λ t fits. let c = fits.collected in record { form_is = fits.form_is; collected = omega (arith, c, high) }) k) h
 
-family_raised : (i : Family) (unflushed : List Version) (f : ModelFamily) (g : FamilyState) (floor : Ts) → g.floor.0 ≤ floor.0 → ShowsFamily i unflushed f g → ShowsFamily i unflushed (model.with_floor floor f) (with_floor floor g)
+family_raised : (i : Family) (unflushed : List Version) (f : ModelFamily) (g : FamilyState) (floor : Ts) → g.floor.0 ≤ floor.0 → IsFamilyNow i unflushed f g → IsFamilyNow i unflushed (model.with_floor floor f) (with_floor floor g)
 family_raised i unflushed f g floor high s = record {
   form = s.form;
   floor = refl;
@@ -103,7 +102,7 @@ now_raised m old new number family floor ok shows changes = record {
     within (y ∷ ys) (suc n) change (suc k) x none at = within ys n change k x none at
 
   each : (i : Family) (f : ModelFamily) (g : FamilyState) (f0 : ModelFamily) (g0 : FamilyState) → slice_get (model.changed_at family.0 (model.with_floor floor) m.families) i.0 ≡ Some f → slice_get new.families i.0 ≡ Some g → slice_get m.families i.0 ≡ Some f0 → slice_get old.families i.0 ≡ Some g0
-      → ShowsFamily i (between i f.through.0 m.last.0 m.versions) f g
+      → IsFamilyNow i (between i f.through.0 m.last.0 m.versions) f g
   each i f g f0 g0 of there of0 there0 =
       let s = shows.families i f0 g0 of0 there0 in
       let now_at : slice_get (changed_at family.0 (with_floor floor) old.families) i.0 ≡ Some g = sym (ap (λ (l : List FamilyState). slice_get l i.0) changes.families) ∙ there in
@@ -114,10 +113,10 @@ now_raised m old new number family floor ok shows changes = record {
             let fe : model.with_floor floor f0 ≡ f = some_same (model.with_floor floor f0) f (sym a ∙ subst (λ (n : ℕ). slice_get (model.changed_at family.0 (model.with_floor floor) m.families) n ≡ Some f) e of) in
             let ge : with_floor floor g0 ≡ g = some_same (with_floor floor g0) g (sym b ∙ subst (λ (n : ℕ). slice_get (changed_at family.0 (with_floor floor) old.families) n ≡ Some g) e now_at) in
             let high = not_below g0 floor (ap (λ (z : Option FamilyState). raise_fault z floor) (sym there0 ∙ ap (slice_get old.families) e) ∙ ok) in
-            subst (λ (z : ModelFamily). ShowsFamily i (between i z.through.0 m.last.0 m.versions) z g) fe
-            (subst (ShowsFamily i (between i f0.through.0 m.last.0 m.versions) (model.with_floor floor f0)) ge (family_raised i (between i f0.through.0 m.last.0 m.versions) f0 g0 floor high s))
+            subst (λ (z : ModelFamily). IsFamilyNow i (between i z.through.0 m.last.0 m.versions) z g) fe
+            (subst (IsFamilyNow i (between i f0.through.0 m.last.0 m.versions) (model.with_floor floor f0)) ge (family_raised i (between i f0.through.0 m.last.0 m.versions) f0 g0 floor high s))
         | inr n ↦
             let fe : f0 ≡ f = some_same f0 f (sym (changed_other m.families family.0 (model.with_floor floor) i.0 n ∙ of0) ∙ of) in
             let ge : g0 ≡ g = some_same g0 g (sym (elsewhere family.0 (with_floor floor) old.families i.0 n ∙ there0) ∙ now_at) in
-            subst (λ (z : ModelFamily). ShowsFamily i (between i z.through.0 m.last.0 m.versions) z g) fe (subst (ShowsFamily i (between i f0.through.0 m.last.0 m.versions) f0) ge s)
+            subst (λ (z : ModelFamily). IsFamilyNow i (between i z.through.0 m.last.0 m.versions) z g) fe (subst (IsFamilyNow i (between i f0.through.0 m.last.0 m.versions) f0) ge s)
       ]

@@ -1,5 +1,5 @@
 -- A super version with a batch more shows the state behind the write.
-use Rattle.std.proofs.Common.{◌≡◌, ◌⊎◌, ℕ, zero, suc, ◌+◌, ◌<◌, ◌≤◌, ◌&&◌, Bool, true, false, List, [], ◌∷◌, ◌++◌, length, Some, None, refl, sym, ap, ◌∙◌, subst, arith, inl, inr, append_assoc}
+use Rattle.std.proofs.Common.{◌≡◌, ℕ, zero, suc, ◌+◌, ◌≤◌, ◌&&◌, Bool, true, List, [], ◌∷◌, ◌++◌, length, Some, None, refl, sym, ap, ◌∙◌, subst, arith, inl, inr, append_assoc}
 use Rattle.std.specs.Prelude.{filter, nat_le, nat_lt, ◌==◌, slice_get}
 use Rattle.std.specs.List.{flat_map}
 use Rattle.std.specs.List.Sorted.{IsPermutation}
@@ -26,7 +26,7 @@ use Rattle.floor_laws.proofs.Members.{In}
 use Rattle.floor_laws.proofs.Kept.{same_number}
 use Rattle.floor_laws.proofs.States.{holds_of, written_of}
 use Rattle.engine_laws.proofs.Batches.{logged-In}
-use Rattle.store_engine.specs.Now.{IsNow, ShowsFamily, versions_held}
+use Rattle.store_engine.specs.Now.{IsNow, IsFamilyNow}
 use Rattle.store_engine.proofs.Admitting.{both}
 
 -- ---- sorting moves versions
@@ -38,7 +38,7 @@ with_moves v (x ∷ xs) = elim (cases_Bool (is_before x v)) [
   | inr y ↦ rw y (IsPermutation-refl (v ∷ x ∷ xs))
 ]
 
-sorted_moves : (vs : List Version) → IsPermutation vs (sorted vs)
+pub sorted_moves : (vs : List Version) → IsPermutation vs (sorted vs)
 sorted_moves [] = IsPermutation-refl []
 sorted_moves (v ∷ vs) = IsPermutation-trans (v ∷ vs) (v ∷ sorted vs) (with_version v (sorted vs)) (IsPermutation-cons v vs (sorted vs) (sorted_moves vs)) (with_moves v (sorted vs))
 
@@ -60,7 +60,7 @@ written_at vs (x ∷ fs) (y ∷ gs) (suc n) f g h of there = written_at vs fs gs
 
 -- ---- the versions that are in no table
 
-filter_like : (p q : Version → Bool) (xs : List Version) → ((v : Version) → In v xs → p v ≡ q v) → filter p xs ≡ filter q xs
+pub filter_like : (p q : Version → Bool) (xs : List Version) → ((v : Version) → In v xs → p v ≡ q v) → filter p xs ≡ filter q xs
 filter_like p q [] h = refl
 filter_like p q (x ∷ xs) h =
     let e = h x (inl refl) in
@@ -85,17 +85,17 @@ between_written i through last w ops low bounded =
 
 -- ---- one family
 
-family_written : (i : Family) (unflushed more : List Version) (f : ModelFamily) (g h : FamilyState) → IsWrittenTo more g h → ShowsFamily i unflushed f g → ShowsFamily i (unflushed ++ more) f h
+family_written : (i : Family) (unflushed more : List Version) (f : ModelFamily) (g h : FamilyState) → IsWrittenTo more g h → IsFamilyNow i unflushed f g → IsFamilyNow i (unflushed ++ more) f h
 family_written i unflushed more f g h w s =
     let active = versions_of g.active in
     let sealed = flat_map versions_of g.sealed in
     let moved : IsPermutation (unflushed ++ more) (sorted (more ++ active) ++ sealed) =
-        IsPermutation-trans (unflushed ++ more) (more ++ unflushed) (sorted (more ++ active) ++ sealed) (IsPermutation-append_comm unflushed more)
-        (IsPermutation-trans (more ++ unflushed) ((more ++ active) ++ sealed) (sorted (more ++ active) ++ sealed)
-        (subst (IsPermutation (more ++ unflushed)) (sym (append_assoc more active sealed)) (IsPermutation-append_right more unflushed (active ++ sealed) s.holds))
-        (IsPermutation-append_left sealed (more ++ active) (sorted (more ++ active)) (sorted_moves (more ++ active)))) in
+    IsPermutation-trans (unflushed ++ more) (more ++ unflushed) (sorted (more ++ active) ++ sealed) (IsPermutation-append_comm unflushed more)
+    (IsPermutation-trans (more ++ unflushed) ((more ++ active) ++ sealed) (sorted (more ++ active) ++ sealed)
+    (subst (IsPermutation (more ++ unflushed)) (sym (append_assoc more active sealed)) (IsPermutation-append_right more unflushed (active ++ sealed) s.holds))
+    (IsPermutation-append_left sealed (more ++ active) (sorted (more ++ active)) (sorted_moves (more ++ active)))) in
     let next : FamilyState = record g { active = h.active } in
-    subst (ShowsFamily i (unflushed ++ more) f) (sym w.others) (record {
+    subst (IsFamilyNow i (unflushed ++ more) f) (sym w.others) (record {
       form = s.form;
       floor = s.floor;
       through = s.through;
@@ -128,6 +128,6 @@ now_written m old new number ops sync sound shows adds =
             let own : of_family g0.active.family (made old.last.0 ops) ≡ of_family i (made m.last.0 ops) = ap (λ (z : Family). of_family z (made old.last.0 ops)) (same_number g0.active.family i s.number.active) ∙ ap (λ (n : ℕ). of_family i (made n ops)) last in
             let w2 = subst (λ (vs : List Version). IsWrittenTo vs g0 g) own w in
             let is = between_written i f.through.0 m.last.0 m.versions ops (h.families i f of).low bounded in
-            subst (λ (vs : List Version). ShowsFamily i vs f g) (sym is) (family_written i (between i f.through.0 m.last.0 m.versions) (of_family i (made m.last.0 ops)) f g0 g w2 s)
+            subst (λ (vs : List Version). IsFamilyNow i vs f g) (sym is) (family_written i (between i f.through.0 m.last.0 m.versions) (of_family i (made m.last.0 ops)) f g0 g w2 s)
       ];
     }

@@ -84,6 +84,9 @@ module _ {D F : Type 0} (d : disk.Ghosts D F) (f : file.Ghosts F) (now_last : Is
       pub first_cause : HasCause (faults_of d f old) (faults_of d f two) first
       first_cause = subst (λ n. HasCause n (faults_of d f two) first) kept_faults (synced_cause d f now_last mid two first synced)
 
+      pub first_folder : IsSameFolder f old two
+      first_folder = folder_on f old mid two kept_folder (synced_folder d f now_last mid two first synced)
+
       module _ (now : SuperVersion) (m : State) (c : Course) (number : ℕ) (family : Family) (floor : Ts) (h : HoldsNow d f old now m c) where
         of_mid : IsEngineOf d f mid h.says h.waiting
         of_mid = reserved_of d f now_last old mid edit ended kept h.says h.waiting h.engine_of

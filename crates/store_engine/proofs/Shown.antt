@@ -1,17 +1,16 @@
 -- What is in the lists of a family that shows a state.
-use Rattle.std.proofs.Common.{◌≡◌, ◌⊎◌, ℕ, ◌+◌, ◌<◌, ◌≤◌, Bool, true, List, [], ◌∷◌, ◌++◌, length, map, Some, None, refl, sym, ap, ◌∙◌, subst, arith, inl, inr}
-use Rattle.std.specs.Prelude.{slice_get, Contains}
+use Rattle.std.proofs.Common.{◌≡◌, ◌⊎◌, ℕ, ◌+◌, ◌≤◌, true, List, [], ◌∷◌, ◌++◌, map, refl, sym, ap, ◌∙◌, subst, arith, inl, inr}
 use Rattle.std.specs.List.{flat_map}
 use Rattle.std.proofs.lemmas.List.Sorted.{Contains-permutation, IsPermutation-sym}
 use Rattle.std.proofs.lemmas.Slice.Eq.{bytes_eq-Decides}
 use Rattle.ts_key.specs.declared.batch.WriteOp.{WriteOp}
 use Rattle.ts_key.specs.declared.numbers.Family.{Family}
 use Rattle.ts_key.specs.declared.version.Version.{Version}
-use Rattle.ts_key.specs.Items.{Item, item_of, items_of}
+use Rattle.ts_key.specs.Items.{Item, item_of}
 use Rattle.ts_key.specs.Visible as items
-use Rattle.memtable.specs.Memtables.{Memtable, greater, versions_of}
-use Rattle.udt_model.specs.Versions.{AreWritten, between, is_of, logged, made, newest_of, of_key, version_of}
-use Rattle.udt_model.specs.State.{State, LiveTable, family_at}
+use Rattle.memtable.specs.Memtables.{greater, versions_of}
+use Rattle.udt_model.specs.Versions.{between, logged, made, newest_of, of_key, version_of}
+use Rattle.udt_model.specs.State.{State, LiveTable}
 use Rattle.udt_model.specs.State.{FamilyState as ModelFamily}
 use Rattle.super_version.specs.Contents.{items_in, items_of_level, items_of_memtable, items_of_table, version_of_item}
 use Rattle.super_version.specs.Live.{Live}
@@ -23,14 +22,14 @@ use Rattle.floor_laws.proofs.Kept.{is_of-from, is_of-true}
 use Rattle.floor_laws.proofs.Tables.{contents-from, In-contents}
 use Rattle.floor_laws.proofs.Taking.{logged_above}
 use Rattle.store_engine.specs.Admission.{is_on, latest_at}
-use Rattle.store_engine.specs.Now.{ShowsFamily, table_shown, tables_shown, versions_held}
-use Rattle.store_engine.proofs.Stamps.{IsStampIn, IsStampOf, IsStampOn, Top, stamp_of, top_both, top_items, top_newest, top_once, top_ops, top_same}
+use Rattle.store_engine.specs.Now.{IsFamilyNow, table_shown, tables_shown, versions_held}
+use Rattle.store_engine.proofs.Stamps.{IsStampIn, IsStampOf, IsStampOn, stamp_of, top_both, top_items, top_newest, top_once, top_ops, top_same}
 
 -- ---- lists of lists
 
 pub In-flat : {X Y : Type 0} (f : X → List Y) (x : X) (y : Y) (xs : List X) → In x xs → In y (f x) → In y (flat_map f xs)
 In-flat f x y [] i j = absurd i
-In-flat f x y (z ∷ zs) (inl q) j = In-left y (f z) (flat_map f zs) (subst (λ (w : X). In y (f w)) (sym q) j)
+In-flat f x y (z ∷ zs) (inl q) j = In-left y (f z) (flat_map f zs) (subst (λ w. In y (f w)) (sym q) j)
 In-flat f x y (z ∷ zs) (inr i) j = In-right y (f z) (flat_map f zs) (In-flat f x y zs i j)
 
 pub flat-In : {X Y : Type 0} (f : X → List Y) (y : Y) (xs : List X) → In y (flat_map f xs) → (x : X) × In x xs × In y (f x)
@@ -66,12 +65,12 @@ pub record IsItemOf (v : Version) (item : Item) : Type 0 where
 abbrev lists : State → Family → ModelFamily → List Version
 lists m family f = between family f.through.0 m.last.0 m.versions ++ contents f.tables
 
-module _ (m : State) (family : Family) (f : ModelFamily) (g : FamilyState) (shows : ShowsFamily family m f g) where
+module _ (m : State) (family : Family) (f : ModelFamily) (g : FamilyState) (shows : IsFamilyNow family (between family f.through.0 m.last.0 m.versions) f g) where
   in_memory : (v : Version) → In v (versions_held g) → In v (between family f.through.0 m.last.0 m.versions)
-  in_memory v i = contains_In (between family f.through.0 m.last.0 m.versions) v (Contains-permutation (versions_held g) (between family f.through.0 m.last.0 m.versions) v (IsPermutation-sym (between family f.through.0 m.last.0 m.versions) (versions_held g) shows.unflushed) (In-contains (versions_held g) v i))
+  in_memory v i = contains_In (between family f.through.0 m.last.0 m.versions) v (Contains-permutation (versions_held g) (between family f.through.0 m.last.0 m.versions) v (IsPermutation-sym (between family f.through.0 m.last.0 m.versions) (versions_held g) shows.holds) (In-contains (versions_held g) v i))
 
   held : (v : Version) → In v (between family f.through.0 m.last.0 m.versions) → In v (versions_held g)
-  held v i = contains_In (versions_held g) v (Contains-permutation (between family f.through.0 m.last.0 m.versions) (versions_held g) v shows.unflushed (In-contains (between family f.through.0 m.last.0 m.versions) v i))
+  held v i = contains_In (versions_held g) v (Contains-permutation (between family f.through.0 m.last.0 m.versions) (versions_held g) v shows.holds (In-contains (between family f.through.0 m.last.0 m.versions) v i))
 
   -- an item in memory is that of a version
   of_memory : (v : Version) → In v (versions_held g) → (w : Version) × In w (lists m family f) × (w.family ≡ family) × IsItemOf w (item_of v)
@@ -83,7 +82,7 @@ module _ (m : State) (family : Family) (f : ModelFamily) (g : FamilyState) (show
   of_table tables t item i j k =
       let r = shown-In family 0 g.levels tables t i j in
       let u = table_shown family r.0 t in
-      let live = contains_In f.tables u (shows.only u (In-contains (tables_shown family 0 g.levels) u r.1)) in
+      let live = contains_In f.tables u (Contains-permutation (tables_shown family 0 g.levels) f.tables u (IsPermutation-sym f.tables (tables_shown family 0 g.levels) shows.tables) (In-contains (tables_shown family 0 g.levels) u r.1)) in
       let w = version_of_item family item in
       (w, In-right w (between family f.through.0 m.last.0 m.versions) (contents f.tables) (contents-from f.tables u w live (In-map (version_of_item family) item t.table.contents.items k)), refl, record { key = refl; ts = refl })
 
@@ -117,7 +116,7 @@ module _ (m : State) (family : Family) (f : ModelFamily) (g : FamilyState) (show
     ]
     | inr b ↦
         let x = In-contents f.tables v b in
-        let y = In-shown family 0 g.levels x.0 (contains_In (tables_shown family 0 g.levels) x.0 (shows.tables x.0 (In-contains f.tables x.0 x.1))) in
+        let y = In-shown family 0 g.levels x.0 (contains_In (tables_shown family 0 g.levels) x.0 (Contains-permutation f.tables (tables_shown family 0 g.levels) x.0 shows.tables (In-contains f.tables x.0 x.1))) in
         let t = y.2.0 in
         let l = y.2.2.0 in
         let in_t : In v (table_shown family l t).versions = subst (λ (z : LiveTable). In v z.versions) (sym y.2.2.1) x.2 in
@@ -146,9 +145,9 @@ on_true family key o h = is_of-true family key (version_of o 0) h
 
 -- The lists of a state behind operations that were admitted: the newest of a key is the newest of the lists that show it, and of the
 -- operations.
-module _ (m : State) (family : Family) (f : ModelFamily) (g : FamilyState) (shows : ShowsFamily family m f g) (before : List WriteOp) (key : List ℕ)
-         (low : f.through.0 ≤ m.last.0) (bounded : (v : Version) → In v m.versions → v.seq.0 ≤ m.last.0) (count : ℕ)
-         (written : (v : Version) → In v (m.versions ++ made m.last.0 before) → v.seq.0 ≤ count) where
+module _ (m : State) (family : Family) (f : ModelFamily) (g : FamilyState) (shows : IsFamilyNow family (between family f.through.0 m.last.0 m.versions) f g) (before : List WriteOp) (key : List ℕ)
+    (low : f.through.0 ≤ m.last.0) (bounded : (v : Version) → In v m.versions → v.seq.0 ≤ m.last.0) (count : ℕ)
+    (written : (v : Version) → In v (m.versions ++ made m.last.0 before) → v.seq.0 ≤ count) where
   abbrev after_ops : List Version
   after_ops = between family f.through.0 count (m.versions ++ made m.last.0 before) ++ contents f.tables
 

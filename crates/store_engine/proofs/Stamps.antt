@@ -1,5 +1,5 @@
 -- The greatest timestamp of a key, by what is in a list.
-use Rattle.std.proofs.Common.{◌≡◌, ◌⊎◌, ℕ, ◌<◌, ◌≤◌, Bool, true, false, List, [], ◌∷◌, ◌++◌, max, Option, Some, None, refl, sym, ap, ◌∙◌, subst, arith, inl, inr}
+use Rattle.std.proofs.Common.{◌≡◌, ◌⊎◌, ℕ, ◌≤◌, true, false, List, [], ◌∷◌, max, Option, Some, None, refl, sym, ap, ◌∙◌, subst, arith, inl, inr}
 use Rattle.std.specs.Prelude.{option_map}
 use Rattle.std.proofs.lemmas.Bool.{cases_Bool, cases_lt, false≢true}
 use Rattle.std.proofs.lemmas.Bool.Decides.{nat_tests}
@@ -71,10 +71,13 @@ IsStampOf vs key n = (v : Item) × In v vs × (items.is_of key v ≡ true) × (v
 
 top_one : (v : Item) (key : List ℕ) → Top (IsStampOf (v ∷ []) key) (items.newest_ts (v ∷ []) key)
 top_one v key = elim (cases_Bool (items.is_of key v)) [
-  | inl y ↦ rw y ((v, inl refl, y, refl), λ k s. elim s.1 [
-    | inl q ↦ let e : v.sort_key.ts ≡ k = ap (λ (x : Item). x.sort_key.ts) q ∙ s.3 in omega (arith, e)
-    | inr b ↦ absurd b
-  ])
+  | inl y ↦ rw y (
+    (v, inl refl, y, refl),
+    λ k s. elim s.1 [
+      | inl q ↦ let e : v.sort_key.ts ≡ k = ap (λ (x : Item). x.sort_key.ts) q ∙ s.3 in omega (arith, e)
+      | inr b ↦ absurd b
+    ],
+  )
   | inr y ↦ rw y (λ n s. elim s.1 [
     | inl q ↦ false≢true (sym y ∙ ap (items.is_of key) q ∙ s.2)
     | inr b ↦ b
@@ -100,10 +103,13 @@ IsStampOn ops family key n = (o : WriteOp) × In o ops × (is_on family key o �
 
 top_op : (o : WriteOp) (family : Family) (key : List ℕ) → Top (IsStampOn (o ∷ []) family key) (stamp_at family key o)
 top_op o family key = elim (cases_Bool (is_on family key o)) [
-  | inl y ↦ rw y ((o, inl refl, y, refl), λ k s. elim s.1 [
-    | inl q ↦ let e : o.ts.0 ≡ k = ap (λ (x : WriteOp). x.ts.0) q ∙ s.3 in omega (arith, e)
-    | inr b ↦ absurd b
-  ])
+  | inl y ↦ rw y (
+    (o, inl refl, y, refl),
+    λ k s. elim s.1 [
+      | inl q ↦ let e : o.ts.0 ≡ k = ap (λ (x : WriteOp). x.ts.0) q ∙ s.3 in omega (arith, e)
+      | inr b ↦ absurd b
+    ],
+  )
   | inr y ↦ rw y (λ n s. elim s.1 [
     | inl q ↦ false≢true (sym y ∙ ap (is_on family key) q ∙ s.2)
     | inr b ↦ b

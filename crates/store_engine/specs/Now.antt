@@ -38,7 +38,7 @@ pub record FitsFamily (form : Form) (floor : Ts) (t : Live) : Type 0 where
 
 -- The family is as the model has it, with these versions in no table: form, floor and `through` are the model's, the memtables hold
 -- exactly those versions, and the levels show the live tables, each once and in order.
-pub record ShowsFamily (family : Family) (unflushed : List Version) (f : ModelFamily) (g : FamilyState) : Type 0 where
+pub record IsFamilyNow (family : Family) (unflushed : List Version) (f : ModelFamily) (g : FamilyState) : Type 0 where
   pub form : g.form ≡ f.head.form
   pub floor : g.floor ≡ f.head.floor
   pub through : g.through ≡ f.through
@@ -53,4 +53,4 @@ pub record ShowsFamily (family : Family) (unflushed : List Version) (f : ModelFa
 pub record IsNow (now : SuperVersion) (m : State) : Type 0 where
   pub last : now.last ≡ m.last
   pub count : length now.families ≡ length m.families
-  pub families : (family : Family) (f : ModelFamily) (g : FamilyState) → family_at m family ≡ Some f → slice_get now.families family.0 ≡ Some g → ShowsFamily family (between family f.through.0 m.last.0 m.versions) f g
+  pub families : (family : Family) (f : ModelFamily) (g : FamilyState) → family_at m family ≡ Some f → slice_get now.families family.0 ≡ Some g → IsFamilyNow family (between family f.through.0 m.last.0 m.versions) f g

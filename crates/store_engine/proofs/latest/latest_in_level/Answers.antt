@@ -1,4 +1,4 @@
-use Rattle.std.proofs.Common.{ℕ, max, ap, ◌∙◌, arith}
+use Rattle.std.proofs.Common.{max, ap, ◌∙◌, arith}
 use Rattle.std.specs.Arc.{arc_value}
 use Rattle.super_version.specs.Contents.{items_of_table}
 use Rattle.super_version.specs.Live.{Live}

@@ -1,4 +1,4 @@
-use Rattle.std.proofs.Common.{ℕ, max, ap, ◌∙◌, arith}
+use Rattle.std.proofs.Common.{max, ap, ◌∙◌, arith}
 use Rattle.std.specs.Arc.{arc_value}
 use Rattle.sorted_run.specs.Runs.{latest_of}
 use Rattle.memtable.specs.Memtables.{Memtable, versions_of}
