@@ -51,7 +51,7 @@ returns-in-Err-clause-moments g c m co number h =
     rest_ran d f last self self now m co number (raise family floor) h refl
 
 pub returns-in-Err-clause-fails : goal.returns-in-Err-clause-fails
-returns-in-Err-clause-fails g c m co number h is =
+returns-in-Err-clause-fails g c m co number h failed =
     let d = g.D.Disk in
     let f = g.D.File.DiskFile in
     let last : IsNowLast d f = record {
@@ -64,7 +64,7 @@ returns-in-Err-clause-fails g c m co number h is =
     let floor = c.args.floor in
     let fault = c.in-Err.fault in
     let e = c.in-Err.ensures in
-    absurd (false≢true (sym (memory_fault fault e.memory) ∙ is))
+    absurd (false≢true (sym (memory_fault fault e.memory) ∙ failed))
 
 pub returns-in-Err-clause-refused : goal.returns-in-Err-clause-refused
 returns-in-Err-clause-refused g c not =
@@ -183,7 +183,7 @@ returns-in-Err-reserve_edit-clause-moments g c m co number h =
     rest_ran d f last self mid now m co number (raise family floor) h (reserved_held d f last self mid edit (Err fault) e)
 
 pub returns-in-Err-reserve_edit-clause-fails : goal.returns-in-Err-reserve_edit-clause-fails
-returns-in-Err-reserve_edit-clause-fails g c m co number h is =
+returns-in-Err-reserve_edit-clause-fails g c m co number h failed =
     let d = g.D.Disk in
     let f = g.D.File.DiskFile in
     let last : IsNowLast d f = record {
@@ -198,7 +198,7 @@ returns-in-Err-reserve_edit-clause-fails g c m co number h is =
     let edit = c.raise_edit-edit.result in
     let fault = c.in-Err-reserve_edit.fault in
     let e = c.in-Err-reserve_edit.ensures in
-    absurd (false≢true (sym (none_disk fault e.fault) ∙ is))
+    absurd (false≢true (sym (none_disk fault e.fault) ∙ failed))
 
 pub returns-in-Err-reserve_edit-clause-refused : goal.returns-in-Err-reserve_edit-clause-refused
 returns-in-Err-reserve_edit-clause-refused g c not =
@@ -331,7 +331,7 @@ returns-in-Err-sync_log-clause-moments g c m co number h =
     first_ran d f last self mid edit (Ok tt) kept two (Err fault) e now m co number family floor h
 
 pub returns-in-Err-sync_log-clause-fails : goal.returns-in-Err-sync_log-clause-fails
-returns-in-Err-sync_log-clause-fails g c m co number h is =
+returns-in-Err-sync_log-clause-fails g c m co number h failed =
     let d = g.D.Disk in
     let f = g.D.File.DiskFile in
     let last : IsNowLast d f = record {
@@ -463,7 +463,7 @@ returns-in-Err-append_edit-clause-tells g c m co h =
     let family = c.args.family in
     let floor = c.args.floor in
     let state = c.in-Some.state.now in
-    let here : slice_get now.families family.0 ≡ Some state = ? in
+    let here : slice_get now.families family.0 ≡ Some state = sym c.in-Some.ensures in
     let fold = manifest_folded self.manifest in
     let fits = c.requires.current.fits in
     let fam = family_there fold now fits family floor state here in
@@ -491,7 +491,7 @@ returns-in-Err-append_edit-clause-moments g c m co number h =
     let family = c.args.family in
     let floor = c.args.floor in
     let state = c.in-Some.state.now in
-    let here : slice_get now.families family.0 ≡ Some state = ? in
+    let here : slice_get now.families family.0 ≡ Some state = sym c.in-Some.ensures in
     let fold = manifest_folded self.manifest in
     let fits = c.requires.current.fits in
     let fam = family_there fold now fits family floor state here in
@@ -507,7 +507,7 @@ returns-in-Err-append_edit-clause-moments g c m co number h =
     second_ran d f last self mid edit (Ok tt) kept two new synced (Err fault) e now family floor fam (fold_there fold now fits family floor state here).1 is c.requires.running.together m co number h (raised_told m family floor (c.in-Ok.ensures.admitted m h.runs h.shows))
 
 pub returns-in-Err-append_edit-clause-fails : goal.returns-in-Err-append_edit-clause-fails
-returns-in-Err-append_edit-clause-fails g c m co number h is =
+returns-in-Err-append_edit-clause-fails g c m co number h failed =
     let d = g.D.Disk in
     let f = g.D.File.DiskFile in
     let last : IsNowLast d f = record {
@@ -519,7 +519,7 @@ returns-in-Err-append_edit-clause-fails g c m co number h is =
     let family = c.args.family in
     let floor = c.args.floor in
     let state = c.in-Some.state.now in
-    let here : slice_get now.families family.0 ≡ Some state = ? in
+    let here : slice_get now.families family.0 ≡ Some state = sym c.in-Some.ensures in
     let fold = manifest_folded self.manifest in
     let fits = c.requires.current.fits in
     let fam = family_there fold now fits family floor state here in
@@ -547,7 +547,7 @@ returns-in-Err-append_edit-clause-refused g c not =
     let family = c.args.family in
     let floor = c.args.floor in
     let state = c.in-Some.state.now in
-    let here : slice_get now.families family.0 ≡ Some state = ? in
+    let here : slice_get now.families family.0 ≡ Some state = sym c.in-Some.ensures in
     let fold = manifest_folded self.manifest in
     let fits = c.requires.current.fits in
     let fam = family_there fold now fits family floor state here in
@@ -575,7 +575,7 @@ returns-in-Err-append_edit-clause-same g c =
     let family = c.args.family in
     let floor = c.args.floor in
     let state = c.in-Some.state.now in
-    let here : slice_get now.families family.0 ≡ Some state = ? in
+    let here : slice_get now.families family.0 ≡ Some state = sym c.in-Some.ensures in
     let fold = manifest_folded self.manifest in
     let fits = c.requires.current.fits in
     let fam = family_there fold now fits family floor state here in
@@ -603,7 +603,7 @@ returns-in-Err-append_edit-clause-running g c not =
     let family = c.args.family in
     let floor = c.args.floor in
     let state = c.in-Some.state.now in
-    let here : slice_get now.families family.0 ≡ Some state = ? in
+    let here : slice_get now.families family.0 ≡ Some state = sym c.in-Some.ensures in
     let fold = manifest_folded self.manifest in
     let fits = c.requires.current.fits in
     let fam = family_there fold now fits family floor state here in
@@ -631,7 +631,7 @@ returns-in-Err-append_edit-clause-failed g c =
     let family = c.args.family in
     let floor = c.args.floor in
     let state = c.in-Some.state.now in
-    let here : slice_get now.families family.0 ≡ Some state = ? in
+    let here : slice_get now.families family.0 ≡ Some state = sym c.in-Some.ensures in
     let fold = manifest_folded self.manifest in
     let fits = c.requires.current.fits in
     let fam = family_there fold now fits family floor state here in
@@ -659,7 +659,7 @@ returns-in-Err-append_edit-clause-cause g c =
     let family = c.args.family in
     let floor = c.args.floor in
     let state = c.in-Some.state.now in
-    let here : slice_get now.families family.0 ≡ Some state = ? in
+    let here : slice_get now.families family.0 ≡ Some state = sym c.in-Some.ensures in
     let fold = manifest_folded self.manifest in
     let fits = c.requires.current.fits in
     let fam = family_there fold now fits family floor state here in
@@ -687,7 +687,7 @@ returns-in-Ok-append_edit-clause-tells g c m co h =
     let family = c.args.family in
     let floor = c.args.floor in
     let state = c.in-Some.state.now in
-    let here : slice_get now.families family.0 ≡ Some state = ? in
+    let here : slice_get now.families family.0 ≡ Some state = sym c.in-Some.ensures in
     let fold = manifest_folded self.manifest in
     let fits = c.requires.current.fits in
     let fam = family_there fold now fits family floor state here in
@@ -715,7 +715,7 @@ returns-in-Ok-append_edit-clause-holds g c m co number h =
     let family = c.args.family in
     let floor = c.args.floor in
     let state = c.in-Some.state.now in
-    let here : slice_get now.families family.0 ≡ Some state = ? in
+    let here : slice_get now.families family.0 ≡ Some state = sym c.in-Some.ensures in
     let fold = manifest_folded self.manifest in
     let fits = c.requires.current.fits in
     let fam = family_there fold now fits family floor state here in
@@ -743,7 +743,7 @@ returns-in-Ok-append_edit-clause-moments g c m co number h =
     let family = c.args.family in
     let floor = c.args.floor in
     let state = c.in-Some.state.now in
-    let here : slice_get now.families family.0 ≡ Some state = ? in
+    let here : slice_get now.families family.0 ≡ Some state = sym c.in-Some.ensures in
     let fold = manifest_folded self.manifest in
     let fits = c.requires.current.fits in
     let fam = family_there fold now fits family floor state here in
@@ -759,7 +759,7 @@ returns-in-Ok-append_edit-clause-moments g c m co number h =
     second_ran d f last self mid edit (Ok tt) kept two new synced (Ok tt) e now family floor fam (fold_there fold now fits family floor state here).1 is c.requires.running.together m co number h (raised_told m family floor (c.in-Ok.ensures.admitted m h.runs h.shows))
 
 pub returns-in-Ok-append_edit-clause-fails : goal.returns-in-Ok-append_edit-clause-fails
-returns-in-Ok-append_edit-clause-fails g c m co number h is =
+returns-in-Ok-append_edit-clause-fails g c m co number h failed =
     let d = g.D.Disk in
     let f = g.D.File.DiskFile in
     let last : IsNowLast d f = record {
@@ -771,7 +771,7 @@ returns-in-Ok-append_edit-clause-fails g c m co number h is =
     let family = c.args.family in
     let floor = c.args.floor in
     let state = c.in-Some.state.now in
-    let here : slice_get now.families family.0 ≡ Some state = ? in
+    let here : slice_get now.families family.0 ≡ Some state = sym c.in-Some.ensures in
     let fold = manifest_folded self.manifest in
     let fits = c.requires.current.fits in
     let fam = family_there fold now fits family floor state here in
@@ -784,7 +784,7 @@ returns-in-Ok-append_edit-clause-fails g c m co number h is =
     let new = c.append_edit.new.self in
     let e = c.in-Ok-append_edit.ensures in
     let next = arc_value c.in-Ok.next in
-    absurd (false≢true is)
+    absurd (false≢true failed)
 
 pub returns-in-Ok-append_edit-clause-current : goal.returns-in-Ok-append_edit-clause-current
 returns-in-Ok-append_edit-clause-current g c =
@@ -799,7 +799,7 @@ returns-in-Ok-append_edit-clause-current g c =
     let family = c.args.family in
     let floor = c.args.floor in
     let state = c.in-Some.state.now in
-    let here : slice_get now.families family.0 ≡ Some state = ? in
+    let here : slice_get now.families family.0 ≡ Some state = sym c.in-Some.ensures in
     let fold = manifest_folded self.manifest in
     let fits = c.requires.current.fits in
     let fam = family_there fold now fits family floor state here in
@@ -828,7 +828,7 @@ returns-in-Ok-append_edit-clause-same g c =
     let family = c.args.family in
     let floor = c.args.floor in
     let state = c.in-Some.state.now in
-    let here : slice_get now.families family.0 ≡ Some state = ? in
+    let here : slice_get now.families family.0 ≡ Some state = sym c.in-Some.ensures in
     let fold = manifest_folded self.manifest in
     let fits = c.requires.current.fits in
     let fam = family_there fold now fits family floor state here in
@@ -856,7 +856,7 @@ returns-in-Ok-append_edit-clause-running g c not =
     let family = c.args.family in
     let floor = c.args.floor in
     let state = c.in-Some.state.now in
-    let here : slice_get now.families family.0 ≡ Some state = ? in
+    let here : slice_get now.families family.0 ≡ Some state = sym c.in-Some.ensures in
     let fold = manifest_folded self.manifest in
     let fits = c.requires.current.fits in
     let fam = family_there fold now fits family floor state here in
@@ -884,7 +884,7 @@ returns-in-Ok-append_edit-clause-failed g c =
     let family = c.args.family in
     let floor = c.args.floor in
     let state = c.in-Some.state.now in
-    let here : slice_get now.families family.0 ≡ Some state = ? in
+    let here : slice_get now.families family.0 ≡ Some state = sym c.in-Some.ensures in
     let fold = manifest_folded self.manifest in
     let fits = c.requires.current.fits in
     let fam = family_there fold now fits family floor state here in
@@ -912,7 +912,7 @@ returns-in-Ok-append_edit-clause-kept g c =
     let family = c.args.family in
     let floor = c.args.floor in
     let state = c.in-Some.state.now in
-    let here : slice_get now.families family.0 ≡ Some state = ? in
+    let here : slice_get now.families family.0 ≡ Some state = sym c.in-Some.ensures in
     let fold = manifest_folded self.manifest in
     let fits = c.requires.current.fits in
     let fam = family_there fold now fits family floor state here in
@@ -940,7 +940,7 @@ append_edit-requires-clause-accepted g c =
     let family = c.args.family in
     let floor = c.args.floor in
     let state = c.in-Some.state.now in
-    let here : slice_get now.families family.0 ≡ Some state = ? in
+    let here : slice_get now.families family.0 ≡ Some state = sym c.in-Some.ensures in
     let fold = manifest_folded self.manifest in
     let fits = c.requires.current.fits in
     let fam = family_there fold now fits family floor state here in
@@ -967,7 +967,7 @@ append_edit-requires-clause-reserved g c =
     let family = c.args.family in
     let floor = c.args.floor in
     let state = c.in-Some.state.now in
-    let here : slice_get now.families family.0 ≡ Some state = ? in
+    let here : slice_get now.families family.0 ≡ Some state = sym c.in-Some.ensures in
     let fold = manifest_folded self.manifest in
     let fits = c.requires.current.fits in
     let fam = family_there fold now fits family floor state here in
@@ -992,7 +992,7 @@ append_edit-requires-clause-running g c =
     let family = c.args.family in
     let floor = c.args.floor in
     let state = c.in-Some.state.now in
-    let here : slice_get now.families family.0 ≡ Some state = ? in
+    let here : slice_get now.families family.0 ≡ Some state = sym c.in-Some.ensures in
     let fold = manifest_folded self.manifest in
     let fits = c.requires.current.fits in
     let fam = family_there fold now fits family floor state here in
@@ -1017,7 +1017,7 @@ append_edit-requires-clause-logs g c =
     let family = c.args.family in
     let floor = c.args.floor in
     let state = c.in-Some.state.now in
-    let here : slice_get now.families family.0 ≡ Some state = ? in
+    let here : slice_get now.families family.0 ≡ Some state = sym c.in-Some.ensures in
     let fold = manifest_folded self.manifest in
     let fits = c.requires.current.fits in
     let fam = family_there fold now fits family floor state here in
