@@ -1,10 +1,13 @@
 -- Which places the tables of a fold have, and when the table at one of them is in order.
 use Rattle.std.proofs.Common.{◌≡◌, ℕ, zero, suc, ◌+◌, ◌<◌, ◌≤◌, Bool, true, false, ◌&&◌, ◌==◌, List, [], ◌∷◌, ◌++◌, length, take, drop, map, get_or, Option, Some, None, refl, sym, ap, ◌∙◌, subst, arith, inl, inr, ⊎_elim, append_assoc, append-nil}
-use Rattle.std.specs.Prelude.{Contains, nat_lt, slice_get}
-use Rattle.std.specs.List.Sorted.{IsNonDecreasingBy, IsPermutation}
-use Rattle.std.proofs.lemmas.Bool.{and_from, and_parts, cases_lt, eq-eqb, eqb-true, false≢true, lt-ltb, ltb-true}
-use Rattle.std.proofs.lemmas.List.{get_or-take, get_or_read, length-take-le, take-append-drop, map-append, take_more}
-use Rattle.std.proofs.lemmas.List.Sorted.{Contains-permutation, IsPermutation-sym}
+use Rattle.std.specs.Prelude.{Contains, nat_eq, slice_get}
+use Rattle.std.specs.List.{AllByRecursion, IsDistinct}
+use Rattle.std.specs.List.Sorted.{IsNonDecreasingBy, IsPermutation, IsStrictlyIncreasing}
+use Rattle.std.proofs.lemmas.Bool.{cases_eq, cases_lt, eq-eqb, false≢true, ne_eqb}
+use Rattle.std.proofs.lemmas.List.{get_or-map, get_or-take, get_or_read, length-map, length-take-le, take-append-drop, map-append, take_more}
+use Rattle.std.proofs.lemmas.List.Kept.{AllPairs-from_increasing}
+use Rattle.std.proofs.lemmas.List.Sorted.{Contains-permutation, IsPermutation-map, IsPermutation-sym}
+use Rattle.std.proofs.lemmas.Map.Keys.{IsDistinct-IsPermutation, IsStrictlyIncreasing-from_distinct}
 use Rattle.ts_key.specs.declared.numbers.Family.{Family}
 use Rattle.udt_disk.specs.Crash.{Image}
 use Rattle.udt_disk.specs.Joint.{Folder}
@@ -17,12 +20,15 @@ use Rattle.manifest_fold.specs.declared.fold.Folded.{Folded}
 use Rattle.block_table.specs.Contents.{Contents}
 use Rattle.block_table.specs.Held.{Held}
 use Rattle.block_table.specs.Tables.{IsTable}
-use Rattle.floor_laws.proofs.Members.{In, In-any, In-append, In-contains, In-left, In-map, In-right, any-In, contains_In, map-In}
-use Rattle.engine_laws.specs.Manifests.{IsLive}
+use Rattle.floor_laws.proofs.Members.{In, In-append, In-contains, In-left, In-map, In-right, contains_In, map-In}
+use Rattle.floor_laws.proofs.Tables.{Sorted}
+use Rattle.engine_laws.specs.Manifests.{IsLive, number_of}
+use Rattle.engine_laws.proofs.Ascending.{rising_sorted}
 use Rattle.engine_laws.specs.Standing.{Fits, TableReads, TableSays}
 use Rattle.super_version.specs.Live.{Live}
+use Rattle.super_version.specs.declared.family.TheConstants.{LEVELS}
 use Rattle.recovery.specs.Meeting.{AreOfFiles, AreOnLevels, Clashes, ClashesAmong, IsFirst, IsUpto, opened_number, span_at, table_in}
-use Rattle.recovery.specs.Places.{AreLivePlaces, AreOpened, HasLevels, HoldsTable, IsFitting, IsLivePlace, IsTableOpened, IsTableIn, number_at, place_in, place_of, places_from, span_in}
+use Rattle.recovery.specs.Places.{AreLivePlaces, AreOpened, HasPlaces, HoldsTable, IsFitting, IsLivePlace, IsTableOpened, IsTableIn, number_at, place_in, place_of, places_from, span_in}
 use Rattle.recovery.specs.Refusals.{IsBadTable}
 use Rattle.recovery.specs.Tables.{AreInOrderBelow, IsApart, IsFlushed, IsInOrder, ReadsAsTable, says_of}
 use Rattle.recovery.specs.declared.live.TablePlace.{TablePlace}
@@ -89,17 +95,86 @@ places_more families i f mid new tables within is so_far listed more =
     more ∙ ap (λ (ps : List TablePlace). ps ++ map (place_in (family_at i)) tables) so_far ∙ ap (λ (ts : List TableAt). places_from 0 (take i families) ++ map (place_in (family_at i)) ts) listed
     ∙ ap (λ (n : ℕ). places_from 0 (take i families) ++ map (place_in (family_at n)) f.tables) (sym place) ∙ sym (places_append 0 (take i families) f) ∙ ap (places_from 0) (sym front)
 
+-- ---- each place once
+
+all_in : {X : Type 0} (P : X → Type 0) (xs : List X) → ((x : X) → In x xs → P x) → AllByRecursion P xs
+all_in P [] each = tt
+all_in P (x ∷ xs) each = (each x (inl refl), all_in P xs (λ y held. each y (inr held)))
+
+numbers_in : (family : Family) (n : ℕ) (ts : List TableAt) (q : TablePlace) → ((m : ℕ) → In m (map number_of ts) → n < m) → In q (map (place_in family) ts) → n ≡ number_at q → ⊥
+numbers_in family n ts q above held is =
+    let t = map-In (place_in family) q ts held in
+    let more = above t.0.number (In-map number_of t.0 ts t.1) in
+    absurd (omega (arith, more, is, ap number_at t.2))
+
+once_more : (family : Family) (ts : List TableAt) (rest : List TablePlace) → Sorted (map number_of ts) → IsDistinct nat_eq (map number_at rest) → ((t : TableAt) (q : TablePlace) → In t ts → In q rest → t.number ≡ number_at q → ⊥)
+    → IsDistinct nat_eq (map number_at (map (place_in family) ts ++ rest))
+unfolding IsDistinct
+once_more family [] rest sorted once apart = once
+once_more family (t ∷ ts) rest sorted once apart = (
+  all_in (λ (n : ℕ). nat_eq t.number n ≡ false) (map number_at (map (place_in family) ts ++ rest)) (λ n held. differs n (map-In number_at n (map (place_in family) ts ++ rest) held)),
+  once_more family ts rest sorted.1 once (λ u q held there. apart u q (inr held) there),
+) where
+  differs : (n : ℕ) → (q : TablePlace) × In q (map (place_in family) ts ++ rest) × (number_at q ≡ n) → nat_eq t.number n ≡ false
+  differs n q = ne_eqb t.number n (λ is. ⊎_elim
+      (λ here. numbers_in family t.number ts q.0 sorted.0 here (is ∙ sym q.2))
+      (λ later. apart t q.0 (inl refl) later (is ∙ sym q.2))
+      (In-append q.0 (map (place_in family) ts) rest q.1))
+
+-- the tables of families, where each family's numbers rise and no two families share one
+places_once : (i : ℕ) (fs : List FamilyFold) → ((k : ℕ) (f : FamilyFold) → slice_get fs k ≡ Some f → IsStrictlyIncreasing (map number_of f.tables))
+    → ((k m : ℕ) (f g : FamilyFold) (t u : TableAt) → slice_get fs k ≡ Some f → slice_get fs m ≡ Some g → In t f.tables → In u g.tables → t.number ≡ u.number → k ≡ m) → IsDistinct nat_eq (map number_at (places_from i fs))
+unfolding IsDistinct
+places_once i [] rising apart = tt
+places_once i (f ∷ fs) rising apart =
+    once_more (family_at i) f.tables (places_from (i + 1) fs) (rising_sorted (map number_of f.tables) (rising 0 f refl))
+    (places_once (i + 1) fs (λ k g there. rising (suc k) g there) (λ k m g h t u at_g at_h held_t held_u same. (let one = apart (suc k) (suc m) g h t u at_g at_h held_t held_u same in omega (arith, one))))
+    (λ t q held there same. (let r = places_in (i + 1) fs q there in let one = apart 0 (suc r.k) f r.f t q.table refl r.there held r.table same in absurd (omega (arith, one))))
+
+fold_once : (fold : Folded) → HasPlaces fold → IsDistinct nat_eq (map number_at (places_from 0 fold.families))
+fold_once fold well =
+    places_once 0 fold.families (λ k f there. well.rising (family_at k) f there)
+    (λ k m f g t u at_f at_g held_t held_u same. ap (λ (n : Family). n.0) (well.apart (place_in (family_at k) t) (place_in (family_at m) u)
+    (f, record { family = at_f; table = In-contains f.tables t held_t }) (g, record { family = at_g; table = In-contains g.tables u held_u }) same))
+
+nat_eq_flips : (m n : ℕ) → nat_eq m n ≡ nat_eq n m
+nat_eq_flips m n =
+    elim (cases_eq m n) [
+      | inl same ↦ eq-eqb m n same ∙ sym (eq-eqb n m (sym same))
+      | inr apart ↦ ne_eqb m n apart ∙ sym (ne_eqb n m (λ is. apart (sym is)))
+    ]
+
+-- numbers that rise don't fall
+never_falls : (places : List TablePlace) → IsStrictlyIncreasing (map number_at places) → (i j : ℕ) (d : TablePlace) → i ≤ j → j < length places → number_at (get_or places i d) ≤ number_at (get_or places j d)
+never_falls places rising i j d up within =
+    elim (cases_lt i j) [
+      | inl less ↦
+          let long = length-map places number_at in
+          let more = AllPairs-from_increasing (map number_at places) rising i j 0 less (omega (arith, within, long)) in
+          omega (arith, more, get_or-map number_at places i d 0 (omega (arith, less, within)), get_or-map number_at places j d 0 within)
+      | inr other ↦
+          let same : i ≡ j = omega (arith, up, other) in
+          omega (arith, ap (λ (k : ℕ). number_at (get_or places k d)) same)
+    ]
+
 -- places of a fold, in whatever order
-pub live_places : (fold : Folded) (listed places : List TablePlace) → listed ≡ places_from 0 fold.families → IsPermutation listed places → IsNonDecreasingBy number_at places → AreLivePlaces fold places
-live_places fold listed places are moved ascending = record {
+pub live_places : (fold : Folded) → HasPlaces fold → (listed places : List TablePlace) → listed ≡ places_from 0 fold.families → IsPermutation listed places → IsNonDecreasingBy number_at places → AreLivePlaces fold places
+live_places fold well listed places are moved ascending = record {
   each = λ p held.
       let r = places_in 0 fold.families p (subst (In p) are (contains_In listed p (Contains-permutation places listed p (IsPermutation-sym listed places moved) held))) in
       let number : r.k ≡ p.family.0 = omega (arith, r.number) in
       (r.f, record { family = subst (λ (n : ℕ). slice_get fold.families n ≡ Some r.f) number r.there; table = In-contains r.f.tables p.table r.table });
   all = λ p live.
       Contains-permutation listed places p moved (In-contains listed p (subst (In p) (sym are) (in_places 0 p.family.0 p.family.0 fold.families live.0 p.table (omega arith) live.1.family (contains_In live.0.tables p.table live.1.table))));
-  ascending = ascending;
-}
+  ascending = IsStrictlyIncreasing-from_distinct (map number_at places)
+      (λ i j d up within. (let long = length-map places number_at in let below : j < length places = omega (arith, within, long) in numbers_up i j d up below))
+      (IsDistinct-IsPermutation nat_eq nat_eq_flips (map number_at listed) (map number_at places) (IsPermutation-map number_at listed places moved) (subst (λ (ps : List TablePlace). IsDistinct nat_eq (map number_at ps)) (sym are) (fold_once fold well)));
+} where
+  numbers_up : (i j d : ℕ) → i ≤ j → j < length places → get_or (map number_at places) i d ≤ get_or (map number_at places) j d
+  numbers_up i j d up below =
+      let e : TablePlace = record { family = family_at 0; table = record { level = 0; number = d } } in
+      let more = ascending i j e up below in
+      omega (arith, more, get_or-map number_at places i e d (omega (arith, up, below)), get_or-map number_at places j e d below)
 
 -- ---- one place after another
 
@@ -154,7 +229,7 @@ module _ (folder : Folder) (fold : Folded) (places : List TablePlace) (live : Ar
   earlier k below within p at q islive less =
       let held = live.all q islive in
       let here : p ≡ get_or places k q = get_or_read places k p within at q in
-      let later : k ≤ held.0 → ⊥ = λ above. (let up : number_at (get_or places k q) ≤ number_at (get_or places held.0 q) = live.ascending k held.0 q above held.1 in omega (arith, up, less, ap number_at held.2, ap number_at here)) in
+      let later : k ≤ held.0 → ⊥ = λ above. (let up : number_at (get_or places k q) ≤ number_at (get_or places held.0 q) = never_falls places live.ascending k held.0 q above held.1 in omega (arith, up, less, ap number_at held.2, ap number_at here)) in
       let front : held.0 < k = ⊎_elim (λ less. less) (λ above. absurd (later above)) (cases_lt held.0 k) in
       contains_In (take i places) q (held.0, omega (arith, front, below, upto, length-take-le i places upto), get_or-take i places held.0 q (omega (arith, front, below)) ∙ held.2)
 
@@ -201,7 +276,7 @@ module _ (folder : Folder) (fold : Folded) (places : List TablePlace) (live : Ar
         let at_b = known b held_b in
         sym (span_held image a.table.table at_a) ∙ ap (λ (s : TableSays). span_of s.versions) (read_once image b.table.table (says_of a.table.table.contents) at_b (reads_held image a.table.table at_a)) ∙ span_held image b.table.table at_b
 
-  pub on_levels : HasLevels fold → AreOnLevels opened
+  pub on_levels : ((p : TablePlace) → IsLivePlace fold p → p.table.level < LEVELS) → AreOnLevels opened
   on_levels levels = record { files = rising_files; levels = λ o has. levels (place_of o) (live_of o (contains_In opened o has)) }
 
   -- what clashes does so among the families of the fold

@@ -1,6 +1,6 @@
 -- The live tables of a fold, each with its family, and the tables that were read of them.
 use Rattle.std.specs.Prelude.{◌≡◌, ◌≢◌, ℕ, ◌+◌, ◌^◌, ◌<◌, List, [], ◌∷◌, ◌++◌, length, map, Contains, Some, None, ⊤, slice_get}
-use Rattle.std.specs.List.Sorted.{IsNonDecreasingBy}
+use Rattle.std.specs.List.Sorted.{IsStrictlyIncreasing}
 use Rattle.ts_key.specs.declared.numbers.Family.{Family}
 use Rattle.udt_disk.specs.Crash.{Image}
 use Rattle.udt_disk.specs.Joint.{Folder}
@@ -14,7 +14,7 @@ use Rattle.block_table.specs.Contents.{Contents, first_key, last_user_key}
 use Rattle.block_table.specs.Held.{Held}
 use Rattle.block_table.specs.Reads.{IsOnlyTable}
 use Rattle.block_table.specs.Tables.{IsTable}
-use Rattle.engine_laws.specs.Manifests.{IsLive}
+use Rattle.engine_laws.specs.Manifests.{IsLive, number_of}
 use Rattle.engine_laws.specs.Standing.{Fits}
 use Rattle.super_version.specs.declared.family.TheConstants.{LEVELS}
 use Rattle.recovery.specs.Refusals.{IsBadTable, IsMissingTable}
@@ -43,15 +43,17 @@ number_at p = p.table.number
 abbrev pub IsLivePlace : Folded → TablePlace → Type 0
 IsLivePlace fold p = (f : FamilyFold) × IsLive fold p.family f p.table
 
--- each live table stands on a level that there is
-abbrev pub HasLevels : Folded → Type 0
-HasLevels fold = (p : TablePlace) → IsLivePlace fold p → p.table.level < LEVELS
+-- each live table has a number of its own, and stands on a level that there is
+pub record HasPlaces (fold : Folded) : Type 0 where
+  pub rising : (family : Family) (f : FamilyFold) → slice_get fold.families family.0 ≡ Some f → IsStrictlyIncreasing (map number_of f.tables)
+  pub apart : (p q : TablePlace) → IsLivePlace fold p → IsLivePlace fold q → p.table.number ≡ q.table.number → p.family ≡ q.family
+  pub levels : (p : TablePlace) → IsLivePlace fold p → p.table.level < LEVELS
 
--- these are the live tables, by ascending number
+-- these are the live tables, each once, by ascending number
 pub record AreLivePlaces (fold : Folded) (places : List TablePlace) : Type 0 where
   pub each : (p : TablePlace) → Contains places p → IsLivePlace fold p
   pub all : (p : TablePlace) → IsLivePlace fold p → Contains places p
-  pub ascending : IsNonDecreasingBy number_at places
+  pub ascending : IsStrictlyIncreasing (map number_at places)
 
 -- ---- tables that were read
 

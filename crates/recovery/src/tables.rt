@@ -9,7 +9,7 @@ ghost use Rattle.udt_disk.specs.declared.name.FileName.TheVariants.{Table as Tab
 ghost use Rattle.recovery.specs.Fault.{is_open_disk_fault};
 ghost use Rattle.recovery.specs.Looks.{Looks};
 ghost use Rattle.recovery.specs.Meeting.{AreOnLevels, IsFirstFault};
-ghost use Rattle.recovery.specs.Places.{AreOpened, HasLevels, IsFitting, IsLivePlace, IsTableOpened, IsTableIn, IsTableName, RefusesPlace, RefusesReading, RefusesTables, place_of};
+ghost use Rattle.recovery.specs.Places.{AreOpened, HasPlaces, IsFitting, IsLivePlace, IsTableOpened, IsTableIn, IsTableName, RefusesPlace, RefusesReading, RefusesTables, place_of};
 
 use crate::OpenFault;
 use crate::file::read_image;
@@ -134,7 +134,7 @@ pub(crate) fn open_tables<D: Disk>(
     fold: &Folded,
 ) -> Result<Vec<Opened>, OpenFault>
     requires few { length fold.now.families ≤ FAMILY_LIMIT }
-    requires levels { HasLevels fold.now }
+    requires places { HasPlaces fold.now }
     ensures opened { IfOk result (λ opened. IsTrue (D.is_told disk.old) → AreOpened (D.stands disk.old) fold.now opened.items) }
     ensures refused { IfErr result (λ e. IsTrue (D.is_told disk.old) → RefusesTables fold.now (D.stands disk.old) e) }
     ensures looks { Looks D.Disk D.File.DiskFile IsTableName disk.old disk.new }

@@ -66,7 +66,7 @@ returns-in-Err-clause-refused g c told =
     let step : Looks d f IsTableName mid new = c.in-Err.ensures.looks in
     let told_mid = subst IsTrue (sym (looks_told d f IsTableName old mid inv.looks)) told in
     let refused = subst (λ (folder : Folder). RefusesPlace folder family p c.in-Err.fault) (looks_folder d f IsTableName old mid inv.looks told) (c.in-Err.ensures.refused told_mid) in
-    let first = c.first_fault.ensures.first (subst AreOnLevels (sym c.deref.ensures.value) (on_levels (d.stands old) fold places live i (omega (arith, within)) opened inv.places (inv.each told) c.requires.levels)) in
+    let first = c.first_fault.ensures.first (subst AreOnLevels (sym c.deref.ensures.value) (on_levels (d.stands old) fold places live i (omega (arith, within)) opened inv.places (inv.each told) c.requires.places.levels)) in
     first_tables (d.stands old) fold places live i within p at opened inv.places (inv.each told) family islive c.in-Err.fault c.first_fault.result refused
     (subst (λ (os : List Opened). IsFirstFault (length fold.families) os c.in-Err.fault c.first_fault.result) c.deref.ensures.value first)
 
@@ -119,8 +119,8 @@ returns-in-Ok-None-clause-opened g c told =
     let live : AreLivePlaces fold places = subst (AreLivePlaces fold) (sym c.deref-place-items.ensures.value) c.in_ok-places.ensures in
     let all = take_all i places (omega arith) in
     let upto = c.loop-place.auto.place-index-end in
-    let on : AreOnLevels opened = on_levels folder fold places live i upto opened inv.places (inv.each told) c.requires.levels in
-    let first = rw c.deref-2.ensures.value at c.in-Ok-None.ensures in
+    let on : AreOnLevels opened = on_levels folder fold places live i upto opened inv.places (inv.each told) c.requires.places.levels in
+    let first = rw (c.deref-2.ensures.value, c.in-Ok-None.field-0-is) at c.in-Ok-None.ensures in
     all_opened folder fold places opened live (inv.places ∙ all) (inv.each told) (subst (AreInOrderAt folder fold) all (none_clash folder fold places live i upto opened inv.places (inv.each told) (first on)))
 
 pub returns-in-Ok-Some-clause-refused : goal.returns-in-Ok-Some-clause-refused
@@ -133,6 +133,6 @@ returns-in-Ok-Some-clause-refused g c told =
     let opened = c.loop-place.opened.items in
     let live : AreLivePlaces fold places = subst (AreLivePlaces fold) (sym c.deref-place-items.ensures.value) c.in_ok-places.ensures in
     let upto = c.loop-place.auto.place-index-end in
-    let on : AreOnLevels opened = on_levels folder fold places live i upto opened inv.places (inv.each told) c.requires.levels in
-    let first = rw c.deref-2.ensures.value at c.in-Ok-Some.ensures in
+    let on : AreOnLevels opened = on_levels folder fold places live i upto opened inv.places (inv.each told) c.requires.places.levels in
+    let first = rw (c.deref-2.ensures.value, c.in-Ok-Some.field-0-is) at c.in-Ok-Some.ensures in
     clash_refused folder fold places live i upto opened inv.places (inv.each told) c.in-Ok-Some.number (first on)
