@@ -15,3 +15,4 @@ pub mod Accounts
 pub mod Unrefused
 pub mod FirstBad
 pub mod OneRefusal
+pub mod Fitting

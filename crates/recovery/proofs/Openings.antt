@@ -120,7 +120,7 @@ usable_from fold (bodies, means) = usable_of bodies fold means
         let well = manifest_well (body ∷ bodies) fold means in
         let heads : length (map family_fold means.0) ≡ length means.0 = simp length-map in
         let count = all_families (fold_of means.0) fold bodies means.2 in
-        record { some = omega (arith, count, heads, means.1.new.some); few = omega (arith, count, heads, means.1.new.few); logs = well.some; ascending = well.sorted; places = places_of fold well }
+        record { some = omega (arith, count, heads, means.1.new.some); few = omega (arith, count, heads, means.1.new.few); logs = well.some; ascending = well.sorted; places = places_of fold well; last = well.last }
 
 -- ---- names
 
