@@ -117,4 +117,4 @@ returns-in-Ok-version_of-clause-fits g c =
     let fold = c.args.fold.now in
     let last = c.last_sequence-last.result in
     let e = c.last_sequence-last.ensures in
-    fits_from fold c.deref.result.now c.deref-2.result.now last c.in-Ok-version_of.version c.in-Ok-version_of.ensures e.low (e.within c.requires.last c.in-Ok-open_logs.ensures.within)
+    fits_from fold c.deref.result.now c.deref-2.result.now last c.in-Ok-version_of.version c.in-Ok-version_of.ensures e.low (e.within c.requires.usable.last c.in-Ok-open_logs.ensures.within)
