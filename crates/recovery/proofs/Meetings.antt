@@ -1,5 +1,5 @@
 -- The first table of a level that meets one with a smaller number: two walks together, and the walk along a level.
-use Rattle.std.proofs.Common.{◌≡◌, ◌⊎◌, inl, inr, ⊎_elim, ℕ, ◌+◌, ◌<◌, ◌≤◌, Bool, true, false, not, ◌&&◌, ◌==◌, List, [], ◌∷◌, ◌++◌, filter, length, take, map, get_or, Option, Some, None, refl, sym, ap, ◌∙◌, subst, arith}
+use Rattle.std.proofs.Common.{◌≡◌, ◌⊎◌, inl, inr, ⊎_elim, ℕ, ◌+◌, ◌<◌, ◌≤◌, Bool, true, false, not, ◌==◌, List, [], ◌∷◌, ◌++◌, filter, length, take, map, get_or, Option, Some, None, refl, sym, ap, ◌∙◌, subst, arith}
 use Rattle.std.specs.Prelude.{Contains, nat_lt, if◌then◌else◌, slice_get}
 use Rattle.std.specs.List.Sorted.{IsPermutation, IsSortedBy}
 use Rattle.std.proofs.lemmas.Bool.{and_from, and_parts, cases_Bool, cases_lt, cases_order, eq-eqb, eqb-true, false≢true, le-ltb, lt-ltb, ltb-false, ltb-true}
@@ -13,8 +13,8 @@ use Rattle.floor_laws.proofs.Members.{In, In-append, In-contains, In-filter, In-
 use Rattle.super_version.specs.Levels.{stands_before}
 use Rattle.super_version.specs.Live.{Live}
 use Rattle.super_version.specs.declared.family.TheConstants.{LEVELS}
-use Rattle.recovery.specs.Meeting.{AreOfFiles, AreOnLevels, Clashes, ClashesAmong, ClashesBelow, ClashesIn, ClashesOn, IsFirst, IsMet, IsUpto, Meets, kept_of, least_of, live_number, number_met, opened_number, span_at, table_in}
-use Rattle.recovery.specs.Versions.{IsLevel, is_on, tables_of}
+use Rattle.recovery.specs.Meeting.{AreOfFiles, AreOnLevels, ClashesAmong, ClashesBelow, ClashesIn, ClashesOn, IsFirst, IsMet, IsUpto, Meets, kept_of, least_of, live_number, number_met, opened_number, span_at, table_in}
+use Rattle.recovery.specs.Versions.{is_on, tables_of}
 use Rattle.recovery.specs.declared.tables.Opened.{Opened}
 use Rattle.recovery.proofs.Stating.{least_order}
 

@@ -1,5 +1,5 @@
 -- Which places the tables of a fold have, and when the table at one of them is in order.
-use Rattle.std.proofs.Common.{◌≡◌, ℕ, zero, suc, ◌+◌, ◌<◌, ◌≤◌, Bool, true, false, ◌&&◌, ◌==◌, List, [], ◌∷◌, ◌++◌, length, take, drop, map, get_or, Option, Some, None, refl, sym, ap, ◌∙◌, subst, arith, inl, inr, ⊎_elim, append_assoc, append-nil}
+use Rattle.std.proofs.Common.{◌≡◌, ℕ, zero, suc, ◌+◌, ◌<◌, ◌≤◌, Bool, true, false, List, [], ◌∷◌, ◌++◌, length, take, drop, map, get_or, Option, Some, None, refl, sym, ap, ◌∙◌, subst, arith, inl, inr, ⊎_elim, append_assoc, append-nil}
 use Rattle.std.specs.Prelude.{Contains, nat_eq, slice_get}
 use Rattle.std.specs.List.{AllByRecursion, IsDistinct}
 use Rattle.std.specs.List.Sorted.{IsNonDecreasingBy, IsPermutation, IsStrictlyIncreasing}
@@ -30,7 +30,7 @@ use Rattle.super_version.specs.declared.family.TheConstants.{LEVELS}
 use Rattle.recovery.specs.Meeting.{AreOfFiles, AreOnLevels, Clashes, ClashesAmong, IsFirst, IsUpto, opened_number, span_at, table_in}
 use Rattle.recovery.specs.Places.{AreLivePlaces, AreOpened, HasPlaces, HoldsTable, IsFitting, IsLivePlace, IsTableOpened, IsTableIn, number_at, place_in, place_of, places_from, span_in}
 use Rattle.recovery.specs.Refusals.{IsBadTable}
-use Rattle.recovery.specs.Tables.{AreInOrderBelow, IsApart, IsFlushed, IsInOrder, ReadsAsTable, says_of}
+use Rattle.recovery.specs.Tables.{AreInOrderBelow, IsFlushed, IsInOrder, ReadsAsTable, says_of}
 use Rattle.recovery.specs.declared.live.TablePlace.{TablePlace}
 use Rattle.recovery.specs.declared.tables.Opened.{Opened}
 use Rattle.recovery.proofs.Spans.{span_of_table, span_rises}

@@ -1,7 +1,6 @@
-use Rattle.std.proofs.Common.{None, sym, ap, ◌∙◌, map, subst}
+use Rattle.std.proofs.Common.{None, sym, map, subst}
 use Rattle.std.specs.Arc.{arc_value}
 use Rattle.super_version.specs.Live.{Live}
-use Rattle.recovery.specs.Meeting.{kept_of, least_of, number_met}
 use Rattle.recovery.proofs.Meetings.{Walked, walked_end, walked_first, walked_next}
 use Rattle.recovery.proofs.meeting.first_along.Goals as goal
 
