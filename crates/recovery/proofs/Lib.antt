@@ -10,6 +10,7 @@ pub mod NewStores
 pub mod Openings
 pub mod Elsewhere
 pub mod Stating
+pub mod Meetings
 pub mod Accounts
 pub mod Unrefused
 pub mod FirstBad

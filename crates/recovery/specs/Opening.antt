@@ -16,7 +16,7 @@ use Rattle.manifest.specs.Manifest.{manifest_file, manifest_folded, ShowsFold, F
 use Rattle.super_version.specs.declared.version.SuperVersion.{SuperVersion}
 use Rattle.engine_laws.specs.Logs.{batches_of, last_of, last_over, versions_of}
 use Rattle.recovery.specs.Versions.{ShowsVersion}
-use Rattle.recovery.specs.Places.{AreOpened}
+use Rattle.recovery.specs.Places.{AreOpened, HasPlaces}
 use Rattle.recovery.specs.Refusals.{AreReplayed, IsBadLog, IsBadTable, IsMissingTable}
 use Rattle.recovery.specs.Replayed.{IsNewestLog, above_through}
 use Rattle.recovery.specs.declared.fault.OpenFault.{OpenFault}
@@ -30,6 +30,7 @@ pub record IsUsable (fold : Folded) : Type 0 where
   pub few : length fold.families ≤ FAMILY_LIMIT
   pub logs : 1 ≤ length fold.logs
   pub ascending : IsStrictlyIncreasing fold.logs
+  pub places : HasPlaces fold
   pub last : fold.last.0 ≤ SEQUENCE_LIMIT
 
 -- The super version shows what the files say. The live tables are in order, and are those of the version. The live logs have no gap, and
