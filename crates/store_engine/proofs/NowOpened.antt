@@ -1,23 +1,21 @@
 -- The super version of an opened folder shows each state that the folder stands for.
-use Rattle.std.proofs.Common.{◌≡◌, ◌⊎◌, ℕ, zero, suc, ◌+◌, ◌<◌, ◌≤◌, ◌&&◌, ◌==◌, Bool, true, false, List, [], ◌∷◌, ◌++◌, get_or, length, map, Option, Some, None, refl, sym, ap, ◌∙◌, subst, arith, inl, inr, append-nil}
-use Rattle.std.specs.Prelude.{Contains, filter, if◌then◌else◌, nat_le, nat_lt, slice_get}
+use Rattle.std.proofs.Common.{◌≡◌, ℕ, zero, suc, ◌+◌, ◌<◌, ◌≤◌, ◌&&◌, ◌==◌, Bool, true, false, List, [], ◌∷◌, ◌++◌, get_or, length, map, Some, refl, sym, ap, ◌∙◌, subst, arith, inl, inr, append-nil}
+use Rattle.std.specs.Prelude.{filter, nat_le, nat_lt, slice_get}
 use Rattle.std.specs.Cmp.{IsStrictWeakOrder}
 use Rattle.std.specs.List.{AllByRecursion, flat_map}
 use Rattle.std.specs.List.Sorted.{IsPermutation, IsSortedBy, IsStrictlyIncreasing}
-use Rattle.std.proofs.lemmas.Bool.{and_from, and_parts, cases_Bool, eq-eqb, eqb-true, le-leb, leb-true, lt-eqb, lt-leb}
-use Rattle.std.proofs.lemmas.List.{length-map}
+use Rattle.std.proofs.lemmas.Bool.{and_from, and_parts, cases_Bool, eq-eqb, eqb-true, false≢true, le-leb, leb-false, leb-true, lt-leb, ne_eqb}
 use Rattle.std.proofs.lemmas.List.Sorted.{Contains-permutation, IsPermutation-sym, sorted_far}
 use Rattle.ts_key.specs.declared.numbers.Family.{Family}
 use Rattle.ts_key.specs.declared.numbers.Seq.{Seq}
 use Rattle.ts_key.specs.declared.numbers.Ts.{Ts}
 use Rattle.ts_key.specs.declared.version.Form.{Form}
 use Rattle.ts_key.specs.declared.version.Version.{Version}
-use Rattle.ts_key.specs.Items.{Item}
 use Rattle.sorted_run.specs.Sorts.{sorted}
 use Rattle.memtable.specs.Memtables.{Memtable, versions_of}
 use Rattle.udt_disk.specs.Joint.{Folder}
 use Rattle.udt_model.specs.Crashes.{Course}
-use Rattle.udt_model.specs.State.{State, LiveTable, family_at}
+use Rattle.udt_model.specs.State.{State, LiveTable}
 use Rattle.udt_model.specs.State.{FamilyState as ModelFamily}
 use Rattle.udt_model.specs.Versions.{between}
 use Rattle.manifest_edit.specs.declared.edit.TableAt.{TableAt}
@@ -31,7 +29,7 @@ use Rattle.super_version.specs.Writes.{of_family}
 use Rattle.super_version.specs.declared.family.FamilyState.{FamilyState}
 use Rattle.super_version.specs.declared.family.TheConstants.{LEVELS}
 use Rattle.super_version.specs.declared.version.SuperVersion.{SuperVersion}
-use Rattle.floor_laws.proofs.Families.{between-In, In-between}
+use Rattle.super_version.proofs.Lists.{length_map}
 use Rattle.floor_laws.proofs.Kept.{same_number}
 use Rattle.floor_laws.proofs.Members.{In, In-append, In-contains, In-filter, In-left, In-map, In-right, contains_In, filter-In, map-In}
 use Rattle.floor_laws.proofs.States.{holds_of, some_same, written_of}
@@ -48,13 +46,18 @@ use Rattle.recovery.specs.Places.{AreOpened, number_at, place_in, place_of}
 use Rattle.recovery.specs.Replayed.{above_through, is_unflushed}
 use Rattle.recovery.specs.Tables.{says_of}
 use Rattle.recovery.specs.Versions.{AreLevels, ShowsFamily, is_on, tables_of}
-use Rattle.recovery.specs.declared.live.TablePlace.{TablePlace}
-use Rattle.recovery.specs.declared.tables.Opened.{Opened}
 use Rattle.recovery.proofs.Stating.{least_on, newest_on, on_deeper, on_newest}
 use Rattle.store_engine.specs.Now.{FitsFamily, IsFamilyNow, IsNow, table_shown, tables_shown, versions_held}
 use Rattle.store_engine.proofs.NowRaised.{same_or_not}
 use Rattle.store_engine.proofs.NowWritten.{filter_like, sorted_moves}
-use Rattle.store_engine.proofs.OneForOne.{Once, once-sorted, same_once, times, times-append, times-filter, times-map, times-moved}
+use Rattle.store_engine.proofs.OneForOne.{once-sorted, same_once, times, times-append, times-filter, times-map, times-moved}
+
+-- an opened table, which recovery keeps to itself: what a function of one takes
+abbrev taken_by : {A B : Type 0} → (A → B) → Type 0
+taken_by {A} f = A
+
+abbrev Opened : Type 0
+Opened = taken_by place_of
 
 -- ---- lists
 
@@ -161,7 +164,7 @@ split_levels family n k (o ∷ opened) =
       | inl own ↦ elim (cases_Bool (o.level == n)) [
         | inl here ↦
             let e = eqb-true o.level n here in
-            let a : nat_le (n + 1) o.level ≡ false = lt-leb o.level (n + 1) (omega (arith, e)) in
+            let a : nat_le (n + 1) o.level ≡ false = lt-leb (n + 1) o.level (omega (arith, e)) in
             let b : nat_le n o.level ≡ true = le-leb n o.level (omega (arith, e)) in
             rw (own, here, a, b) (omega (arith, r))
         | inr there ↦ elim (cases_Bool (nat_le (n + 1) o.level)) [
@@ -170,7 +173,10 @@ split_levels family n k (o ∷ opened) =
               let b : nat_le n o.level ≡ true = le-leb n o.level (omega (arith, l)) in
               rw (own, there, c, b) (omega (arith, r))
           | inr c ↦ elim (cases_Bool (nat_le n o.level)) [
-            | inl d ↦ rw (own, there, c, d) (omega (arith, r))
+            | inl d ↦
+                let l = leb-true n o.level d in
+                let g = leb-false (n + 1) o.level c in
+                absurd (false≢true (sym there ∙ eq-eqb o.level n (omega (arith, l, g))))
             | inr d ↦ rw (own, there, c, d) (omega (arith, r))
           ]
         ]
@@ -201,7 +207,7 @@ said_there (x ∷ xs) o up (inl q) =
     rw e (ap (λ (z : Opened). says_of z.table.table.contents) q)
 said_there (x ∷ xs) o up (inr i) =
     let l = up.0 o.table.number (In-map opened_number o xs i) in
-    let e : (x.table.number == o.table.number) ≡ false = lt-eqb x.table.number o.table.number l in
+    let e : (x.table.number == o.table.number) ≡ false = ne_eqb x.table.number o.table.number (λ q. omega (arith, l, q)) in
     rw e (said_there xs o up.1 i)
 
 module _ (folder : Folder) (fold : Folded) (opened : List Opened) (tables : AreOpened folder fold opened) (up : Sorted (map opened_number opened)) (well : IsWell fold) (family : Family) (f : FamilyFold) (there : slice_get fold.families family.0 ≡ Some f) where
@@ -224,8 +230,8 @@ module _ (folder : Folder) (fold : Folded) (opened : List Opened) (tables : AreO
         let live : IsLive fold family f ta.0 = record { family = there; table = In-contains f.tables ta.0 ta.1 } in
         let place = contains_In (map place_of opened) (place_in family ta.0) (tables.places.all (place_in family ta.0) (f, live)) in
         let o = map-In place_of (place_in family ta.0) opened place in
-        let own : o.0.family ≡ family = ap (λ (p : TablePlace). p.family) o.2 in
-        let at : o.0.level ≡ ta.0.level = ap (λ (p : TablePlace). p.table.level) o.2 in
+        let own : o.0.family ≡ family = ap (λ p. p.family) o.2 in
+        let at : o.0.level ≡ ta.0.level = ap (λ p. p.table.level) o.2 in
         let low = well.levels family f ta.0 live in
         let all = on.all in
         let level = get_there levels ta.0.level (omega (arith, low, all)) in
@@ -233,7 +239,7 @@ module _ (folder : Folder) (fold : Folded) (opened : List Opened) (tables : AreO
         let listed : In o.0.table (tables_of family ta.0.level opened) = In-map (λ (z : Opened). z.table) o.0 (filter (is_on family ta.0.level) opened) (In-filter (is_on family ta.0.level) o.0 opened o.1 (on_from family ta.0.level o.0 own at)) in
         let here = contains_In level.0 o.0.table (Contains-permutation (tables_of family ta.0.level opened) level.0 o.0.table same (In-contains (tables_of family ta.0.level opened) o.0.table listed)) in
         let zero_more : 0 + ta.0.level ≡ o.0.level = omega (arith, at) in
-        let is : table_shown family (0 + ta.0.level) o.0.table ≡ t = ap (λ (l : ℕ). table_shown family l o.0.table) zero_more ∙ opened_is o.0 o.1 own ∙ ap (λ (p : TablePlace). table_of said p.table) o.2 ∙ ta.2 in
+        let is : table_shown family (0 + ta.0.level) o.0.table ≡ t = ap (λ (l : ℕ). table_shown family l o.0.table) zero_more ∙ opened_is o.0 o.1 own ∙ ap (λ p. table_of said p.table) o.2 ∙ ta.2 in
         subst (λ (z : LiveTable). In z (tables_shown family 0 levels)) is (shown_at family 0 levels ta.0.level level.0 o.0.table level.1 here)
 
     -- a table on a level was opened there
@@ -293,8 +299,8 @@ above_between : (family : Family) (through last : ℕ) (w : List Version) → ((
 above_between family through last w bounded =
     filter_like (λ (v : Version). v.family.0 == family.0 && nat_lt through v.seq.0 && nat_le v.seq.0 last) (is_above family through) w
     (λ v i. let l = le-leb v.seq.0 last (bounded v i) in and_true (v.family.0 == family.0 && nat_lt through v.seq.0) (nat_le v.seq.0 last) l) where
-  and_true : (a b : Bool) → b ≡ true → (a && b) ≡ a
-  and_true a b y = rw y (elim (cases_Bool a) [ inl x ↦ rw x refl | inr x ↦ rw x refl ])
+      and_true : (a b : Bool) → b ≡ true → (a && b) ≡ a
+      and_true a b y = rw y (elim (cases_Bool a) [ inl x ↦ rw x refl | inr x ↦ rw x refl ])
 
 unflushed_own : (families : List FamilyFold) (family : Family) (f : FamilyFold) (w : List Version) → slice_get families family.0 ≡ Some f → of_family family (above_through families w) ≡ above family f.through.0 w
 unflushed_own families family f [] there = refl
@@ -304,8 +310,8 @@ unflushed_own families family f (v ∷ vs) there =
       | inl own ↦
           let at : slice_get families v.family.0 ≡ Some f = ap (slice_get families) (eqb-true v.family.0 family.0 own) ∙ there in
           elim (cases_Bool (nat_lt f.through.0 v.seq.0)) [
-            | inl y ↦ rw (at, y) (rw (own, y) (ap (λ z. v ∷ z) r))
-            | inr y ↦ rw (at, y) (rw (own, y) r)
+            | inl y ↦ rw at (rw y (rw own (ap (λ z. v ∷ z) r)))
+            | inr y ↦ rw at (rw y (rw own r))
           ]
       | inr other ↦ elim (cases_Bool (is_unflushed families v)) [
         | inl y ↦ rw y (rw other r)
@@ -328,7 +334,7 @@ family_opened folder fold opened tables up well family f w unflushed g there sho
   };
   holds =
       let own : versions_held g ≡ sorted unflushed =
-          ap (λ (l : List Memtable). versions_of g.active ++ flat_map versions_of l) shows.sealed ∙ append-nil (versions_of g.active) ∙ shows.active ∙ ap sorted (unflushed_own fold.families family f w there ∙ sym is) in
+      ap (λ (l : List Memtable). versions_of g.active ++ flat_map versions_of l) shows.sealed ∙ append-nil (versions_of g.active) ∙ shows.active ∙ ap sorted (unflushed_own fold.families family f w there ∙ sym is) in
       subst (IsPermutation unflushed) (sym own) (sorted_moves unflushed);
   tables = same_tables folder fold opened tables up well family f there g.levels shows.levels;
   levels = shows.levels.all;
@@ -338,20 +344,25 @@ family_opened folder fold opened tables up well family f w unflushed g there sho
 
 -- ---- the folder
 
-pub now_opened : (folder : Folder) (fold : Folded) (version : SuperVersion) (m : State) (c : Course) (shown : IsShown folder fold version) → Sorted (map (λ (o : Opened). o.table.number) shown.opened) → Holds m c (account_of fold shown) [] → IsNow version m
-now_opened folder fold version m c shown up holds =
+numbers_are : (opened : List Opened) → map number_at (map place_of opened) ≡ map opened_number opened
+numbers_are [] = refl
+numbers_are (o ∷ opened) = ap (λ (ns : List ℕ). o.table.number ∷ ns) (numbers_are opened)
+
+pub now_opened : (folder : Folder) (fold : Folded) (version : SuperVersion) (m : State) (c : Course) (shown : IsShown folder fold version) → IsStrictlyIncreasing (map number_at (map place_of shown.opened)) → Holds m c (account_of fold shown) [] → IsNow version m
+now_opened folder fold version m c shown ascending holds =
+    let up = rising_sorted (map opened_number shown.opened) (subst IsStrictlyIncreasing (numbers_are shown.opened) ascending) in
     let batches = batches_of shown.logs fold.logs in
     let h = holds_of m holds.sound in
     let bounded = (written_of (length m.families) m.last.0 m.versions h.written).bounded in
     record {
       last = shown.shows.sequence ∙ ap (λ (n : ℕ). let s : Seq = record { 0 = n } in s) (ap (logs.last_over fold.last.0) (sym (append-nil batches)) ∙ sym holds.last);
-      count = shown.shows.families.all ∙ sym (ap length holds.families ∙ length-map (family_said (said_in shown.opened)) fold.families);
+      count = shown.shows.families.all ∙ sym (ap length holds.families ∙ length_map (family_said (said_in shown.opened)) fold.families);
       families = λ i f g of there.
-      let at : slice_get (map (family_said (said_in shown.opened)) fold.families) i.0 ≡ Some f = sym (ap (λ (l : List ModelFamily). slice_get l i.0) holds.families) ∙ of in
-      let ff = get_map (family_said (said_in shown.opened)) fold.families i.0 f at in
-      let through : ff.0.through ≡ f.through = ap (λ (z : ModelFamily). z.through) ff.1.1 in
-      let is : between i f.through.0 m.last.0 m.versions ≡ above i ff.0.through.0 (logs.versions_of batches) =
+          let at : slice_get (map (family_said (said_in shown.opened)) fold.families) i.0 ≡ Some f = sym (ap (λ (l : List ModelFamily). slice_get l i.0) holds.families) ∙ of in
+          let ff = get_map (family_said (said_in shown.opened)) fold.families i.0 f at in
+          let through : ff.0.through ≡ f.through = ap (λ (z : ModelFamily). z.through) ff.1.1 in
+          let is : between i f.through.0 m.last.0 m.versions ≡ above i ff.0.through.0 (logs.versions_of batches) =
           above_between i f.through.0 m.last.0 m.versions bounded ∙ holds.unflushed i f of ∙ ap (λ (bs : List _). above i f.through.0 (logs.versions_of bs)) (append-nil batches) ∙ ap (λ (s : Seq). above i s.0 (logs.versions_of batches)) (sym through) in
-      subst (λ (z : ModelFamily). IsFamilyNow i (between i f.through.0 m.last.0 m.versions) z g) ff.1.1
-      (family_opened folder fold shown.opened shown.tables up holds.well i ff.0 (logs.versions_of batches) (between i f.through.0 m.last.0 m.versions) g ff.1.0 (shown.shows.families.each i.0 ff.0 g ff.1.0 there) is);
+          subst (λ (z : ModelFamily). IsFamilyNow i (between i f.through.0 m.last.0 m.versions) z g) ff.1.1
+          (family_opened folder fold shown.opened shown.tables up holds.well i ff.0 (logs.versions_of batches) (between i f.through.0 m.last.0 m.versions) g ff.1.0 (shown.shows.families.each i.0 ff.0 g ff.1.0 there) is);
     }

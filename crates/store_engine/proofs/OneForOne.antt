@@ -1,5 +1,5 @@
 -- Lists in which no number comes twice, and whose items are the same, are one in another order.
-use Rattle.std.proofs.Common.{◌≡◌, ◌⊎◌, ℕ, ◌+◌, ◌<◌, ◌≤◌, ◌==◌, Bool, true, false, List, [], ◌∷◌, ◌++◌, map, refl, sym, ap, ◌∙◌, subst, arith, inl, inr}
+use Rattle.std.proofs.Common.{◌≡◌, ℕ, ◌+◌, ◌≤◌, ◌==◌, Bool, List, [], ◌∷◌, ◌++◌, map, refl, sym, ap, ◌∙◌, subst, arith, inl, inr}
 use Rattle.std.specs.Prelude.{filter, if◌then◌else◌}
 use Rattle.std.specs.List.{sum_by}
 use Rattle.std.specs.List.Sorted.{IsPermutation}
@@ -41,7 +41,7 @@ pub times-none : {X : Type 0} (number : X → ℕ) (k : ℕ) (xs : List X) → (
 times-none number k [] h = refl
 times-none number k (x ∷ xs) h = elim (cases_Bool (number x == k)) [
   | inl y ↦ absurd (h x (inl refl) (eqb-true (number x) k y))
-  | inr y ↦ rw y (times-none number k xs (λ z i. h z (inr i)))
+  | inr y ↦ let r = times-none number k xs (λ z i. h z (inr i)) in rw y (omega (arith, r))
 ]
 
 pub times-filter : {X : Type 0} (number : X → ℕ) (k : ℕ) (p : X → Bool) (xs : List X) → times number k (filter p xs) ≤ times number k xs

@@ -49,10 +49,10 @@ use Rattle.recovery.proofs.Accounts.{opened_reads, opened_states}
 use Rattle.recovery.proofs.Judging.{next_last}
 use Rattle.recovery.proofs.Openings.{usable_from}
 use Rattle.store_engine.specs.Engines.{HoldsNow, IsEngineOf, IsOneFolder}
-use Rattle.store_engine.specs.Now.{IsNow}
 use Rattle.store_engine.specs.Parts.{ArePartsOf}
 use Rattle.store_engine.specs.Together.{AreNamed, AreTogether}
 use Rattle.store_engine.specs.declared.engine.Engine.{Engine}
+use Rattle.store_engine.proofs.NowOpened.{now_opened}
 use Rattle.store_engine.proofs.Together.{named_on}
 
 -- ---- sequences
@@ -197,8 +197,8 @@ module _ {D F : Type 0} (d : disk.Ghosts D F) (f : file.Ghosts F) (old : D) (par
         let o = are.opened told in
         subst (λ bs. log.Holds f parts.wal bs []) (newest_same told) (o.wal.replayed.rests (λ c left. clean (Log (newest_log fold.logs)) c left))
 
-    pub parts_now : (engine : Engine D F f) → engine.disk ≡ parts.disk → engine.manifest ≡ parts.manifest → engine.wal ≡ parts.wal → fold.next_file ≤ engine.next → (m : State) → FolderStands ReadsAsTable (d.stands old) m → IsNow parts.version m → HoldsNow d f engine parts.version m (course_start m)
-    parts_now engine disk manifest wal more m stands shows =
+    pub parts_now : (engine : Engine D F f) → engine.disk ≡ parts.disk → engine.manifest ≡ parts.manifest → engine.wal ≡ parts.wal → fold.next_file ≤ engine.next → (m : State) → FolderStands ReadsAsTable (d.stands old) m → HoldsNow d f engine parts.version m (course_start m)
+    parts_now engine disk manifest wal more m stands =
         let o = are.opened told in
         let h : Holds m (course_start m) says [] = opened_states (d.stands old) fold parts.version m o.means o.shown stands in
         let settled = stands.stands.settled in
@@ -216,7 +216,7 @@ module _ {D F : Type 0} (d : disk.Ghosts D F) (f : file.Ghosts F) (old : D) (par
           waiting = [];
           engine_of = of_parts;
           holds = h;
-          shows = shows;
+          shows = now_opened (d.stands old) fold parts.version m (course_start m) o.shown o.shown.tables.places.ascending h;
           used = subst (λ ns. All (λ n. n < engine.next) ns) (ap (λ (q : State). q.used) settled) (subst (λ fs. All (λ n. n < engine.next) (flat_map (λ (g : FamilyState). numbers_of g.tables) fs)) (sym h.families)
               (All-from (λ n. n < engine.next) (flat_map (λ (g : FamilyState). numbers_of g.tables) (families_said says.tables fold)) (λ n held. let l = said_low says.tables fold well n held in omega (arith, l, more))));
           runs = sym (ap (λ (q : State). q.halted) settled);

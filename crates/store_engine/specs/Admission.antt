@@ -18,7 +18,7 @@ use Rattle.super_version.specs.declared.family.FamilyState.{FamilyState}
 use Rattle.super_version.specs.declared.version.SuperVersion.{SuperVersion}
 use Rattle.store_engine.specs.Replies.{told_by}
 use Rattle.store_engine.specs.declared.fault.EngineFault.{EngineFault}
-use Rattle.store_engine.specs.declared.fault.EngineFault.TheVariants.{UnknownFamily, BelowFloor, Fell, SequenceFull, FloorFell, FilesFull, NoMemory, DiskFault}
+use Rattle.store_engine.specs.declared.fault.EngineFault.TheVariants.{UnknownFamily, BelowFloor, Fell, SequenceFull, FloorFell, NoMemory, DiskFault}
 
 -- the fault of an answer, where it is one
 abbrev pub fault_of : {A : Type 0} → Result A EngineFault → Option EngineFault

@@ -31,4 +31,4 @@ returns-clause-holds g c old version m are told clean stands =
     let d = g.D.Disk in
     let f = g.D.File.DiskFile in
     let parts : Parts g.row.D.Denot g.row.D-File.Denot f = record { disk = c.args.disk; manifest = c.args.manifest; wal = c.args.wal; version = version } in
-    parts_now d f old parts are told clean _ refl refl refl (let e = ap (λ z. z.next_file) c.fold.ensures in omega (arith, e)) m stands ?
+    parts_now d f old parts are told clean _ refl refl refl (let e = ap (λ z. z.next_file) c.fold.ensures in omega (arith, e)) m stands
