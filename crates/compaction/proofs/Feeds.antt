@@ -1,11 +1,11 @@
 -- A feed of tables: what it takes next, and what its versions are.
-use Rattle.std.proofs.Common.{◌≡◌, ℕ, zero, suc, ◌+◌, ◌-◌, ◌<◌, ◌≤◌, Bool, true, false, ◌&&◌, ◌||◌, List, [], ◌∷◌, ◌++◌, length, map, take, drop, refl, sym, ap, subst, ◌∙◌, arith, inl, inr}
-use Rattle.std.specs.Prelude.{◌==◌, nat_lt, nat_le, if◌then◌else◌, All, Option, Some, None, slice_get}
+use Rattle.std.proofs.Common.{◌≡◌, ℕ, zero, suc, ◌+◌, true, ◌&&◌, ◌||◌, List, [], ◌∷◌, ◌++◌, map, take, drop, refl, sym, ap, subst, ◌∙◌, arith, inl, inr}
+use Rattle.std.specs.Prelude.{◌==◌, nat_lt, All, Option, Some, None, slice_get}
 use Rattle.std.specs.List.{AllByRecursion}
 use Rattle.std.specs.List.Sorted.{IsPermutation}
 use Rattle.std.specs.Str.{bytes_eq}
 use Rattle.std.specs.Ordering.{is_eq}
-use Rattle.std.proofs.lemmas.Bool.{cases_Bool, false≢true, le-leb}
+use Rattle.std.proofs.lemmas.Bool.{cases_Bool, false≢true}
 use Rattle.std.proofs.lemmas.List.{map-append}
 use Rattle.std.proofs.lemmas.List.Elements.{All-nil, All-cons, All-head, All-tail}
 use Rattle.std.proofs.lemmas.List.Kept.{AllPairs-cons}
@@ -16,7 +16,7 @@ use Rattle.ts_key.specs.declared.numbers.Ts.{Ts}
 use Rattle.ts_key.specs.declared.version.Form.{Form}
 use Rattle.ts_key.specs.declared.version.Version.{Version}
 use Rattle.ts_key.specs.Items.{Item, item_of}
-use Rattle.ts_key.specs.Lists.{joined, merged, with_item, standing, stored, onward}
+use Rattle.ts_key.specs.Lists.{joined, merged, with_item, stored}
 use Rattle.ts_key.specs.Order as order
 use Rattle.ts_key.specs.Order.{SortKey, sort_cmp}
 use Rattle.ts_key.specs.Orders as orders
@@ -40,23 +40,20 @@ use Rattle.compaction.specs.Made.{IsInput}
 
 -- ---- places in a list
 
-got_on : (ys : List Item) (n : ℕ) (v : Item) → slice_get ys n ≡ Some v → (n < length ys) × (drop n ys ≡ v ∷ drop (suc n) ys) × (take (suc n) ys ≡ take n ys ++ v ∷ [])
+got_on : (ys : List Item) (n : ℕ) (v : Item) → slice_get ys n ≡ Some v → (drop n ys ≡ v ∷ drop (suc n) ys) × (take (suc n) ys ≡ take n ys ++ v ∷ [])
 got_on [] zero v e = absurd cc
 got_on [] (suc n) v e = absurd cc
-got_on (x ∷ xs) zero v e = let q : x ≡ v = cc in (omega arith, ap (λ (y : Item). y ∷ xs) q, ap (λ (y : Item). y ∷ []) q)
-got_on (x ∷ xs) (suc n) v e = let r = got_on xs n v e in let l = r.0 in (omega (arith, l), r.1, ap (λ (ys : List Item). x ∷ ys) r.2)
+got_on (x ∷ xs) zero v e = let q : x ≡ v = cc in (ap (λ (y : Item). y ∷ xs) q, ap (λ (y : Item). y ∷ []) q)
+got_on (x ∷ xs) (suc n) v e = let r = got_on xs n v e in (r.0, ap (λ (ys : List Item). x ∷ ys) r.1)
 
 -- the version at a place is the first that isn't passed, and one place on it is passed
 pub walk_on : (ys : List Item) (n q : ℕ) (v : Item) → slice_get ys n ≡ Some v → q ≡ n + 1 → (drop n ys ≡ v ∷ drop q ys) × (take q ys ≡ take n ys ++ v ∷ [])
 walk_on ys n q v e on =
     let r = got_on ys n v e in
     let b : q ≡ suc n = omega (arith, on) in (
-      r.1 ∙ ap (λ k. v ∷ drop k ys) (sym b),
-      ap (λ k. take k ys) b ∙ r.2,
+      r.0 ∙ ap (λ k. v ∷ drop k ys) (sym b),
+      ap (λ k. take k ys) b ∙ r.1,
     )
-
-pub walk_more : (ys : List Item) (n : ℕ) (v : Item) → slice_get ys n ≡ Some v → n < length ys
-walk_more ys n v e = (got_on ys n v e).0
 
 pub walk_ends : (ys : List Item) (n : ℕ) → None ≡ slice_get ys n → drop n ys ≡ []
 walk_ends [] zero e = refl

@@ -1,13 +1,14 @@
 use Rattle.std.proofs.Common.{◌≡◌, true, List, [], ◌∷◌, ◌++◌, Some, drop, take, refl, sym, ap, subst, ◌∙◌}
 use Rattle.std.specs.Prelude.{slice_get}
 use Rattle.ts_key.specs.declared.version.Version.{Version}
+use Rattle.ts_key.specs.Counts.{get_inside}
 use Rattle.ts_key.specs.Items.{Item, shown}
 use Rattle.ts_key.specs.Order.{sort_key_of}
 use Rattle.history_gc.specs.Pushed.{AreInOrder}
 use Rattle.merge_cursor.specs.Sides.{is_apart, key_lent}
 use Rattle.super_version.specs.Contents.{version_of_item}
 use Rattle.compaction.specs.Feeding.{count_passed, ends_at, versions_from, walked}
-use Rattle.compaction.proofs.Feeds.{ends_snoc, in_order_more, versions_snoc, walk_ends, walk_more, walk_on}
+use Rattle.compaction.proofs.Feeds.{ends_snoc, in_order_more, versions_snoc, walk_ends, walk_on}
 use Rattle.compaction.proofs.feed.TableFeedFeed.next.Goals as goal
 
 pub returns-in_default : goal.returns-in_default
@@ -20,7 +21,8 @@ returns-in_default c =
 pub next-requires : goal.next-requires
 next-requires c =
     let cs = c.args.self.now.merge.cursors.items in
-    walk_more (walked cs) (count_passed cs) (shown (c.in-Some.key, c.in-Some.hit)) (sym c.in-Some.ensures)
+    let more = get_inside (walked cs) (count_passed cs) (shown (c.in-Some.key, c.in-Some.hit)) (sym c.in-Some.ensures) in
+    λ κ. ((refl, tt), more)
 
 pub invariant_of-self : goal.invariant_of-self
 invariant_of-self c =
