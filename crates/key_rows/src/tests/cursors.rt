@@ -10,10 +10,10 @@ use std::test::Fail;
 use ts_key::{Family, Key, KeyRef, Kind, Op, Seq, Ts, Value, Version, compare};
 
 /// A key and a timestamp, as numbers.
-pub(super) type Row = (u64, u64);
+type Row = (u64, u64);
 
 /// Are these versions in the stored order?
-pub(super) fn are_ordered(versions: &[Version]) -> bool
+fn are_ordered(versions: &[Version]) -> bool
     ensures { OnTrue result (IsOrdered (items_of versions.now)) }
 {
     match versions.split_first() {
@@ -48,7 +48,7 @@ fn run(alloc: Global, len: u8, ts: u64) -> Result<Vec<Version>, Fail> {
 }
 
 /// Runs at the timestamps 0 to `count` - 1.
-pub(super) fn runs(alloc: Global, count: u64, len: u8) -> Result<Vec<Vec<Version>>, Fail> {
+fn runs(alloc: Global, count: u64, len: u8) -> Result<Vec<Vec<Version>>, Fail> {
     let mut runs = Vec::new(alloc);
     for ts in 0..count {
         runs.push(run(alloc, len, ts)?)?;
@@ -57,7 +57,7 @@ pub(super) fn runs(alloc: Global, count: u64, len: u8) -> Result<Vec<Vec<Version
 }
 
 /// Their rows in the stored order.
-pub(super) fn rows(alloc: Global, count: u64, len: u8) -> Result<Vec<Row>, Fail> {
+fn rows(alloc: Global, count: u64, len: u8) -> Result<Vec<Row>, Fail> {
     let mut rows = Vec::new(alloc);
     for key in 0..len {
         for ts in (0..count).rev() {
