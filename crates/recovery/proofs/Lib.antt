@@ -10,7 +10,9 @@ pub mod NewStores
 pub mod Openings
 pub mod Elsewhere
 pub mod Stating
+pub mod Meetings
 pub mod Accounts
 pub mod Unrefused
 pub mod FirstBad
 pub mod OneRefusal
+pub mod Fitting

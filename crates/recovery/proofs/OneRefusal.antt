@@ -1,10 +1,9 @@
 -- A folder is refused in one way at most.
-use Rattle.std.proofs.Common.{◌≡◌, ◌≢◌, ◌⊎◌, ℕ, ◌<◌, ◌≤◌, List, [], ◌∷◌, ◌++◌, length, Option, Some, None, refl, sym, ap, ◌∙◌, subst, arith, inl, inr, ⊎_elim, append_assoc}
+use Rattle.std.proofs.Common.{◌≡◌, ◌⊎◌, ℕ, ◌<◌, ◌≤◌, List, [], ◌∷◌, ◌++◌, length, None, refl, sym, ap, ◌∙◌, subst, arith, inl, inr, append_assoc}
 use Rattle.std.specs.Prelude.{Contains}
 use Rattle.std.proofs.lemmas.Bool.{cases_order}
 use Rattle.std.proofs.lemmas.List.{length-map}
 use Rattle.ts_key.specs.declared.numbers.Family.{Family}
-use Rattle.udt_disk.specs.Crash.{Image}
 use Rattle.udt_disk.specs.Joint.{Folder}
 use Rattle.udt_disk.specs.declared.name.FileName.TheVariants.{Log, Table}
 use Rattle.wal.specs.declared.numbered.Numbered.{Numbered}
@@ -14,18 +13,15 @@ use Rattle.manifest_edit.specs.declared.edit.TableAt.{TableAt}
 use Rattle.manifest_fold.specs.declared.fold.FamilyFold.{FamilyFold}
 use Rattle.manifest_fold.specs.declared.fold.Folded.{Folded}
 use Rattle.manifest.specs.Folders.{Means, chosen}
-use Rattle.manifest.specs.Folders.Meaning.{bad_at, no_store, store}
+use Rattle.manifest.specs.Folders.Meaning.{bad_at, store}
 use Rattle.manifest.specs.Folds.{sizes_of}
 use Rattle.manifest.proofs.Meanings.{means_once}
 use Rattle.floor_laws.proofs.Members.{In, In-contains, In-left, In-right}
-use Rattle.engine_laws.specs.Logs.{batches_of, last_of}
+use Rattle.engine_laws.specs.Logs.{batches_of}
 use Rattle.engine_laws.proofs.Batches.{batches_append, batches_same}
-use Rattle.recovery.specs.Fault.{IsStop}
 use Rattle.recovery.specs.Laws.{OneRefusal}
-use Rattle.recovery.specs.Opening.{RefusesOpening}
 use Rattle.recovery.specs.Refusals.{AreRefused, AreReplayed, IsAhead, IsBadLog, IsBadLogFile, IsBadTable, IsFirstBadLog, IsFirstGap, IsMissingTable, IsReached}
 use Rattle.recovery.specs.Tables.{AreInOrder, IsInOrder}
-use Rattle.recovery.specs.declared.fault.OpenFault.{OpenFault}
 use Rattle.recovery.specs.declared.fault.OpenFault.TheVariants.{NoStore, BadManifest, MissingTable, BadTable, BadLog, DiskFault, NoMemory}
 use Rattle.recovery.proofs.FirstBad.{bad_file_holds_none, bad_file_once}
 use Rattle.recovery.proofs.Openings.{usable_from}

@@ -1,5 +1,5 @@
 -- The parts of an opening together.
-use Rattle.std.proofs.Common.{◌≡◌, ◌≢◌, ℕ, ◌-◌, List, [], ◌∷◌, length, map, max, Some, None, sym, ap, ◌∙◌, subst, arith, inl, inr, ⊎_elim}
+use Rattle.std.proofs.Common.{◌≡◌, ◌≢◌, ℕ, ◌-◌, ◌≤◌, List, [], ◌∷◌, length, map, max, Some, None, sym, ap, ◌∙◌, subst, arith, inl, inr, ⊎_elim}
 use Rattle.std.proofs.lemmas.List.{length-map}
 use Rattle.ts_key.specs.declared.numbers.Seq.{Seq}
 use Rattle.ts_key.specs.declared.version.Version.{Version}
@@ -23,11 +23,12 @@ use Rattle.manifest.specs.Folders.{IsManifestName, Means}
 use Rattle.manifest.specs.Folders.Meaning.{store}
 use Rattle.super_version.specs.declared.version.SuperVersion.{SuperVersion}
 use Rattle.engine_laws.specs.Logs.{batches_of, last_over, versions_of}
+use Rattle.engine_laws.specs.Manifests.{IsWell}
 use Rattle.engine_laws.proofs.Folding.{families_length}
 use Rattle.engine_laws.proofs.Opened.{manifest_well}
 use Rattle.recovery.specs.Opening.{IsShown, IsUsable, RefusesFiles, RefusesOpening}
 use Rattle.recovery.specs.Versions.{ShowsVersion}
-use Rattle.recovery.specs.Places.{AreOpened, IsTableName, RefusesTables}
+use Rattle.recovery.specs.Places.{AreOpened, HasPlaces, IsTableName, RefusesTables}
 use Rattle.recovery.specs.Replayed.{AreInLine, IsLogName, IsNewestLog, RefusesLogs, above_through}
 use Rattle.recovery.specs.Tables.{AreInOrder}
 use Rattle.recovery.specs.declared.fault.OpenFault.{OpenFault}
@@ -102,6 +103,13 @@ all_families start end (body ∷ bodies) lead =
     let k = families_length start lead.1.edit lead.1.edit.family lead.1.accepted.part in
     all_families lead.0 end bodies lead.2 ∙ ap (λ (z : Folded). length z.families) lead.1.is ∙ k
 
+places_of : (fold : Folded) → IsWell fold → HasPlaces fold
+places_of fold well = record {
+  rising = λ family f there. well.ascending family f there;
+  apart = λ p q live other same. well.apart p.family q.family live.0 other.0 p.table q.table live.1 other.1 same;
+  levels = λ p live. (let upto : p.table.level ≤ 6 = well.levels p.family live.0 p.table live.1 in omega (arith, upto));
+}
+
 -- a store can be opened of the fold of each manifest
 pub usable_from : (fold : Folded) → IsManifestFold fold → IsUsable fold
 usable_from fold (bodies, means) = usable_of bodies fold means
@@ -112,7 +120,7 @@ usable_from fold (bodies, means) = usable_of bodies fold means
         let well = manifest_well (body ∷ bodies) fold means in
         let heads : length (map family_fold means.0) ≡ length means.0 = simp length-map in
         let count = all_families (fold_of means.0) fold bodies means.2 in
-        record { some = omega (arith, count, heads, means.1.new.some); few = omega (arith, count, heads, means.1.new.few); logs = well.some; ascending = well.sorted }
+        record { some = omega (arith, count, heads, means.1.new.some); few = omega (arith, count, heads, means.1.new.few); logs = well.some; ascending = well.sorted; places = places_of fold well; last = well.last }
 
 -- ---- names
 

@@ -67,6 +67,15 @@ span_items family (v ∷ vs) sorted = span_sorted family v vs sorted
 pub span_of_table : (t : Contents) (bytes : List ℕ) → IsTable t bytes → span_of (says_of t).versions ≡ span_in t
 span_of_table t bytes table = span_items (record { 0 = t.family }) t.items table.blocks.sorted
 
+last_rises : (vs : List Item) → IsSorted vs → is_at_most (first_key vs) (last_user_key vs) ≡ true
+last_rises [] sorted = refl
+last_rises (v ∷ []) sorted = at_most_itself v.sort_key.key
+last_rises (v ∷ w ∷ vs) sorted = last_above v w vs sorted.0
+
+-- the least key isn't above the greatest
+pub span_rises : (t : Contents) (bytes : List ℕ) → IsTable t bytes → is_at_most (span_in t).low (span_in t).high ≡ true
+span_rises t bytes table = last_rises t.items table.blocks.sorted
+
 -- ---- sequences
 
 all_upto : (family : Family) (n : ℕ) (vs : List Item) → greatest_of (λ (v : Item). v.sort_key.seq) vs ≤ n → AllByRecursion (λ (v : Version). v.seq.0 ≤ n) (map (version_of_item family) vs)

@@ -69,7 +69,7 @@ get_at (y ∷ ys) (suc i) x within is = get_at ys i x (omega (arith, within)) is
 newest_order : IsStrictWeakOrder (stands_before 0)
 newest_order = IsStrictWeakOrder-flip (λ (x : Live) (y : Live). nat_lt (properties x).greatest_seq.0 (properties y).greatest_seq.0) (IsStrictWeakOrder-by_number (λ (t : Live). (properties t).greatest_seq.0))
 
-least_order : IsStrictWeakOrder (stands_before 1)
+pub least_order : IsStrictWeakOrder (stands_before 1)
 least_order = ranks_by nat_list_cmp_total (λ (t : Live). (properties t).least)
 
 pulled : {A : Type 0} (f : A → Live) (lt : Live → Live → Bool) → IsStrictWeakOrder lt → IsStrictWeakOrder (λ (a : A) (b : A). lt (f a) (f b))

@@ -3,6 +3,7 @@ pub mod Looks
 pub mod Tables
 pub mod Refusals
 pub mod Places
+pub mod Meeting
 pub mod Replayed
 pub mod Versions
 pub mod Opening

@@ -1,7 +1,7 @@
 -- What opening a folder as a store finds, and when it is refused.
 use Rattle.std.specs.Prelude.{◌≡◌, ℕ, ◌≤◌, List, length, ⊤, Result, Ok, Err}
 use Rattle.std.specs.List.Sorted.{IsStrictlyIncreasing}
-use Rattle.ts_key.specs.declared.limits.TheConstants.{FAMILY_LIMIT}
+use Rattle.ts_key.specs.declared.limits.TheConstants.{FAMILY_LIMIT, SEQUENCE_LIMIT}
 use Rattle.udt_disk.specs.Joint.{Folder}
 use Rattle.udt_disk.specs.Moments.{IsClean}
 use Rattle.udt_disk.specs.declared.file.DiskFile as file
@@ -16,7 +16,7 @@ use Rattle.manifest.specs.Manifest.{manifest_file, manifest_folded, ShowsFold, F
 use Rattle.super_version.specs.declared.version.SuperVersion.{SuperVersion}
 use Rattle.engine_laws.specs.Logs.{batches_of, last_of, last_over, versions_of}
 use Rattle.recovery.specs.Versions.{ShowsVersion}
-use Rattle.recovery.specs.Places.{AreOpened}
+use Rattle.recovery.specs.Places.{AreOpened, HasPlaces}
 use Rattle.recovery.specs.Refusals.{AreReplayed, IsBadLog, IsBadTable, IsMissingTable}
 use Rattle.recovery.specs.Replayed.{IsNewestLog, above_through}
 use Rattle.recovery.specs.declared.fault.OpenFault.{OpenFault}
@@ -30,6 +30,8 @@ pub record IsUsable (fold : Folded) : Type 0 where
   pub few : length fold.families ≤ FAMILY_LIMIT
   pub logs : 1 ≤ length fold.logs
   pub ascending : IsStrictlyIncreasing fold.logs
+  pub places : HasPlaces fold
+  pub last : fold.last.0 ≤ SEQUENCE_LIMIT
 
 -- The super version shows what the files say. The live tables are in order, and are those of the version. The live logs have no gap, and
 -- the manifest's last sequence isn't above theirs; the memtables have exactly their versions above each `through`, and the last

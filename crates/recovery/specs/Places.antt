@@ -1,13 +1,11 @@
 -- The live tables of a fold, each with its family, and the tables that were read of them.
-use Rattle.std.specs.Prelude.{◌≡◌, ◌≢◌, ℕ, ◌+◌, ◌^◌, ◌<◌, ◌==◌, ◌&&◌, Bool, false, nat_lt, List, [], ◌∷◌, ◌++◌, length, map, Contains, Some, None, ⊤, slice_get}
-use Rattle.std.specs.List.{list_any}
-use Rattle.std.specs.List.Sorted.{IsNonDecreasingBy}
+use Rattle.std.specs.Prelude.{◌≡◌, ◌≢◌, ℕ, ◌+◌, ◌^◌, ◌<◌, List, [], ◌∷◌, ◌++◌, length, map, Contains, Some, None, ⊤, slice_get}
+use Rattle.std.specs.List.Sorted.{IsStrictlyIncreasing}
 use Rattle.ts_key.specs.declared.numbers.Family.{Family}
 use Rattle.udt_disk.specs.Crash.{Image}
 use Rattle.udt_disk.specs.Joint.{Folder}
 use Rattle.udt_disk.specs.declared.name.FileName.{FileName}
 use Rattle.udt_disk.specs.declared.name.FileName.TheVariants.{Table}
-use Rattle.udt_model.specs.Orders.{meets}
 use Rattle.udt_model.specs.declared.reply.KeySpan.{KeySpan}
 use Rattle.manifest_edit.specs.declared.edit.TableAt.{TableAt}
 use Rattle.manifest_fold.specs.declared.fold.FamilyFold.{FamilyFold}
@@ -16,8 +14,9 @@ use Rattle.block_table.specs.Contents.{Contents, first_key, last_user_key}
 use Rattle.block_table.specs.Held.{Held}
 use Rattle.block_table.specs.Reads.{IsOnlyTable}
 use Rattle.block_table.specs.Tables.{IsTable}
-use Rattle.engine_laws.specs.Manifests.{IsLive}
+use Rattle.engine_laws.specs.Manifests.{IsLive, number_of}
 use Rattle.engine_laws.specs.Standing.{Fits}
+use Rattle.super_version.specs.declared.family.TheConstants.{LEVELS}
 use Rattle.recovery.specs.Refusals.{IsBadTable, IsMissingTable}
 use Rattle.recovery.specs.Tables.{AreInOrder, IsFlushed, says_of}
 use Rattle.recovery.specs.declared.fault.OpenFault.{OpenFault}
@@ -44,11 +43,17 @@ number_at p = p.table.number
 abbrev pub IsLivePlace : Folded → TablePlace → Type 0
 IsLivePlace fold p = (f : FamilyFold) × IsLive fold p.family f p.table
 
--- these are the live tables, by ascending number
+-- each live table has a number of its own, and stands on a level that there is
+pub record HasPlaces (fold : Folded) : Type 0 where
+  pub rising : (family : Family) (f : FamilyFold) → slice_get fold.families family.0 ≡ Some f → IsStrictlyIncreasing (map number_of f.tables)
+  pub apart : (p q : TablePlace) → IsLivePlace fold p → IsLivePlace fold q → p.table.number ≡ q.table.number → p.family ≡ q.family
+  pub levels : (p : TablePlace) → IsLivePlace fold p → p.table.level < LEVELS
+
+-- these are the live tables, each once, by ascending number
 pub record AreLivePlaces (fold : Folded) (places : List TablePlace) : Type 0 where
   pub each : (p : TablePlace) → Contains places p → IsLivePlace fold p
   pub all : (p : TablePlace) → IsLivePlace fold p → Contains places p
-  pub ascending : IsNonDecreasingBy number_at places
+  pub ascending : IsStrictlyIncreasing (map number_at places)
 
 -- ---- tables that were read
 
@@ -79,10 +84,6 @@ place_of o = record { family = o.family; table = record { level = o.level; numbe
 abbrev pub span_in : Contents → KeySpan
 span_in t = record { low = first_key t.items; high = last_user_key t.items }
 
--- a table that was read stands on the level of this place, which is 1 at least, has a smaller number, and its span meets this one's
-abbrev pub meets_before : TablePlace → Contents → Opened → Bool
-meets_before p t o = (o.family.0 == p.family.0 && (o.level == p.table.level && (nat_lt 0 p.table.level && nat_lt o.table.number p.table.number))) && meets (span_in o.table.table.contents) (span_in t)
-
 -- it fits the family, and has nothing above `through`
 pub record IsFitting (family : Family) (f : FamilyFold) (t : Contents) : Type 0 where
   pub fits : Fits family f (says_of t)
@@ -93,15 +94,15 @@ pub record IsTableOpened (folder : Folder) (f : FamilyFold) (o : Opened) : Type 
   pub held : IsTableIn (folder (Table o.table.number)) o.table.table
   pub fitting : IsFitting o.family f o.table.table.contents
 
--- why a live table isn't opened behind these
-abbrev pub RefusesPlace : Folder → FamilyFold → TablePlace → List Opened → OpenFault → Type 0
-RefusesPlace folder f p before faults.NoStore = ⊥
-RefusesPlace folder f p before (faults.BadManifest at) = ⊥
-RefusesPlace folder f p before (faults.MissingTable k) = (k ≡ number_at p) × (folder (Table k) ≡ None)
-RefusesPlace folder f p before (faults.BadTable k) = (k ≡ number_at p) × (folder (Table k) ≢ None) × ((t : Contents) → HoldsTable (folder (Table k)) t → IsFitting p.family f t → list_any (meets_before p t) before ≡ false → ⊥)
-RefusesPlace folder f p before (faults.BadLog k at) = ⊥
-RefusesPlace folder f p before faults.DiskFault = ⊤
-RefusesPlace folder f p before faults.NoMemory = ⊤
+-- why a live table isn't opened, whatever the others are
+abbrev pub RefusesPlace : Folder → FamilyFold → TablePlace → OpenFault → Type 0
+RefusesPlace folder f p faults.NoStore = ⊥
+RefusesPlace folder f p (faults.BadManifest at) = ⊥
+RefusesPlace folder f p (faults.MissingTable k) = (k ≡ number_at p) × (folder (Table k) ≡ None)
+RefusesPlace folder f p (faults.BadTable k) = (k ≡ number_at p) × (folder (Table k) ≢ None) × ((t : Contents) → HoldsTable (folder (Table k)) t → IsFitting p.family f t → ⊥)
+RefusesPlace folder f p (faults.BadLog k at) = ⊥
+RefusesPlace folder f p faults.DiskFault = ⊤
+RefusesPlace folder f p faults.NoMemory = ⊤
 
 -- the live tables of the fold were read, and are in order
 pub record AreOpened (folder : Folder) (fold : Folded) (opened : List Opened) : Type 0 where

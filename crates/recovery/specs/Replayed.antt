@@ -1,6 +1,7 @@
 -- What the live logs of a fold say together, while they are read one by one.
-use Rattle.std.specs.Prelude.{◌≡◌, ◌⊎◌, ℕ, ◌-◌, ◌≤◌, ◌==◌, Bool, true, false, nat_lt, if◌then◌else◌, List, [], ◌∷◌, ◌++◌, filter, Option, Some, None, ⊤, slice_get, Result, Ok, Err}
+use Rattle.std.specs.Prelude.{◌≡◌, ◌⊎◌, ℕ, ◌+◌, ◌-◌, ◌≤◌, ◌==◌, Bool, true, false, nat_lt, if◌then◌else◌, List, [], ◌∷◌, ◌++◌, filter, Option, Some, None, ⊤, slice_get, IfSome, Result, Ok, Err}
 use Rattle.std.specs.List.Sorted.{IsStrictlyIncreasing}
+use Rattle.ts_key.specs.declared.limits.TheConstants.{SEQUENCE_LIMIT}
 use Rattle.ts_key.specs.declared.version.Version.{Version}
 use Rattle.udt_disk.specs.Crash.{Image}
 use Rattle.udt_disk.specs.Joint.{Folder}
@@ -46,6 +47,10 @@ above_through families w = filter (is_unflushed families) w
 abbrev pub next_behind : Option ℕ → List Numbered → Option ℕ
 next_behind next [] = next
 next_behind next (b ∷ batches) = next_behind (Some (sequence_after b)) batches
+
+-- the sequence that comes next, where there is a batch, follows one that is at most the greatest
+abbrev pub IsNextWithin : Option ℕ → Type 0
+IsNextWithin next = IfSome next (λ n. n ≤ SEQUENCE_LIMIT + 1)
 
 -- the first batch, where there is one, begins with the sequence that comes next
 abbrev pub starts_at : Option ℕ → List Numbered → Bool

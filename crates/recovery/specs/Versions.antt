@@ -1,6 +1,7 @@
 -- What the super version of a folder shows of its manifest, tables and logs.
-use Rattle.std.specs.Prelude.{◌≡◌, ℕ, ◌==◌, ◌&&◌, Bool, List, [], filter, length, map, slice_get, Some}
+use Rattle.std.specs.Prelude.{◌≡◌, ℕ, ◌≤◌, ◌==◌, ◌&&◌, Bool, List, [], filter, length, map, slice_get, Some}
 use Rattle.std.specs.List.Sorted.{IsPermutation, IsSortedBy}
+use Rattle.ts_key.specs.declared.limits.TheConstants.{SEQUENCE_LIMIT}
 use Rattle.ts_key.specs.declared.numbers.Family.{Family}
 use Rattle.ts_key.specs.declared.numbers.Seq.{Seq}
 use Rattle.ts_key.specs.declared.version.Version.{Version}
@@ -56,3 +57,18 @@ pub record AreStates (opened : List Opened) (versions : List Version) (families 
 pub record ShowsVersion (fold : Folded) (opened : List Opened) (w : List Version) (last : Seq) (version : SuperVersion) : Type 0 where
   pub sequence : version.last ≡ last
   pub families : AreStates opened w fold.families (length fold.families) version.families
+
+-- ---- what it has in common with the manifest
+
+-- the family has the form, the floor and the `through` of the manifest
+pub record IsOfFold (f : FamilyFold) (state : FamilyState) : Type 0 where
+  pub form : state.form ≡ f.form
+  pub floor : state.floor ≡ f.floor
+  pub through : state.through ≡ f.through
+
+-- The families are those of the fold, and the last sequence isn't below the fold's. So it is whether or not the disk tells what it holds.
+pub record FitsFold (fold : Folded) (version : SuperVersion) : Type 0 where
+  pub last : fold.last.0 ≤ version.last.0
+  pub within : version.last.0 ≤ SEQUENCE_LIMIT
+  pub all : length version.families ≡ length fold.families
+  pub each : (i : ℕ) (f : FamilyFold) (state : FamilyState) → slice_get fold.families i ≡ Some f → slice_get version.families i ≡ Some state → IsOfFold f state

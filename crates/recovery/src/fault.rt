@@ -35,6 +35,20 @@ pub enum OpenFault {
     NoMemory,
 }
 
+impl OpenFault {
+    ghost use Rattle.std.specs.Prelude.{◌≡◌, false};
+    ghost use Rattle.std.specs.Bool.{OnTrue, OnFalse};
+    ghost use Rattle.recovery.specs.Fault.{IsStop, is_open_disk_fault};
+
+    /// Whether it tells nothing of the folder: the disk failed, or memory ran out.
+    pub(crate) fn is_stop(self) -> bool
+        ensures yes { OnTrue result (IsStop self) }
+        ensures no { OnFalse result (is_open_disk_fault self ≡ false) }
+    {
+        matches!(self, OpenFault::DiskFault | OpenFault::NoMemory)
+    }
+}
+
 impl From<AllocError> for OpenFault {
     ghost use Rattle.std.specs.Prelude.{◌≡◌};
     ghost use Rattle.recovery.specs.declared.fault.OpenFault.{OpenFault};

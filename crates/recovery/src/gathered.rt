@@ -4,7 +4,7 @@ ghost use Rattle.std.specs.Prelude.{◌≡◌, ◌++◌, [], None, All, OnOk, sl
 ghost use Rattle.wal.specs.Sequences.{IsNumberedWithin};
 ghost use Rattle.udt_model.specs.Versions.{logged};
 ghost use Rattle.engine_laws.specs.Logs.{versions_of};
-ghost use Rattle.recovery.specs.Replayed.{gap_behind, is_over, next_behind as next_of, starts_at as starts_at_next, above_through};
+ghost use Rattle.recovery.specs.Replayed.{IsNextWithin, gap_behind, is_over, next_behind as next_of, starts_at as starts_at_next, above_through};
 
 use crate::NoMemory;
 use manifest_fold::FamilyFold;
@@ -70,7 +70,8 @@ fn push_batches(
 /// The sequence that comes behind batches, where `next` comes before them.
 fn next_behind(next: Option<u64>, batches: &[Numbered]) -> Option<u64>
     requires { All IsNumberedWithin batches.now }
-    ensures { result ≡ next_of next batches.now }
+    ensures next { result ≡ next_of next batches.now }
+    ensures within { IsNextWithin next → IsNextWithin result }
 {
     match batches.last() {
         None => next,
@@ -112,6 +113,7 @@ impl Gathered {
         requires { All IsNumberedWithin batches.now }
         ensures versions { OnOk result (self.new.versions.items ≡ self.old.versions.items ++ above_through families.now (versions_of batches.now)) }
         ensures next { OnOk result (self.new.next ≡ next_of self.old.next batches.now) }
+        ensures within { IsNextWithin self.old.next → OnOk result (IsNextWithin self.new.next) }
         ensures gap { OnOk result (self.new.gap ≡ gap_behind self.old.gap self.old.next number batches.now) }
     {
         if self.gap.is_none() && !starts_at(self.next, batches) {

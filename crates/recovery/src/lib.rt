@@ -10,6 +10,7 @@ mod laws;
 mod live;
 mod logs;
 mod making;
+mod meeting;
 mod opening;
 mod tables;
 mod version;

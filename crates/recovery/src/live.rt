@@ -2,7 +2,7 @@
 
 ghost use Rattle.std.specs.Prelude.{◌≡◌, ◌≤◌, ◌++◌, length, map, IfOk, OnOk};
 ghost use Rattle.ts_key.specs.declared.limits.TheConstants.{FAMILY_LIMIT};
-ghost use Rattle.recovery.specs.Places.{AreLivePlaces, place_in, places_from};
+ghost use Rattle.recovery.specs.Places.{AreLivePlaces, HasPlaces, place_in, places_from};
 
 use crate::NoMemory;
 use manifest_edit::TableAt;
@@ -47,9 +47,10 @@ fn tables_of(alloc: Global, families: &[FamilyFold]) -> Result<Vec<TablePlace>, 
     Ok(places)
 }
 
-/// The live tables of a fold, by ascending number.
+/// The live tables of a fold, each once, by ascending number.
 pub(crate) fn live_tables(alloc: Global, fold: &Folded) -> Result<Vec<TablePlace>, NoMemory>
-    requires { length fold.now.families ≤ FAMILY_LIMIT }
+    requires few { length fold.now.families ≤ FAMILY_LIMIT }
+    requires places { HasPlaces fold.now }
     ensures { IfOk result (λ places. AreLivePlaces fold.now places.items) }
 {
     let mut places = tables_of(alloc, fold.families.as_slice())?;

@@ -15,7 +15,7 @@ ghost use Rattle.manifest.specs.Folds.{sizes_of};
 ghost use Rattle.manifest_fold.specs.Folds.{newest_log};
 ghost use Rattle.recovery.specs.Fault.{is_open_disk_fault};
 ghost use Rattle.recovery.specs.Looks.{Looks};
-ghost use Rattle.recovery.specs.Replayed.{AreInLine, IsGathered, IsJudged, IsLogName, IsNewestLog, IsNewestOf, IsReplayed, RefusesLog, RefusesLogs, RefusesOldest, files_taken, is_ahead as stands_ahead};
+ghost use Rattle.recovery.specs.Replayed.{AreInLine, IsGathered, IsJudged, IsLogName, IsNewestLog, IsNewestOf, IsNextWithin, IsReplayed, RefusesLog, RefusesLogs, RefusesOldest, files_taken, is_ahead as stands_ahead};
 
 use crate::gathered::Gathered;
 use crate::{NoMemory, OpenFault};
@@ -129,6 +129,7 @@ pub(crate) fn read_logs<D: Disk>(
     requires ascending { IsStrictlyIncreasing fold.now.logs }
     requires oldest { (rest : List ℕ) × (fold.now.logs ≡ oldest.now ++ rest) }
     ensures gathered { IfOk result (λ g. IsTrue (D.is_told disk.old) → IsGathered fold.now (D.stands disk.old) oldest.now g) }
+    ensures within { IfOk result (λ g. IsNextWithin g.next) }
     ensures looks { Looks D.Disk D.File.DiskFile IsLogName disk.old disk.new }
     ensures refused { IfErr result (λ e. IsTrue (D.is_told disk.old) → RefusesOldest fold.now (D.stands disk.old) e) }
     ensures kept { OnOk result (D.faults disk.new ≡ D.faults disk.old) }
@@ -183,6 +184,7 @@ fn with_newest(
 ) -> Result<Gathered, OpenFault>
     requires { All IsNumberedWithin batches.now }
     ensures line { IfOk result (λ g. (folder : Folder) (oldest : List ℕ) → IsNewestOf fold.now folder oldest newest batches.now gathered → AreInLine fold.now folder g) }
+    ensures within { IsNextWithin gathered.next → IfOk result (λ g. IsNextWithin g.next) }
     ensures refused { IfErr result (λ e. (folder : Folder) (oldest : List ℕ) → IsNewestOf fold.now folder oldest newest batches.now gathered → RefusesLogs fold.now folder e) }
     ensures stops { IfErr result (λ e. is_open_disk_fault e ≡ false) }
 {
@@ -206,6 +208,7 @@ pub(crate) fn open_logs<D: Disk>(
     requires logs { 1 ≤ length fold.now.logs }
     requires ascending { IsStrictlyIncreasing fold.now.logs }
     ensures line { IfOk result (λ r. IsTrue (D.is_told disk.old) → AreInLine fold.now (D.stands disk.old) r.1) }
+    ensures within { IfOk result (λ r. IsNextWithin r.1.next) }
     ensures newest { IfOk result (λ r. IsTrue (D.is_told disk.old) → IsNewestLog D.Disk D.File.DiskFile disk.old fold.now r.0) }
     ensures sizes { IfOk result (λ r. wal_sizes r.0 ≡ sizes_of fold.now) }
     ensures pending { IfOk result (λ r. wal_pending r.0 ≡ 0) }

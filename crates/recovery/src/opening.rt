@@ -1,7 +1,7 @@
 //! Opening a folder as a store: its manifest is read, and then its live tables and logs. It writes nothing.
 
 ghost use Rattle.std.specs.Prelude.{◌≡◌, ◌≤◌, ◌++◌, ◌∷◌, [], ℕ, List, length, IfOk, IfErr, IfSome, OnOk, IsTrue};
-ghost use Rattle.ts_key.specs.declared.limits.TheConstants.{FAMILY_LIMIT};
+ghost use Rattle.ts_key.specs.declared.limits.TheConstants.{FAMILY_LIMIT, SEQUENCE_LIMIT};
 ghost use Rattle.udt_disk.specs.Causes.{IsCause};
 ghost use Rattle.udt_disk.specs.Joint.{Folder, IsFree};
 ghost use Rattle.udt_disk.specs.Moments.{OnlyReads, alone, holding};
@@ -13,13 +13,14 @@ ghost use Rattle.wal.specs.Wals.{wal_file, wal_sizes, wal_pending};
 ghost use Rattle.manifest_fold.specs.Folds.{newest_log};
 ghost use Rattle.manifest.specs.Answers.{is_manifest_disk_fault};
 ghost use Rattle.manifest.specs.Folders.{IsManifestName, Means, told_by_fault};
-ghost use Rattle.manifest.specs.Folds.{sizes_of};
-ghost use Rattle.manifest.specs.Manifest.{manifest_file, manifest_folded};
+ghost use Rattle.manifest.specs.Folds.{IsManifestFold, sizes_of};
+ghost use Rattle.manifest.specs.Manifest.{IsManifestReady, manifest_file, manifest_folded};
 ghost use Rattle.engine_laws.specs.Logs.{last_over};
 ghost use Rattle.recovery.specs.Fault.{is_open_disk_fault};
 ghost use Rattle.recovery.specs.Opening.{IsOpenedAs, IsShown, IsUsable, RefusesFiles, RefusesOpening, disk_after};
 ghost use Rattle.recovery.specs.Places.{IsTableName};
-ghost use Rattle.recovery.specs.Replayed.{IsLogName, IsNewestLog, files_taken};
+ghost use Rattle.recovery.specs.Versions.{FitsFold};
+ghost use Rattle.recovery.specs.Replayed.{IsLogName, IsNewestLog, IsNextWithin, files_taken};
 
 use crate::OpenFault;
 use crate::logs::open_logs;
@@ -44,7 +45,9 @@ pub struct Parts<D: Disk> {
 
 /// The last sequence: the greater of the manifest's and the last of the logs.
 fn last_sequence(last: Seq, next: Option<u64>) -> Seq
-    ensures { (batches : List Numbered) → next ≡ next_sequence batches → result.0 ≡ last_over last.0 batches }
+    ensures over { (batches : List Numbered) → next ≡ next_sequence batches → result.0 ≡ last_over last.0 batches }
+    ensures low { last.0 ≤ result.0 }
+    ensures within { last.0 ≤ SEQUENCE_LIMIT → IsNextWithin next → result.0 ≤ SEQUENCE_LIMIT }
 {
     match next {
         None => last,
@@ -72,6 +75,7 @@ fn open_files<D: Disk>(
 ) -> Result<(Wal<D::File>, SuperVersion), OpenFault>
     requires usable { IsUsable fold.now }
     ensures shown { IfOk result (λ r. IsTrue (D.is_told disk.old) → IsShown (D.stands disk.old) fold.now r.1) }
+    ensures fits { IfOk result (λ r. FitsFold fold.now r.1) }
     ensures newest { IfOk result (λ r. IsTrue (D.is_told disk.old) → IsNewestLog D.Disk D.File.DiskFile disk.old fold.now r.0) }
     ensures sizes { IfOk result (λ r. wal_sizes r.0 ≡ sizes_of fold.now) }
     ensures pending { IfOk result (λ r. wal_pending r.0 ≡ 0) }
@@ -112,7 +116,10 @@ pub fn open_store<D: Disk>(alloc: Global, mut disk: D) -> Result<Parts<D>, (D, O
     ensures opened { IfOk result (λ p. IsTrue (D.is_told disk) → IsOpenedAs D.Disk D.File.DiskFile disk p) }
     ensures refused { IfErr result (λ e. IsTrue (D.is_told disk) → RefusesOpening (D.stands disk) e.1) }
 
-    // What a caller needs of the parts.
+    // What a caller needs of the parts, whether or not the disk tells what it holds.
+    ensures folds { IfOk result (λ p. IsManifestFold (manifest_folded p.manifest)) }
+    ensures fits { IfOk result (λ p. FitsFold (manifest_folded p.manifest) p.version) }
+    ensures ready { IfOk result (λ p. IsManifestReady D.File.DiskFile p.manifest) }
     ensures sizes { IfOk result (λ p. wal_sizes p.wal ≡ sizes_of (manifest_folded p.manifest)) }
     ensures pending { IfOk result (λ p. wal_pending p.wal ≡ 0) }
     ensures wal_name { IfOk result (λ p. D.File.name (wal_file p.wal) ≡ Log (newest_log (manifest_folded p.manifest).logs)) }

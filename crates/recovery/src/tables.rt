@@ -1,20 +1,20 @@
-//! The live tables of a fold: each is read, and judged by its family and by those with smaller numbers.
+//! The live tables of a fold: each is read and judged by its family, and then they are judged together.
 
-ghost use Rattle.std.specs.Prelude.{◌≡◌, ◌≤◌, false, Some, length, IfOk, IfErr, OnOk, IsTrue, slice_get};
+ghost use Rattle.std.specs.Prelude.{◌≡◌, ◌≤◌, Some, length, IfOk, IfErr, OnOk, IsTrue, slice_get};
 ghost use Rattle.std.specs.Bool.{OnTrue, OnFalse};
-ghost use Rattle.std.specs.List.{list_any};
 ghost use Rattle.ts_key.specs.declared.limits.TheConstants.{FAMILY_LIMIT};
 ghost use Rattle.udt_disk.specs.Causes.{IsCause};
 ghost use Rattle.udt_disk.specs.declared.name.FileName.{FileName as NameOf};
 ghost use Rattle.udt_disk.specs.declared.name.FileName.TheVariants.{Table as TableName};
-ghost use Rattle.udt_model.specs.Orders.{meets as spans_meet};
 ghost use Rattle.recovery.specs.Fault.{is_open_disk_fault};
 ghost use Rattle.recovery.specs.Looks.{Looks};
-ghost use Rattle.recovery.specs.Places.{AreOpened, IsFitting, IsLivePlace, IsTableOpened, IsTableIn, IsTableName, RefusesPlace, RefusesReading, RefusesTables, meets_before, place_of, span_in};
+ghost use Rattle.recovery.specs.Meeting.{AreOnLevels, IsFirstFault};
+ghost use Rattle.recovery.specs.Places.{AreOpened, HasPlaces, IsFitting, IsLivePlace, IsTableOpened, IsTableIn, IsTableName, RefusesPlace, RefusesReading, RefusesTables, place_of};
 
 use crate::OpenFault;
 use crate::file::read_image;
 use crate::live::{TablePlace, live_tables};
+use crate::meeting::first_meeting;
 use block_table::{Table, TableFault};
 use manifest_fold::{FamilyFold, Folded};
 use std::alloc::Global;
@@ -72,47 +72,16 @@ fn fits(table: &Table, number: Family, family: &FamilyFold) -> bool
     true
 }
 
-/// Whether the spans of their keys meet.
-fn meets(a: &Table, b: &Table) -> bool
-    ensures { result ≡ spans_meet (span_in a.now.contents) (span_in b.now.contents) }
-{
-    let a = a.properties();
-    let b = b.properties();
-    a.least.bytes().cmp(&b.greatest.bytes()).is_le()
-        && b.least.bytes().cmp(&a.greatest.bytes()).is_le()
-}
-
-/// Whether a table that was read stands on the level of this place, which is 1 at least, has a smaller number, and a span that
-/// meets this table's.
-fn meets_at(table: &Table, place: TablePlace, other: &Opened) -> bool
-    ensures { result ≡ meets_before place table.now.contents other.now }
-{
-    other.family.0 == place.family.0
-        && other.level == place.table.level
-        && 0 < place.table.level
-        && other.table.number() < place.table.number
-        && meets(other.table.table(), table)
-}
-
-/// Whether one of those that were read does.
-fn meets_some(table: &Table, place: TablePlace, opened: &[Opened]) -> bool
-    ensures { result ≡ list_any (meets_before place table.now.contents) opened.now }
-{
-    opened.iter().any(|other| meets_at(table, place, other))
-}
-
-/// Opens a live table of a family, behind those with smaller numbers.
+/// Opens a live table of a family.
 fn open_table<D: Disk>(
     alloc: Global,
     disk: &mut D,
     family: &FamilyFold,
     place: TablePlace,
-    opened: &[Opened],
 ) -> Result<Opened, OpenFault>
     ensures opened { IfOk result (λ o. IsTrue (D.is_told disk.old) → IsTableOpened (D.stands disk.old) family.now o) }
     ensures place { IfOk result (λ o. place_of o ≡ place) }
-    ensures apart { IfOk result (λ o. list_any (meets_before place o.table.table.contents) opened.now ≡ false) }
-    ensures refused { IfErr result (λ e. IsTrue (D.is_told disk.old) → RefusesPlace (D.stands disk.old) family.now place opened.now e) }
+    ensures refused { IfErr result (λ e. IsTrue (D.is_told disk.old) → RefusesPlace (D.stands disk.old) family.now place e) }
     ensures looks { Looks D.Disk D.File.DiskFile IsTableName disk.old disk.new }
     ensures kept { OnOk result (D.faults disk.new ≡ D.faults disk.old) }
     ensures cause { IfErr result (λ fault. IsCause (is_open_disk_fault fault) (D.faults disk.old) (D.faults disk.new)) }
@@ -120,7 +89,7 @@ fn open_table<D: Disk>(
 {
     let number = place.table.number;
     let table = read_table(alloc, disk, number)?;
-    if !fits(&table, place.family, family) || meets_some(&table, place, opened) {
+    if !fits(&table, place.family, family) {
         return Err(OpenFault::BadTable { number });
     }
     match Arc::new(alloc, table) {
@@ -141,13 +110,31 @@ fn family_of<'a>(fold: &'a Folded, place: TablePlace) -> &'a FamilyFold
     &fold.families.as_slice()[place.family.0 as usize]
 }
 
+/// What is told where a table isn't opened behind these: the first of these that meets one with a smaller number, where there is
+/// one, and otherwise why it isn't.
+fn first_fault(alloc: Global, fold: &Folded, opened: &[Opened], fault: OpenFault) -> OpenFault
+    requires { length fold.now.families ≤ FAMILY_LIMIT }
+    ensures first { AreOnLevels opened.now → IsFirstFault (length fold.now.families) opened.now fault result }
+    ensures cause { is_open_disk_fault result ≡ is_open_disk_fault fault }
+{
+    if fault.is_stop() {
+        return fault;
+    }
+    match first_meeting(alloc, fold, opened) {
+        Ok(None) => fault,
+        Ok(Some(number)) => OpenFault::BadTable { number },
+        Err(_) => OpenFault::NoMemory,
+    }
+}
+
 /// Opens the live tables of a fold, by ascending number. The first that is missing or not in order is told.
 pub(crate) fn open_tables<D: Disk>(
     alloc: Global,
     disk: &mut D,
     fold: &Folded,
 ) -> Result<Vec<Opened>, OpenFault>
-    requires { length fold.now.families ≤ FAMILY_LIMIT }
+    requires few { length fold.now.families ≤ FAMILY_LIMIT }
+    requires places { HasPlaces fold.now }
     ensures opened { IfOk result (λ opened. IsTrue (D.is_told disk.old) → AreOpened (D.stands disk.old) fold.now opened.items) }
     ensures refused { IfErr result (λ e. IsTrue (D.is_told disk.old) → RefusesTables fold.now (D.stands disk.old) e) }
     ensures looks { Looks D.Disk D.File.DiskFile IsTableName disk.old disk.new }
@@ -159,14 +146,18 @@ pub(crate) fn open_tables<D: Disk>(
     let mut opened = Vec::new(alloc);
     for place in &places {
         let family = family_of(fold, *place);
-        let table = match open_table(alloc, disk, family, *place, &opened) {
+        let table = match open_table(alloc, disk, family, *place) {
             Ok(table) => table,
-            Err(fault) => return Err(fault),
+            Err(fault) => return Err(first_fault(alloc, fold, &opened, fault)),
         };
         match opened.push(table) {
             Ok(()) => {}
             Err(_) => return Err(OpenFault::NoMemory),
         }
     }
-    Ok(opened)
+    match first_meeting(alloc, fold, &opened) {
+        Ok(None) => Ok(opened),
+        Ok(Some(number)) => Err(OpenFault::BadTable { number }),
+        Err(_) => Err(OpenFault::NoMemory),
+    }
 }

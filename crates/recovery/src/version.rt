@@ -48,7 +48,7 @@ fn memtable_of(alloc: Global, family: Family, versions: &[Version]) -> Result<Me
 }
 
 /// The tables of a family on a level, by ascending number.
-fn tables_on(
+pub(crate) fn tables_on(
     alloc: Global,
     family: Family,
     level: u32,
@@ -93,7 +93,7 @@ fn newest_first(tables: Vec<Arc<LiveTable>>) -> Vec<Arc<LiveTable>>
 }
 
 /// The tables of a deeper level, in order.
-fn least_first(tables: Vec<Arc<LiveTable>>) -> Vec<Arc<LiveTable>>
+pub(crate) fn least_first(tables: Vec<Arc<LiveTable>>) -> Vec<Arc<LiveTable>>
     ensures { IsLevel 1 (map arc_value tables.items) (map arc_value result.items) }
 {
     let mut tables = tables;

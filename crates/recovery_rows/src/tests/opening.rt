@@ -90,6 +90,39 @@ const MEETING: Change = Change {
     ..FLUSH
 };
 
+/// A third table on the level.
+const THREE_TABLES: Change = Change {
+    add: &[
+        TableAt {
+            level: 1,
+            number: 3,
+        },
+        TableAt {
+            level: 1,
+            number: 4,
+        },
+        TableAt {
+            level: 1,
+            number: 5,
+        },
+    ],
+    ..FLUSH
+};
+
+const TWO_LEVELS: Change = Change {
+    add: &[
+        TableAt {
+            level: 1,
+            number: 3,
+        },
+        TableAt {
+            level: 2,
+            number: 4,
+        },
+    ],
+    ..FLUSH
+};
+
 const TWO_LOGS: Change = Change {
     add_logs: &[2],
     ..NONE
@@ -234,6 +267,44 @@ const ROWS: &[(&str, Row)] = &[
         },
     ),
     (
+        "tables that meet before a missing one",
+        Row {
+            change: THREE_TABLES,
+            files: &[
+                (FileName::Log(1), EMPTY, &[]),
+                (FileName::Table(3), TABLE, &[]),
+                (FileName::Table(4), TABLE, &[]),
+            ],
+            fault: Some(OpenFault::BadTable { number: 4 }),
+            ..NEW
+        },
+    ),
+    (
+        "tables that meet behind a missing one",
+        Row {
+            change: THREE_TABLES,
+            files: &[
+                (FileName::Log(1), EMPTY, &[]),
+                (FileName::Table(4), TABLE, &[]),
+                (FileName::Table(5), TABLE, &[]),
+            ],
+            fault: Some(OpenFault::MissingTable { number: 3 }),
+            ..NEW
+        },
+    ),
+    (
+        "tables of one span on two levels",
+        Row {
+            change: TWO_LEVELS,
+            files: &[
+                (FileName::Log(1), EMPTY, &[]),
+                (FileName::Table(3), TABLE, &[]),
+                (FileName::Table(4), TABLE, &[]),
+            ],
+            ..NEW
+        },
+    ),
+    (
         "two logs",
         Row {
             change: TWO_LOGS,
@@ -279,7 +350,22 @@ const ROWS: &[(&str, Row)] = &[
         },
     ),
     (
-        "the manifest's last above the logs'",
+        "the manifest's last above those of two logs",
+        Row {
+            change: Change {
+                last: 3,
+                ..TWO_LOGS
+            },
+            files: &[
+                (FileName::Log(1), LOG, &[]),
+                (FileName::Log(2), LOG, &[(LOG_SEQUENCE, 2)]),
+            ],
+            fault: Some(OpenFault::BadLog { number: 2, at: 0 }),
+            ..NEW
+        },
+    ),
+    (
+        "the manifest's last above the log's",
         Row {
             change: Change { last: 2, ..NONE },
             files: &[(FileName::Log(1), LOG, &[])],
@@ -359,13 +445,16 @@ fn closed(parts: Parts<MemDisk>) -> SuperVersion {
     version
 }
 
-/// What is opened, or why it isn't.
-fn opened(alloc: Global, row: &Row) -> Result<Result<SuperVersion, OpenFault>, Fail> {
-    let disk = folder(alloc, row)?;
+/// What is opened in a folder, or why it isn't.
+pub(super) fn opened_version(alloc: Global, disk: MemDisk) -> Result<SuperVersion, OpenFault> {
     match open_store(alloc, disk) {
-        Ok(parts) => Ok(Ok(closed(parts))),
-        Err((_disk, fault)) => Ok(Err(fault)),
+        Ok(parts) => Ok(closed(parts)),
+        Err((_disk, fault)) => Err(fault),
     }
+}
+
+fn opened(alloc: Global, row: &Row) -> Result<Result<SuperVersion, OpenFault>, Fail> {
+    Ok(opened_version(alloc, folder(alloc, row)?))
 }
 
 /// How many versions are in the active memtable.
@@ -388,6 +477,15 @@ fn each_folder_is_told(rt: HostRuntime) -> Result<(), Fail> {
 fn what_is_above_through_is_in_memory(rt: HostRuntime) -> Result<(), Fail> {
     assert_eq!(rt; unflushed(rt.alloc(), &BELOW_FLOOR)?, 1);
     assert_eq!(rt; unflushed(rt.alloc(), &AT_THROUGH)?, 0);
+    Ok(())
+}
+
+#[test]
+fn a_refusal_is_said_in_words(rt: HostRuntime) -> Result<(), Fail> {
+    let missing = OpenFault::MissingTable { number: 3 };
+    let bad = OpenFault::BadLog { number: 2, at: 41 };
+    assert_eq!(rt; format!(in rt.alloc(); "{missing}")?.as_str(), "missing table 3");
+    assert_eq!(rt; format!(in rt.alloc(); "{bad}")?.as_str(), "bad log 2 41");
     Ok(())
 }
 

@@ -8,7 +8,7 @@ use Rattle.wal.specs.declared.numbered.Numbered.{Numbered}
 use Rattle.manifest_fold.specs.declared.fold.FamilyFold.{FamilyFold}
 use Rattle.engine_laws.specs.Logs.{versions_of}
 use Rattle.manifest.specs.Folds.{sizes_of}
-use Rattle.recovery.specs.Replayed.{IsGathered, IsLogName, RefusesLog, gap_behind, next_behind, above_through}
+use Rattle.recovery.specs.Replayed.{IsGathered, IsLogName, IsNextWithin, RefusesLog, gap_behind, next_behind, above_through}
 use Rattle.recovery.proofs.Logging.{is_new, logs_around, oldest_refused, taken_more}
 use Rattle.recovery.proofs.Looking.{looks_folder, looks_more, looks_none, looks_then, looks_told}
 use Rattle.recovery.proofs.Sequencing.{gathered_more, nothing_read}
@@ -18,6 +18,7 @@ pub loop-number-init : goal.loop-number-init
 loop-number-init g c = record {
   gathered = λ told. nothing_read c.args.fold.now (g.D.Disk.stands c.args.disk.now) c.new-gathered.result c.new-gathered.ensures.versions c.new-gathered.ensures.next c.new-gathered.ensures.gap;
   looks = looks_none g.D.Disk g.D.File.DiskFile IsLogName c.args.disk.now;
+  within = subst IsNextWithin (sym c.new-gathered.ensures.next) tt;
   faults = refl;
 }
 
@@ -50,6 +51,7 @@ loop-number-preserved g c =
           (added.versions ∙ ap (λ (fs : List FamilyFold). c.loop-number.gathered.versions.items ++ above_through fs (versions_of c.deref.result.now)) c.as_slice.ensures ∙ ap (λ (b : List Numbered). c.loop-number.gathered.versions.items ++ above_through fold.families (versions_of b)) deref)
           (added.next ∙ ap (next_behind c.loop-number.gathered.next) deref) (added.gap ∙ ap (gap_behind c.loop-number.gathered.gap c.loop-number.gathered.next n) deref));
       looks = looks_then d f IsLogName old mid new inv.looks (looks_more d f (λ m. m ≡ Log n) IsLogName mid new (λ m is. (n, is)) e.looks);
+      within = added.within inv.within;
       faults = e.kept ∙ inv.faults;
     }
 

@@ -15,6 +15,7 @@ use Rattle.recovery.specs.Replayed.{AreInLine, RefusesLogs}
 use Rattle.recovery.specs.declared.tables.Opened.{Opened}
 use Rattle.recovery.proofs.Judging.{newest_before}
 use Rattle.recovery.proofs.Looking.{looks_folder, looks_model, looks_told}
+use Rattle.recovery.proofs.Fitting.{fits_from}
 use Rattle.recovery.proofs.Openings.{logs_files, shown_from, tables_files}
 use Rattle.recovery.proofs.opening.open_files.Goals as goal
 
@@ -61,7 +62,7 @@ returns-in-Ok-version_of-clause-shown g c told =
     let last = c.last_sequence-last.result in
     shown_from (d.stands old) fold c.in-Ok.opened.items gathered last version (c.in-Ok.ensures.opened told) line
     (subst (λ (w : List Version). ShowsVersion fold c.in-Ok.opened.items w last version) c.deref-2.ensures.value (subst (λ (os : List Opened). ShowsVersion fold os c.deref-2.result.now last version) c.deref.ensures.value c.in-Ok-version_of.ensures))
-    c.last_sequence-last.ensures
+    c.last_sequence-last.ensures.over
 
 pub returns-in-Ok-version_of-clause-newest : goal.returns-in-Ok-version_of-clause-newest
 returns-in-Ok-version_of-clause-newest g c told =
@@ -110,3 +111,10 @@ returns-clause-reads g c others tables logs =
     only_then d f (λ n. ⊥) (holding old others) (holding mid others) (holding new others) (c.in-Ok.ensures.looks others tables)
     (only_then d f (λ n. ⊥) (holding mid others) (holding two (w ∷ others)) (holding new others) second
     (return_step d f disk_now file_now others two new w (subst (Giving d f two new) c.into_file.ensures giving) (e.file_told ∙ sym second.told) (λ x held is. logs (Log n) (n, refl) x held (sym e.name ∙ is))))
+
+pub returns-in-Ok-version_of-clause-fits : goal.returns-in-Ok-version_of-clause-fits
+returns-in-Ok-version_of-clause-fits g c =
+    let fold = c.args.fold.now in
+    let last = c.last_sequence-last.result in
+    let e = c.last_sequence-last.ensures in
+    fits_from fold c.deref.result.now c.deref-2.result.now last c.in-Ok-version_of.version c.in-Ok-version_of.ensures e.low (e.within c.requires.usable.last c.in-Ok-open_logs.ensures.within)

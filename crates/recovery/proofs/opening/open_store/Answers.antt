@@ -10,6 +10,7 @@ use Rattle.manifest_fold.specs.declared.fold.Folded.{Folded}
 use Rattle.manifest.specs.Manifest.{manifest_folded}
 use Rattle.recovery.specs.Opening.{IsShown, IsUsable, RefusesFiles}
 use Rattle.recovery.specs.Replayed.{IsNewestLog}
+use Rattle.recovery.specs.Versions.{FitsFold}
 use Rattle.recovery.proofs.Elsewhere.{files_here, shown_here}
 use Rattle.recovery.proofs.Openings.{files_opening, logs_free, logs_same, newest_touched, tables_free, tables_same, usable_from}
 use Rattle.recovery.proofs.opening.open_store.Goals as goal
@@ -105,3 +106,12 @@ returns-in-Err-open_files-clause-told g c = (returns-in-Err-open_files-clause-gi
 
 pub returns-in-Err-open_files-clause-model : goal.returns-in-Err-open_files-clause-model
 returns-in-Err-open_files-clause-model g c = (returns-in-Err-open_files-clause-gives_back g c).model
+
+pub returns-in-Ok-clause-folds : goal.returns-in-Ok-clause-folds
+returns-in-Ok-clause-folds g c = (rw c.in-Ok-Some.field-0-is at c.in-Ok-Some.ensures).folds
+
+pub returns-in-Ok-clause-fits : goal.returns-in-Ok-clause-fits
+returns-in-Ok-clause-fits g c = subst (λ (z : Folded). FitsFold z c.in-Ok.version) c.fold.ensures c.in-Ok.ensures.fits
+
+pub returns-in-Ok-clause-ready : goal.returns-in-Ok-clause-ready
+returns-in-Ok-clause-ready g c = (rw c.in-Ok-Some.field-0-is at c.in-Ok-Some.ensures).ready

@@ -1,10 +1,8 @@
-use Rattle.std.proofs.Common.{◌≡◌, refl, sym, ◌∙◌}
-use Rattle.std.proofs.lemmas.Bool.{false≢true}
+use Rattle.std.proofs.Common.{◌≡◌, refl}
 use Rattle.udt_disk.specs.declared.name.FileName.TheVariants.{Table}
 use Rattle.recovery.specs.Places.{IsTableName}
 use Rattle.recovery.proofs.Faulting.{refused_here, there_from}
 use Rattle.recovery.proofs.Looking.{looks_more}
-use Rattle.recovery.proofs.tables.open_table.Goals.{then-not-fits-via-then-not-fits, then-not-fits-via-else-not-fits+then-meets_some}
 use Rattle.recovery.proofs.tables.open_table.Goals as goal
 
 pub returns-in_err-table-clause-looks : goal.returns-in_err-table-clause-looks
@@ -30,8 +28,5 @@ returns-then-not-fits-clause-refused g c told =
     let stood = c.in_ok-table.ensures.read told in (
       refl,
       there_from image held stood,
-      refused_here image held c.args.family.now c.args.place c.args.opened.now stood (λ fitting none. elim c.then-not-fits.branch [
-        | then-not-fits-via-then-not-fits w ↦ (let no_fit = rw w.if-not-fits.true at c.fits.ensures.no in no_fit fitting)
-        | then-not-fits-via-else-not-fits+then-meets_some w ↦ false≢true (sym none ∙ sym w.meets_some.ensures ∙ w.if-meets_some.true)
-      ]),
+      refused_here image held c.args.family.now c.args.place stood (λ fitting. (let no_fit = rw c.if-not-fits.true at c.fits.ensures.no in no_fit fitting)),
     )

@@ -1,16 +1,16 @@
-use Rattle.std.proofs.Common.{◌≡◌, List, map, get_or, Some, refl, sym, ap, ◌∙◌, subst, arith}
+use Rattle.std.proofs.Common.{◌≡◌, List, length, map, get_or, Some, refl, sym, ap, ◌∙◌, subst, arith}
 use Rattle.std.specs.Prelude.{IsTrue, slice_get, slice_index_or}
-use Rattle.std.specs.List.{list_any}
 use Rattle.std.proofs.lemmas.List.{get_or_default, take_all}
 use Rattle.engine_laws.specs.Manifests.{IsLive}
 use Rattle.udt_disk.specs.Joint.{Folder}
 use Rattle.recovery.specs.Looks.{Looks}
-use Rattle.recovery.specs.Places.{AreLivePlaces, IsTableOpened, IsTableName, RefusesPlace, meets_before, place_of}
+use Rattle.recovery.specs.Meeting.{AreOnLevels, IsFirstFault}
+use Rattle.recovery.specs.Places.{AreLivePlaces, IsTableOpened, IsTableName, RefusesPlace, place_of}
 use Rattle.recovery.specs.declared.live.TablePlace.{TablePlace}
 use Rattle.recovery.specs.declared.tables.Opened.{Opened}
-use Rattle.recovery.proofs.Faulting.{place_tables}
+use Rattle.recovery.proofs.Faulting.{first_tables}
 use Rattle.recovery.proofs.Looking.{looks_none, looks_then, looks_told, looks_folder}
-use Rattle.recovery.proofs.Placed.{AreInOrderAt, EachOpened, all_opened, each_more, in_order, live_at, live_place, order_more, places_are}
+use Rattle.recovery.proofs.Placed.{AreInOrderAt, EachOpened, all_opened, clash_refused, each_more, live_at, live_place, none_clash, on_levels, places_are}
 use Rattle.recovery.proofs.tables.open_tables.Goals as goal
 
 abbrev no_place : TablePlace
@@ -23,7 +23,6 @@ pub loop-place-init : goal.loop-place-init
 loop-place-init g c = record {
   places = ap (map place_of) c.new-opened.ensures.items;
   each = λ told. subst (EachOpened (g.D.Disk.stands c.args.disk.now) c.args.fold.now) (sym c.new-opened.ensures.items) (λ o f held. absurd held);
-  order = λ told p f held. absurd held;
   looks = looks_none g.D.Disk g.D.File.DiskFile IsTableName c.args.disk.now;
   faults = refl;
 }
@@ -66,8 +65,10 @@ returns-in-Err-clause-refused g c told =
     let islive : IsLive fold p.family family p.table = live_at fold places i p family live within at there in
     let step : Looks d f IsTableName mid new = c.in-Err.ensures.looks in
     let told_mid = subst IsTrue (sym (looks_told d f IsTableName old mid inv.looks)) told in
-    let refused = subst (λ (folder : Folder). RefusesPlace folder family p opened c.in-Err.fault) (looks_folder d f IsTableName old mid inv.looks told) (subst (λ (os : List Opened). RefusesPlace (d.stands mid) family p os c.in-Err.fault) c.deref.ensures.value (c.in-Err.ensures.refused told_mid)) in
-    place_tables (d.stands old) fold places live i within p at opened inv.places (inv.each told) (inv.order told) family islive c.in-Err.fault refused
+    let refused = subst (λ (folder : Folder). RefusesPlace folder family p c.in-Err.fault) (looks_folder d f IsTableName old mid inv.looks told) (c.in-Err.ensures.refused told_mid) in
+    let first = c.first_fault.ensures.first (subst AreOnLevels (sym c.deref.ensures.value) (on_levels (d.stands old) fold places live i (omega (arith, within)) opened inv.places (inv.each told) c.requires.places.levels)) in
+    first_tables (d.stands old) fold places live i within p at opened inv.places (inv.each told) family islive c.in-Err.fault c.first_fault.result refused
+    (subst (λ (os : List Opened). IsFirstFault (length fold.families) os c.in-Err.fault c.first_fault.result) c.deref.ensures.value first)
 
 pub returns-in-Err-clause-looks : goal.returns-in-Err-clause-looks
 returns-in-Err-clause-looks g c = looks_then g.D.Disk g.D.File.DiskFile IsTableName c.args.disk.now c.loop-place.disk c.open_table.new.disk c.loop-place.invariant.looks c.in-Err.ensures.looks
@@ -102,20 +103,36 @@ loop-place-preserved g c =
       places = ap (map place_of) more ∙ places_are places i p opened o within at inv.places is;
       each = λ told.
           let known : IsTableOpened (d.stands old) family o = subst (λ (folder : Folder). IsTableOpened folder family o) (looks_folder d f IsTableName old mid inv.looks told) (c.in-Ok.ensures.opened (subst IsTrue (sym (looks_told d f IsTableName old mid inv.looks)) told)) in
-          subst (EachOpened (d.stands old) fold) (sym more) (each_more (d.stands old) fold places live i within p at opened inv.places (inv.each told) (inv.order told) family islive o is known);
-      order = λ told.
-          let known : IsTableOpened (d.stands old) family o = subst (λ (folder : Folder). IsTableOpened folder family o) (looks_folder d f IsTableName old mid inv.looks told) (c.in-Ok.ensures.opened (subst IsTrue (sym (looks_told d f IsTableName old mid inv.looks)) told)) in
-          order_more (d.stands old) fold places live i within p at opened inv.places (inv.each told) (inv.order told) family islive
-          (in_order (d.stands old) fold places live i within p at opened inv.places (inv.each told) (inv.order told) family islive o is known (ap (list_any (meets_before p o.table.table.contents)) (sym c.deref.ensures.value) ∙ c.in-Ok.ensures.apart));
+          subst (EachOpened (d.stands old) fold) (sym more) (each_more (d.stands old) fold places live i within p at opened inv.places (inv.each told) family islive o is known);
       looks = looks_then d f IsTableName old mid new inv.looks step;
       faults = c.in-Ok.ensures.kept ∙ inv.faults;
     }
 
-pub returns-clause-opened : goal.returns-clause-opened
-returns-clause-opened g c told =
+pub returns-in-Ok-None-clause-opened : goal.returns-in-Ok-None-clause-opened
+returns-in-Ok-None-clause-opened g c told =
     let places = c.deref-place-items.result.now in
     let fold = c.args.fold.now in
     let folder = g.D.Disk.stands c.args.disk.now in
     let inv = c.loop-place.invariant in
-    let all = take_all c.loop-place.place-index places (omega arith) in
-    all_opened folder fold places c.loop-place.opened.items (subst (AreLivePlaces fold) (sym c.deref-place-items.ensures.value) c.in_ok-places.ensures) (inv.places ∙ all) (inv.each told) (subst (AreInOrderAt folder fold) all (inv.order told))
+    let i = c.loop-place.place-index in
+    let opened = c.loop-place.opened.items in
+    let live : AreLivePlaces fold places = subst (AreLivePlaces fold) (sym c.deref-place-items.ensures.value) c.in_ok-places.ensures in
+    let all = take_all i places (omega arith) in
+    let upto = c.loop-place.auto.place-index-end in
+    let on : AreOnLevels opened = on_levels folder fold places live i upto opened inv.places (inv.each told) c.requires.places.levels in
+    let first = rw (c.deref-2.ensures.value, c.in-Ok-None.field-0-is) at c.in-Ok-None.ensures in
+    all_opened folder fold places opened live (inv.places ∙ all) (inv.each told) (subst (AreInOrderAt folder fold) all (none_clash folder fold places live i upto opened inv.places (inv.each told) (first on)))
+
+pub returns-in-Ok-Some-clause-refused : goal.returns-in-Ok-Some-clause-refused
+returns-in-Ok-Some-clause-refused g c told =
+    let places = c.deref-place-items.result.now in
+    let fold = c.args.fold.now in
+    let folder = g.D.Disk.stands c.args.disk.now in
+    let inv = c.loop-place.invariant in
+    let i = c.loop-place.place-index in
+    let opened = c.loop-place.opened.items in
+    let live : AreLivePlaces fold places = subst (AreLivePlaces fold) (sym c.deref-place-items.ensures.value) c.in_ok-places.ensures in
+    let upto = c.loop-place.auto.place-index-end in
+    let on : AreOnLevels opened = on_levels folder fold places live i upto opened inv.places (inv.each told) c.requires.places.levels in
+    let first = rw (c.deref-2.ensures.value, c.in-Ok-Some.field-0-is) at c.in-Ok-Some.ensures in
+    clash_refused folder fold places live i upto opened inv.places (inv.each told) c.in-Ok-Some.number (first on)
