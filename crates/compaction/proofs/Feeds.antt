@@ -1,11 +1,11 @@
 -- A feed of tables: what it takes next, and what its versions are.
-use Rattle.std.proofs.Common.{◌≡◌, ℕ, zero, suc, ◌+◌, ◌-◌, ◌<◌, ◌≤◌, Bool, true, false, ◌&&◌, ◌||◌, List, [], ◌∷◌, ◌++◌, length, map, take, drop, refl, sym, ap, subst, ◌∙◌, arith, inl, inr}
-use Rattle.std.specs.Prelude.{◌==◌, nat_lt, nat_le, if◌then◌else◌, All, Option, Some, None, slice_get}
+use Rattle.std.proofs.Common.{◌≡◌, ℕ, zero, suc, ◌+◌, true, ◌&&◌, ◌||◌, List, [], ◌∷◌, ◌++◌, map, take, drop, refl, sym, ap, subst, ◌∙◌, arith, inl, inr}
+use Rattle.std.specs.Prelude.{◌==◌, nat_lt, All, Option, Some, None, slice_get}
 use Rattle.std.specs.List.{AllByRecursion}
 use Rattle.std.specs.List.Sorted.{IsPermutation}
 use Rattle.std.specs.Str.{bytes_eq}
 use Rattle.std.specs.Ordering.{is_eq}
-use Rattle.std.proofs.lemmas.Bool.{cases_Bool, false≢true, le-leb}
+use Rattle.std.proofs.lemmas.Bool.{cases_Bool, false≢true}
 use Rattle.std.proofs.lemmas.List.{map-append}
 use Rattle.std.proofs.lemmas.List.Elements.{All-nil, All-cons, All-head, All-tail}
 use Rattle.std.proofs.lemmas.List.Kept.{AllPairs-cons}
@@ -16,7 +16,7 @@ use Rattle.ts_key.specs.declared.numbers.Ts.{Ts}
 use Rattle.ts_key.specs.declared.version.Form.{Form}
 use Rattle.ts_key.specs.declared.version.Version.{Version}
 use Rattle.ts_key.specs.Items.{Item, item_of}
-use Rattle.ts_key.specs.Lists.{joined, merged, with_item, standing, stored, onward}
+use Rattle.ts_key.specs.Lists.{joined, merged, with_item, stored}
 use Rattle.ts_key.specs.Order as order
 use Rattle.ts_key.specs.Order.{SortKey, sort_cmp}
 use Rattle.ts_key.specs.Orders as orders
@@ -40,42 +40,26 @@ use Rattle.compaction.specs.Made.{IsInput}
 
 -- ---- places in a list
 
-got_on : (ys : List Item) (n : ℕ) (v : Item) → slice_get ys n ≡ Some v → (n < length ys) × (drop n ys ≡ v ∷ drop (suc n) ys) × (take (suc n) ys ≡ take n ys ++ v ∷ [])
+got_on : (ys : List Item) (n : ℕ) (v : Item) → slice_get ys n ≡ Some v → (drop n ys ≡ v ∷ drop (suc n) ys) × (take (suc n) ys ≡ take n ys ++ v ∷ [])
 got_on [] zero v e = absurd cc
 got_on [] (suc n) v e = absurd cc
-got_on (x ∷ xs) zero v e = let q : x ≡ v = cc in (omega arith, ap (λ (y : Item). y ∷ xs) q, ap (λ (y : Item). y ∷ []) q)
-got_on (x ∷ xs) (suc n) v e = let r = got_on xs n v e in let l = r.0 in (omega (arith, l), r.1, ap (λ (ys : List Item). x ∷ ys) r.2)
+got_on (x ∷ xs) zero v e = let q : x ≡ v = cc in (ap (λ (y : Item). y ∷ xs) q, ap (λ (y : Item). y ∷ []) q)
+got_on (x ∷ xs) (suc n) v e = let r = got_on xs n v e in (r.0, ap (λ (ys : List Item). x ∷ ys) r.1)
 
 -- the version at a place is the first that isn't passed, and one place on it is passed
-pub walk_on : (ys : List Item) (p q : ℕ) (v : Item) → standing ys p ≡ Some v → q ≡ onward (length ys) p → (drop (p - 1) ys ≡ v ∷ drop (q - 1) ys) × (take (q - 1) ys ≡ take (p - 1) ys ++ v ∷ [])
-walk_on ys zero q v e on = absurd cc
-walk_on ys (suc n) q v e on =
+pub walk_on : (ys : List Item) (n q : ℕ) (v : Item) → slice_get ys n ≡ Some v → q ≡ n + 1 → (drop n ys ≡ v ∷ drop q ys) × (take q ys ≡ take n ys ++ v ∷ [])
+walk_on ys n q v e on =
     let r = got_on ys n v e in
-    let l = r.0 in
-    let t : nat_le (suc n) (length ys) ≡ true = le-leb (suc n) (length ys) (omega (arith, l)) in
-    let q_is : q ≡ suc n + 1 = on ∙ ap (λ (b : Bool). if b then suc n + 1 else suc n) t in
-    let a : suc n - 1 ≡ n = omega arith in
-    let b : q - 1 ≡ suc n = omega (arith, q_is) in (
-      ap (λ k. drop k ys) a ∙ r.1 ∙ ap (λ k. v ∷ drop k ys) (sym b),
-      ap (λ k. take k ys) b ∙ r.2 ∙ ap (λ k. take k ys ++ v ∷ []) (sym a),
+    let b : q ≡ suc n = omega (arith, on) in (
+      r.0 ∙ ap (λ k. v ∷ drop k ys) (sym b),
+      ap (λ k. take k ys) b ∙ r.1,
     )
 
-got_none : (ys : List Item) (n : ℕ) → None ≡ slice_get ys n → drop n ys ≡ []
-got_none [] zero e = refl
-got_none [] (suc n) e = refl
-got_none (x ∷ xs) zero e = absurd cc
-got_none (x ∷ xs) (suc n) e = got_none xs n e
-
-pub walk_ends : (ys : List Item) (p : ℕ) → 1 ≤ p → None ≡ standing ys p → drop (p - 1) ys ≡ []
-walk_ends ys zero l e = absurd (omega (arith, l))
-walk_ends ys (suc n) l e = let a : suc n - 1 ≡ n = omega arith in ap (λ k. drop k ys) a ∙ got_none ys n e
-
-pub on_from : (len p q : ℕ) → 1 ≤ p → q ≡ onward len p → 1 ≤ q
-on_from len p q l on = more (nat_le p len) on
-  where
-    more : (b : Bool) → q ≡ (if b then p + 1 else p) → 1 ≤ q
-    more true e = omega (arith, l, e)
-    more false e = omega (arith, l, e)
+pub walk_ends : (ys : List Item) (n : ℕ) → None ≡ slice_get ys n → drop n ys ≡ []
+walk_ends [] zero e = refl
+walk_ends [] (suc n) e = refl
+walk_ends (x ∷ xs) zero e = absurd cc
+walk_ends (x ∷ xs) (suc n) e = walk_ends xs n e
 
 -- ---- the next version
 

@@ -1,12 +1,12 @@
 -- The versions of tables, taken one by one.
-use Rattle.std.specs.Prelude.{ℕ, ◌-◌, Bool, true, false, List, [], ◌∷◌, map, take, drop, Option, Some, None}
+use Rattle.std.specs.Prelude.{ℕ, Bool, true, false, List, [], ◌∷◌, map, take, drop, Option, Some, None}
 use Rattle.std.specs.List.{flat_map}
 use Rattle.std.specs.Ordering.{is_eq}
 use Rattle.ts_key.specs.Order.{SortKey, sort_cmp}
 use Rattle.ts_key.specs.Items.{Item}
 use Rattle.ts_key.specs.declared.numbers.Family.{Family}
 use Rattle.ts_key.specs.declared.version.Version.{Version}
-use Rattle.merge_cursor.specs.Sides.{all, merged_place, sides}
+use Rattle.merge_cursor.specs.Sides.{all, passed, sides}
 use Rattle.data_block.specs.Cursors.{versions_of, place_of}
 use Rattle.data_block.specs.declared.cursor.BlockCursor.{BlockCursor}
 use Rattle.super_version.specs.Live.{Live}
@@ -24,16 +24,16 @@ versions_in_tables family tables = flat_map (λ t. versions_from family (items_o
 abbrev pub walked : List BlockCursor → List Item
 walked cs = all (sides versions_of place_of cs)
 
--- where a cursor over all of them stands: 1 at the first
-abbrev pub walk_place : Bool → List BlockCursor → ℕ
-walk_place before cs = merged_place before (sides versions_of place_of cs)
+-- how many of them are passed
+abbrev pub count_passed : List BlockCursor → ℕ
+count_passed cs = passed (sides versions_of place_of cs)
 
 -- what a walk has passed, and what it hasn't
-abbrev pub passed_at : Bool → List BlockCursor → List Item
-passed_at before cs = take (walk_place before cs - 1) (walked cs)
+abbrev pub passed_at : List BlockCursor → List Item
+passed_at cs = take (count_passed cs) (walked cs)
 
-abbrev pub left_at : Bool → List BlockCursor → List Item
-left_at before cs = drop (walk_place before cs - 1) (walked cs)
+abbrev pub left_at : List BlockCursor → List Item
+left_at cs = drop (count_passed cs) (walked cs)
 
 -- the last of the versions has this sort key; there is none where there is none
 abbrev pub ends_at : Option SortKey → List Item → Bool

@@ -1,5 +1,5 @@
 //! The versions of a compaction's inputs, taken one by one.
-ghost use Rattle.std.specs.Prelude.{◌≡◌, ◌≤◌, true, All, IfOk, Some, map};
+ghost use Rattle.std.specs.Prelude.{◌≡◌, true, All, IfOk, Some, map};
 ghost use Rattle.ts_key.specs.Items.{shown};
 ghost use Rattle.ts_key.specs.Order.{sort_key_of};
 ghost use Rattle.merge_cursor.specs.Sides.{is_apart, key_lent};
@@ -7,12 +7,12 @@ ghost use Rattle.data_block.specs.Cursors.{place_of, versions_of};
 ghost use Rattle.history_gc.specs.Pushed.{AreInOrder};
 ghost use Rattle.super_version.specs.Contents.{items_of_table, op_of, version_of_item};
 ghost use Rattle.flush_job.specs.Props.{in_order_prop};
-ghost use Rattle.compaction.specs.Feeding.{ends_at, passed_at, versions_from, walk_place};
+ghost use Rattle.compaction.specs.Feeding.{ends_at, passed_at, versions_from};
 
 use crate::NoMemory;
 use block_table::TableCursor;
 use flush_job::Feed;
-use merge_cursor::{Cursor, Merge};
+use merge_tree::MergeTree;
 use std::alloc::{AllocError, Global};
 use super_version::LiveTable;
 use ts_key::{Family, Hit, Key, KeyRef, Kind, Op, Value, Version, compare};
@@ -22,12 +22,11 @@ use ts_key::{Family, Hit, Key, KeyRef, Kind, Op, Value, Version, compare};
 pub(crate) struct TableFeed<'a> {
     alloc: Global,
     family: Family,
-    merge: Merge<TableCursor<'a>>,
+    merge: MergeTree<TableCursor<'a>>,
     /// Where the version stands that was taken last.
     last: Option<KeyRef<'a>>,
-    ghost started: { 1 ≤ walk_place merge.before merge.children.items },
-    ghost ends: { ends_at (key_lent last) (passed_at merge.before merge.children.items) ≡ true },
-    ghost in_order: { AreInOrder (versions_from family (passed_at merge.before merge.children.items)) } by { in_order_prop (versions_from family (passed_at merge.before merge.children.items)) },
+    ghost ends: { ends_at (key_lent last) (passed_at merge.cursors.items) ≡ true },
+    ghost in_order: { AreInOrder (versions_from family (passed_at merge.cursors.items)) } by { in_order_prop (versions_from family (passed_at merge.cursors.items)) },
 }
 
 /// A cursor at the first version of each table.
@@ -93,7 +92,7 @@ impl<'a> TableFeed<'a> {
     ghost use Rattle.history_gc.specs.Pushed.{AreInOrder};
     ghost use Rattle.merge_cursor.specs.Sides.{key_lent};
     ghost use Rattle.super_version.specs.Contents.{items_of_table};
-    ghost use Rattle.compaction.specs.Feeding.{ends_at, left_at, passed_at, versions_from, walk_place};
+    ghost use Rattle.compaction.specs.Feeding.{ends_at, left_at, passed_at, versions_from};
 
     /// Of the versions of these tables none was taken.
     pub(crate) fn new(
@@ -102,10 +101,10 @@ impl<'a> TableFeed<'a> {
         tables: &'a [LiveTable],
     ) -> Result<TableFeed<'a>, NoMemory>
         ensures family { IfOk result (λ f. f.family ≡ family) }
-        ensures taken { IfOk result (λ f. passed_at f.merge.before f.merge.children.items ≡ []) }
-        ensures coming { IfOk result (λ f. left_at f.merge.before f.merge.children.items ≡ merged (map items_of_table tables.now)) }
+        ensures taken { IfOk result (λ f. passed_at f.merge.cursors.items ≡ []) }
+        ensures coming { IfOk result (λ f. left_at f.merge.cursors.items ≡ merged (map items_of_table tables.now)) }
     {
-        let merge = Merge::new(cursors(alloc, tables)?);
+        let merge = MergeTree::new(alloc, cursors(alloc, tables)?)?;
         Ok(TableFeed {
             alloc,
             family,
@@ -119,9 +118,9 @@ impl Feed for TableFeed<'_> {
     ghost use Rattle.history_gc.specs.Pushed.{AreInOrder};
     ghost use Rattle.compaction.specs.Feeding.{left_at, passed_at, versions_from};
 
-    ghost taken = { λ f. versions_from f.family (passed_at f.merge.before f.merge.children.items) };
+    ghost taken = { λ f. versions_from f.family (passed_at f.merge.cursors.items) };
 
-    ghost coming = { λ f. versions_from f.family (left_at f.merge.before f.merge.children.items) };
+    ghost coming = { λ f. versions_from f.family (left_at f.merge.cursors.items) };
 
     fn next(&mut self) -> Result<Option<Version>, NoMemory> {
         let Some((key, hit)) = self.merge.at() else {

@@ -178,16 +178,12 @@ fn picked_tables(
     Ok(all)
 }
 
-/// Whether the table lies below the level that is written and isn't picked.
-fn is_deeper(choice: &Choice, t: &LeveledTable) -> Result<bool, NoMemory>
+/// Whether the table lies below the level that is written: such a table isn't picked.
+fn is_deeper(choice: &Choice, t: &LeveledTable) -> bool
     requires { choice.now.level < LOWEST_LEVEL }
-    ensures { IfOk result (λ yes. yes ≡ (nat_lt (choice.now.level + 1) t.now.level && not (is_picked choice.now t.now))) }
+    ensures { result ≡ (nat_lt (choice.now.level + 1) t.now.level && not (is_picked choice.now t.now)) }
 {
-    if t.level <= choice.level + 1 {
-        return Ok(false);
-    }
-    let picked = is_picked(choice, t)?;
-    Ok(!picked)
+    t.level > choice.level + 1
 }
 
 /// Appends the range of the table where it is kept.
@@ -212,7 +208,7 @@ fn deeper_ranges(
 {
     let mut spans = Vec::new(alloc);
     for t in tables {
-        push_range(&mut spans, t, is_deeper(choice, t)?)?;
+        push_range(&mut spans, t, is_deeper(choice, t))?;
     }
     Ok(spans)
 }

@@ -484,7 +484,10 @@ fn what_is_above_through_is_in_memory(rt: HostRuntime) -> Result<(), Fail> {
 fn a_refusal_is_said_in_words(rt: HostRuntime) -> Result<(), Fail> {
     let missing = OpenFault::MissingTable { number: 3 };
     let bad = OpenFault::BadLog { number: 2, at: 41 };
-    assert_eq!(rt; format!(in rt.alloc(); "{missing}")?.as_str(), "missing table 3");
+    assert_eq!(rt;
+        format!(in rt.alloc(); "{missing}")?.as_str(),
+        "missing table 3"
+    );
     assert_eq!(rt; format!(in rt.alloc(); "{bad}")?.as_str(), "bad log 2 41");
     Ok(())
 }
