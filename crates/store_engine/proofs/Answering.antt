@@ -5,28 +5,26 @@ use Rattle.ts_key.specs.declared.batch.WriteOp.{WriteOp}
 use Rattle.ts_key.specs.declared.numbers.Family.{Family}
 use Rattle.ts_key.specs.declared.numbers.Ts.{Ts}
 use Rattle.udt_disk.specs.Causes.{IsCause, Rose}
-use Rattle.udt_disk.specs.Joint.{Folder, LeavesNow, Ran}
+use Rattle.udt_disk.specs.Joint.{Ran}
 use Rattle.udt_disk.specs.Joint.Ran.{rests}
 use Rattle.udt_disk.specs.declared.file.DiskFile as file
 use Rattle.udt_disk.specs.declared.disk.Disk as disk
-use Rattle.udt_disk.proofs.Joints.{ran_stands}
 use Rattle.udt_model.specs.State.{State}
 use Rattle.udt_model.specs.Acts.{Act}
 use Rattle.udt_model.specs.Acts.Act.{raise, sync_all, write}
 use Rattle.udt_model.specs.declared.reply.Reply.TheVariants.{Done, Fault, Halted, OkAt}
 use Rattle.udt_model.specs.Refusals.{refusal, ◌otherwise◌}
-use Rattle.udt_model.specs.Steps.{IsReplyTo, admitted, after, raised}
-use Rattle.udt_model.specs.Crashes.{Course, IsOutcome, IsOutcomeUnder, course_after}
+use Rattle.udt_model.specs.Steps.{IsReplyTo, admitted, raised}
+use Rattle.udt_model.specs.Crashes.{Course, IsOutcomeUnder}
 use Rattle.std.specs.Prelude.{option_map}
 use Rattle.manifest.specs.Manifest.{manifest_file}
 use Rattle.super_version.specs.declared.version.SuperVersion.{SuperVersion}
 use Rattle.floor_laws.proofs.Writing.{refuses_raise, refuses_write, told_other}
 use Rattle.engine_laws.specs.Joints.{IsNowLast}
 use Rattle.engine_laws.specs.Standing.{StandsForSome}
-use Rattle.engine_laws.proofs.Acting.{fault_keeps}
 use Rattle.engine_laws.proofs.Joined.{now_leaves}
 use Rattle.recovery.specs.Tables.{ReadsAsTable}
-use Rattle.store_engine.specs.Calls.{LeavesFailed, RanUnder, Tells}
+use Rattle.store_engine.specs.Calls.{RanUnder, Tells}
 use Rattle.store_engine.specs.Admission.{IsInMemory, RefusesRaise, RefusesWrite}
 use Rattle.store_engine.specs.Engines.{HoldsAsBefore, HoldsNow, held}
 use Rattle.store_engine.specs.Replies.{is_disk_fault, told_by}
@@ -150,11 +148,3 @@ module _ {D F : Type 0} (d : disk.Ghosts D F) (f : file.Ghosts F) (now_last : Is
   rest_ran old new now m c number act h same =
       subst (λ j. Ran d f (λ folder. StandsForSome ReadsAsTable folder (IsOutcomeUnder m c number act)) (held old) j) (sym same)
       (rests (λ folder image. let left = now_leaves d f now_last ReadsAsTable (f.name (manifest_file old.manifest)) m c h.says h.waiting (held old) h.holds h.engine_of.rests folder image in (left.0, left.1, inl left.2)))
-
--- ---- where the disk failed under an act
-
-module _ {D F : Type 0} (d : disk.Ghosts D F) (f : file.Ghosts F) where
-  pub failed_leaves : (m : State) (c : Course) (number : ℕ) (act : Act) (old new : Engine D F f) → c.failing ≡ None → RanUnder d f m c number act old new → LeavesFailed d f m c number act new
-  failed_leaves m c number act old new none ran folder image =
-      let left = ran_stands d f (λ (folder : Folder). StandsForSome ReadsAsTable folder (IsOutcomeUnder m c number act)) (held old) (held new) ran folder image in
-      (left.0, left.1, fault_keeps m c number act left.0 none left.2)

@@ -1,6 +1,7 @@
 -- A sync of the log: what the engine holds behind it.
 use Rattle.std.proofs.Common.{◌≡◌, ℕ, ◌+◌, ◌<◌, List, [], ◌∷◌, ◌++◌, Result, Ok, Err, refl, sym, ap, ◌∙◌, subst, arith}
-use Rattle.std.specs.Prelude.{All, None, OnOk}
+use Rattle.std.specs.Prelude.{All, IfErr, None, OnOk}
+use Rattle.std.proofs.lemmas.Bool.{false≢true}
 use Rattle.udt_disk.specs.Causes.{HasCause, plus_faults}
 use Rattle.udt_disk.specs.Crash.{Image}
 use Rattle.udt_disk.specs.Joint.{Folder, Joint, Ran}
@@ -33,13 +34,16 @@ use Rattle.engine_laws.proofs.Moving.{newest_log_is}
 use Rattle.engine_laws.proofs.Syncing.{sync_holds}
 use Rattle.recovery.specs.Tables.{ReadsAsTable}
 use Rattle.recovery.specs.Versions.{FitsFold}
-use Rattle.store_engine.specs.Engines.{HoldsNow, IsCurrent, IsEngineOf, IsOneFolder, faults_of, held}
+use Rattle.store_engine.specs.Engines.{HoldsNow, IsCurrent, IsEngineOf, IsOneFolder, IsRunning, faults_of, has_failed, held}
 use Rattle.store_engine.specs.Now.{IsNow}
-use Rattle.store_engine.specs.Steps.{IsLogSynced, IsSameFolder}
+use Rattle.store_engine.specs.Steps.{IsCalled, IsLogSynced, IsSameFolder}
 use Rattle.store_engine.specs.Together.{AreTogether}
 use Rattle.store_engine.specs.declared.engine.Engine.{Engine}
 use Rattle.store_engine.specs.declared.fault.EngineFault.{EngineFault}
-use Rattle.store_engine.proofs.Answering.{on_ok}
+use Rattle.store_engine.specs.declared.fault.EngineFault.TheVariants.{DiskFault}
+use Rattle.store_engine.specs.Calls.{is_disk_failure}
+use Rattle.store_engine.specs.Replies.{is_disk_fault}
+use Rattle.store_engine.proofs.Answering.{disk_cause, on_ok}
 use Rattle.store_engine.proofs.Counts.{cause_second}
 use Rattle.store_engine.proofs.Files.{first_ran, same_joint}
 use Rattle.store_engine.proofs.Together.{named_on}
@@ -152,3 +156,14 @@ module _ {D F : Type 0} (d : disk.Ghosts D F) (f : file.Ghosts F) (now_last : Is
         subst (λ k. HasCause (faults_of d f old) (plus_faults (plus_faults (d.faults k) y) (f.faults (manifest_file new.manifest))) result) (sym synced.disk)
         (subst (λ k. HasCause (faults_of d f old) (plus_faults (plus_faults a y) (f.faults (manifest_file k))) result) (sym synced.manifest)
         (cause_second a (f.faults (wal_file old.wal)) y b result synced.cause))
+
+    pub synced_called : IsCalled d f old new result
+    synced_called = elim result as (λ r. HasCause (faults_of d f old) (faults_of d f new) r → OnOk r (IsRunning new) → has_failed new ≡ is_disk_failure r → IfErr r (λ fault. fault ≡ DiskFault) → IsCalled d f old new r) [
+      | Ok u ↦ λ cause running failed fault. record { same = synced_folder; running = λ not. running; failed = failed; counted = cause.kept }
+      | Err e ↦ λ cause running failed fault. record {
+        same = synced_folder;
+        running = λ not. absurd (false≢true (sym not ∙ ap is_disk_fault fault));
+        failed = failed;
+        counted = disk_cause e (faults_of d f old) (faults_of d f new) fault cause.failed;
+      }
+    ] synced_cause synced.running synced.failed synced.fault

@@ -2,7 +2,6 @@
 
 ghost use Rattle.std.specs.Prelude.{◌≡◌, ◌≢◌, ◌⊎◌, ◌+◌, ◌<◌, ◌≤◌, ◌∷◌, [], ℕ, length, All, false, true, IfErr, IfOk, IsOk, OnOk, IsTrue};
 ghost use Rattle.std.specs.Arc.{arc_value};
-ghost use Rattle.udt_disk.specs.Causes.{HasCause, IsCause};
 ghost use Rattle.udt_disk.specs.Joint.{LeavesNow};
 ghost use Rattle.udt_disk.specs.Moments.{IsClean, OnlyReads, alone, holding};
 ghost use Rattle.wal.specs.declared.wal.TheConstants.{PENDING_LIMIT};
@@ -17,10 +16,10 @@ ghost use Rattle.udt_model.specs.Crashes.{Course, IsOutcome, course_after, cours
 ghost use Rattle.udt_model.specs.State.{State};
 ghost use Rattle.udt_model.specs.Steps.{after};
 ghost use Rattle.super_version.specs.declared.version.SuperVersion.{SuperVersion as Version};
+ghost use Rattle.engine_laws.specs.Laws.{after_write, course_after_write};
 ghost use Rattle.engine_laws.specs.Standing.{FolderStands, StandsForSome};
 ghost use Rattle.recovery.specs.Tables.{ReadsAsTable};
-ghost use Rattle.recovery.specs.declared.opening.Parts.{Parts as PartsOf};
-ghost use Rattle.store_engine.specs.Parts.{ArePartsOf};
+ghost use Rattle.store_engine.specs.Parts.{ArePartsOf, parts_of};
 ghost use Rattle.store_engine.specs.Replies.{is_disk_fault};
 
 use crate::EngineFault;
@@ -67,19 +66,19 @@ fn raise_edit(alloc: Global, next: u64, last: Seq, family: Family, floor: Ts, th
 }
 
 impl<D: Disk> Engine<D> {
-    ghost use Rattle.store_engine.specs.Calls.{LeavesFailed, RanOn, RanUnder, Tells, is_disk_failure};
+    ghost use Rattle.store_engine.specs.Calls.{RanOn, RanUnder, Tells, batch_behind};
     ghost use Rattle.store_engine.specs.Engines.{HoldsAsBefore, HoldsNow, IsCurrent, IsOneFolder, IsRunning, faults_of, has_failed, held};
-    ghost use Rattle.store_engine.specs.Steps.{IsAdded, IsEdited, IsLogSynced, IsReserved, IsSameFolder};
+    ghost use Rattle.store_engine.specs.Steps.{IsAdded, IsCalled, IsEdited, IsLogSynced, IsReserved};
 
     /// The engine of an opened store, whose folder, manifest and newest log these are. It takes no memory.
     pub fn from_parts(disk: D, manifest: Manifest<D::File>, wal: Wal<D::File>) -> Engine<D>
-        requires { (old : D) × (version : Version) × ArePartsOf D.Disk D.File.DiskFile old (record { disk = disk; manifest = manifest; wal = wal; version = version }) }
+        requires { (old : D) × (version : Version) × ArePartsOf D.Disk D.File.DiskFile old (parts_of disk manifest wal version) }
         ensures held { held result ≡ holding disk (wal_file wal ∷ manifest_file manifest ∷ []) }
         ensures running { IsRunning result }
         ensures one { IsOneFolder D.Disk D.File.DiskFile result }
-        ensures current { (old : D) (version : Version) → ArePartsOf D.Disk D.File.DiskFile old (record { disk = disk; manifest = manifest; wal = wal; version = version }) → IsCurrent result version }
+        ensures current { (old : D) (version : Version) → ArePartsOf D.Disk D.File.DiskFile old (parts_of disk manifest wal version) → IsCurrent result version }
         // It and the version of the opening hold each state that the folder stands for.
-        ensures holds { (old : D) (version : Version) (m : State) → ArePartsOf D.Disk D.File.DiskFile old (record { disk = disk; manifest = manifest; wal = wal; version = version })
+        ensures holds { (old : D) (version : Version) (m : State) → ArePartsOf D.Disk D.File.DiskFile old (parts_of disk manifest wal version)
             → IsTrue (D.is_told old) → IsClean D.Disk old → FolderStands ReadsAsTable (D.stands old) m → HoldsNow D.Disk D.File.DiskFile result version m (course_start m) }
     {
         let next = manifest.fold().next_file;
@@ -186,20 +185,15 @@ impl<D: Disk> Engine<D> {
 
         ensures tells { (m : State) (c : Course) → HoldsNow D.Disk D.File.DiskFile self.old now.now m c → Tells m (write_act batch.now sync) (OkAt (m.last.0 + length batch.now)) result }
         ensures holds { (m : State) (c : Course) (number : ℕ) → HoldsNow D.Disk D.File.DiskFile self.old now.now m c
-            → IfOk result (λ next. HoldsNow D.Disk D.File.DiskFile self.new (arc_value next) (after m number (write_act batch.now sync) (OkAt (m.last.0 + length batch.now))) (course_after m number c (write_act batch.now sync) (OkAt (m.last.0 + length batch.now)))) }
+            → IfOk result (λ next. HoldsNow D.Disk D.File.DiskFile self.new (arc_value next) (after_write m number batch.now sync) (course_after_write m number c batch.now sync)) }
         ensures moments { (m : State) (c : Course) (number : ℕ) → HoldsNow D.Disk D.File.DiskFile self.old now.now m c → RanUnder D.Disk D.File.DiskFile m c number (write_act batch.now sync) self.old self.new }
-        ensures fails { (m : State) (c : Course) (number : ℕ) → HoldsNow D.Disk D.File.DiskFile self.old now.now m c → is_disk_failure result ≡ true → LeavesFailed D.Disk D.File.DiskFile m c number (write_act batch.now sync) self.new }
         ensures refused { IfErr result (λ fault. is_disk_fault fault ≡ false → HoldsAsBefore D.Disk D.File.DiskFile self.old self.new) }
         ensures current { IfOk result (λ next. IsCurrent self.new (arc_value next)) }
 
         // Whether or not the disk tells what it holds.
-        ensures waits { OnOk result (sync ≡ false → length (waiting_with self.old.wal (record { first = record { 0 = now.now.last.0 + 1 }; batch = batch.now })) < PENDING_LIMIT → held self.new ≡ held self.old) }
-        ensures synced { OnOk result ((sync ≡ true) ⊎ (PENDING_LIMIT ≤ length (waiting_with self.old.wal (record { first = record { 0 = now.now.last.0 + 1 }; batch = batch.now }))) → wal_pending self.new.wal ≡ 0) }
-        ensures same { IsSameFolder D.File.DiskFile self.old self.new }
-        ensures running { is_disk_failure result ≡ false → IsRunning self.new }
-        ensures failed { has_failed self.new ≡ is_disk_failure result }
-        ensures kept { OnOk result (faults_of D.Disk D.File.DiskFile self.new ≡ faults_of D.Disk D.File.DiskFile self.old) }
-        ensures cause { IfErr result (λ fault. IsCause (is_disk_fault fault) (faults_of D.Disk D.File.DiskFile self.old) (faults_of D.Disk D.File.DiskFile self.new)) }
+        ensures waits { OnOk result (sync ≡ false → length (waiting_with self.old.wal (batch_behind now.now batch.now)) < PENDING_LIMIT → held self.new ≡ held self.old) }
+        ensures synced { OnOk result ((sync ≡ true) ⊎ (PENDING_LIMIT ≤ length (waiting_with self.old.wal (batch_behind now.now batch.now))) → wal_pending self.new.wal ≡ 0) }
+        ensures called { IsCalled D.Disk D.File.DiskFile self.old self.new result }
     {
         let next = match admit(alloc, now, batch) {
             Ok(next) => next,
@@ -231,16 +225,11 @@ impl<D: Disk> Engine<D> {
         ensures holds { (m : State) (c : Course) (number : ℕ) → HoldsNow D.Disk D.File.DiskFile self.old now.now m c
             → IfOk result (λ next. HoldsNow D.Disk D.File.DiskFile self.new (arc_value next) (after m number (raise_act family floor) Done) (course_after m number c (raise_act family floor) Done)) }
         ensures moments { (m : State) (c : Course) (number : ℕ) → HoldsNow D.Disk D.File.DiskFile self.old now.now m c → RanUnder D.Disk D.File.DiskFile m c number (raise_act family floor) self.old self.new }
-        ensures fails { (m : State) (c : Course) (number : ℕ) → HoldsNow D.Disk D.File.DiskFile self.old now.now m c → is_disk_failure result ≡ true → LeavesFailed D.Disk D.File.DiskFile m c number (raise_act family floor) self.new }
         ensures refused { IfErr result (λ fault. is_disk_fault fault ≡ false → HoldsAsBefore D.Disk D.File.DiskFile self.old self.new) }
         ensures current { IfOk result (λ next. IsCurrent self.new (arc_value next)) }
 
         // Whether or not the disk tells what it holds.
-        ensures same { IsSameFolder D.File.DiskFile self.old self.new }
-        ensures running { is_disk_failure result ≡ false → IsRunning self.new }
-        ensures failed { has_failed self.new ≡ is_disk_failure result }
-        ensures kept { OnOk result (faults_of D.Disk D.File.DiskFile self.new ≡ faults_of D.Disk D.File.DiskFile self.old) }
-        ensures cause { IfErr result (λ fault. IsCause (is_disk_fault fault) (faults_of D.Disk D.File.DiskFile self.old) (faults_of D.Disk D.File.DiskFile self.new)) }
+        ensures called { IsCalled D.Disk D.File.DiskFile self.old self.new result }
     {
         let next = match admit_raise(alloc, now, family, floor) {
             Ok(next) => next,
@@ -277,11 +266,8 @@ impl<D: Disk> Engine<D> {
         // Whether or not the disk tells what it holds.
         ensures none { wal_pending self.old.wal ≡ 0 → held self.new ≡ held self.old }
         ensures synced { OnOk result (wal_pending self.new.wal ≡ 0) }
-        ensures same { IsSameFolder D.File.DiskFile self.old self.new }
-        ensures running { is_disk_failure result ≡ false → IsRunning self.new }
-        ensures failed { has_failed self.new ≡ is_disk_failure result }
+        ensures called { IsCalled D.Disk D.File.DiskFile self.old self.new result }
         ensures fault { IfErr result (λ fault. fault ≡ EngineFault.DiskFault) }
-        ensures cause { HasCause (faults_of D.Disk D.File.DiskFile self.old) (faults_of D.Disk D.File.DiskFile self.new) result }
     {
         self.sync_log()
     }

@@ -12,7 +12,7 @@ use Rattle.super_version.specs.declared.family.FamilyState.{FamilyState}
 use Rattle.engine_laws.specs.Installs.{raise_edit}
 use Rattle.engine_laws.specs.Joints.{IsNowLast}
 use Rattle.recovery.specs.Versions.{FitsFold}
-use Rattle.store_engine.proofs.Answering.{as_before, disk_cause, disk_disk, disk_tells, failed_leaves, memory_fault, none_cause, none_disk, none_tells, raise_fails, raise_refused, raised_told, rest_ran, same_folder}
+use Rattle.store_engine.proofs.Answering.{as_before, disk_cause, disk_disk, disk_tells, memory_fault, none_cause, none_disk, none_tells, raise_fails, raise_refused, raised_told, rest_ran, same_folder}
 use Rattle.store_engine.proofs.Current.{family_there, fold_there, raise_accepted, raised_fits, state_is}
 use Rattle.store_engine.proofs.Raised.{reserved_held}
 use Rattle.store_engine.proofs.Raising.{edited_folder, first_cause, first_folder, first_ran, kept_before, kept_faults, kept_folder, second_cause, second_current, second_now, second_ran}
@@ -50,22 +50,6 @@ returns-in-Err-clause-moments g c m co number h =
     let e = c.in-Err.ensures in
     rest_ran d f last self self now m co number (raise family floor) h refl
 
-pub returns-in-Err-clause-fails : goal.returns-in-Err-clause-fails
-returns-in-Err-clause-fails g c m co number h failed =
-    let d = g.D.Disk in
-    let f = g.D.File.DiskFile in
-    let last : IsNowLast d f = record {
-      disk = λ x n image left. (g.met.D.Disk g.world.𝓛 g.world.𝓜 g.world.𝓡 ((λ s x. x), (λ x. x), (λ x. x), λ x. x)).only_now x n image left;
-      file = λ x image left. (g.met.D.File.DiskFile g.world.𝓛 g.world.𝓜 g.world.𝓡 ((λ s x. x), (λ x. x), (λ x. x), λ x. x)).only_now x image left;
-    } in
-    let self = c.args.self.now in
-    let now = c.args.now.now in
-    let family = c.args.family in
-    let floor = c.args.floor in
-    let fault = c.in-Err.fault in
-    let e = c.in-Err.ensures in
-    absurd (false≢true (sym (memory_fault fault e.memory) ∙ failed))
-
 pub returns-in-Err-clause-refused : goal.returns-in-Err-clause-refused
 returns-in-Err-clause-refused g c not =
     let d = g.D.Disk in
@@ -82,8 +66,8 @@ returns-in-Err-clause-refused g c not =
     let e = c.in-Err.ensures in
     as_before d f last self
 
-pub returns-in-Err-clause-same : goal.returns-in-Err-clause-same
-returns-in-Err-clause-same g c =
+pub returns-in-Err-clause-called : goal.returns-in-Err-clause-called
+returns-in-Err-clause-called g c =
     let d = g.D.Disk in
     let f = g.D.File.DiskFile in
     let last : IsNowLast d f = record {
@@ -96,55 +80,12 @@ returns-in-Err-clause-same g c =
     let floor = c.args.floor in
     let fault = c.in-Err.fault in
     let e = c.in-Err.ensures in
-    same_folder d f last self
-
-pub returns-in-Err-clause-running : goal.returns-in-Err-clause-running
-returns-in-Err-clause-running g c not =
-    let d = g.D.Disk in
-    let f = g.D.File.DiskFile in
-    let last : IsNowLast d f = record {
-      disk = λ x n image left. (g.met.D.Disk g.world.𝓛 g.world.𝓜 g.world.𝓡 ((λ s x. x), (λ x. x), (λ x. x), λ x. x)).only_now x n image left;
-      file = λ x image left. (g.met.D.File.DiskFile g.world.𝓛 g.world.𝓜 g.world.𝓡 ((λ s x. x), (λ x. x), (λ x. x), λ x. x)).only_now x image left;
-    } in
-    let self = c.args.self.now in
-    let now = c.args.now.now in
-    let family = c.args.family in
-    let floor = c.args.floor in
-    let fault = c.in-Err.fault in
-    let e = c.in-Err.ensures in
-    c.requires.running
-
-pub returns-in-Err-clause-failed : goal.returns-in-Err-clause-failed
-returns-in-Err-clause-failed g c =
-    let d = g.D.Disk in
-    let f = g.D.File.DiskFile in
-    let last : IsNowLast d f = record {
-      disk = λ x n image left. (g.met.D.Disk g.world.𝓛 g.world.𝓜 g.world.𝓡 ((λ s x. x), (λ x. x), (λ x. x), λ x. x)).only_now x n image left;
-      file = λ x image left. (g.met.D.File.DiskFile g.world.𝓛 g.world.𝓜 g.world.𝓡 ((λ s x. x), (λ x. x), (λ x. x), λ x. x)).only_now x image left;
-    } in
-    let self = c.args.self.now in
-    let now = c.args.now.now in
-    let family = c.args.family in
-    let floor = c.args.floor in
-    let fault = c.in-Err.fault in
-    let e = c.in-Err.ensures in
-    c.requires.running.runs ∙ sym (memory_fault fault e.memory)
-
-pub returns-in-Err-clause-cause : goal.returns-in-Err-clause-cause
-returns-in-Err-clause-cause g c =
-    let d = g.D.Disk in
-    let f = g.D.File.DiskFile in
-    let last : IsNowLast d f = record {
-      disk = λ x n image left. (g.met.D.Disk g.world.𝓛 g.world.𝓜 g.world.𝓡 ((λ s x. x), (λ x. x), (λ x. x), λ x. x)).only_now x n image left;
-      file = λ x image left. (g.met.D.File.DiskFile g.world.𝓛 g.world.𝓜 g.world.𝓡 ((λ s x. x), (λ x. x), (λ x. x), λ x. x)).only_now x image left;
-    } in
-    let self = c.args.self.now in
-    let now = c.args.now.now in
-    let family = c.args.family in
-    let floor = c.args.floor in
-    let fault = c.in-Err.fault in
-    let e = c.in-Err.ensures in
-    none_cause fault _ _ (memory_fault fault e.memory) refl
+    record {
+      same = same_folder d f last self;
+      running = λ not. c.requires.running;
+      failed = c.requires.running.runs ∙ sym (memory_fault fault e.memory);
+      counted = none_cause fault _ _ (memory_fault fault e.memory) refl;
+    }
 
 pub returns-in-Err-reserve_edit-clause-tells : goal.returns-in-Err-reserve_edit-clause-tells
 returns-in-Err-reserve_edit-clause-tells g c m co h =
@@ -182,24 +123,6 @@ returns-in-Err-reserve_edit-clause-moments g c m co number h =
     let e = c.in-Err-reserve_edit.ensures in
     rest_ran d f last self mid now m co number (raise family floor) h (reserved_held d f last self mid edit (Err fault) e)
 
-pub returns-in-Err-reserve_edit-clause-fails : goal.returns-in-Err-reserve_edit-clause-fails
-returns-in-Err-reserve_edit-clause-fails g c m co number h failed =
-    let d = g.D.Disk in
-    let f = g.D.File.DiskFile in
-    let last : IsNowLast d f = record {
-      disk = λ x n image left. (g.met.D.Disk g.world.𝓛 g.world.𝓜 g.world.𝓡 ((λ s x. x), (λ x. x), (λ x. x), λ x. x)).only_now x n image left;
-      file = λ x image left. (g.met.D.File.DiskFile g.world.𝓛 g.world.𝓜 g.world.𝓡 ((λ s x. x), (λ x. x), (λ x. x), λ x. x)).only_now x image left;
-    } in
-    let self = c.args.self.now in
-    let now = c.args.now.now in
-    let family = c.args.family in
-    let floor = c.args.floor in
-    let mid = c.reserve_edit.new.self in
-    let edit = c.raise_edit-edit.result in
-    let fault = c.in-Err-reserve_edit.fault in
-    let e = c.in-Err-reserve_edit.ensures in
-    absurd (false≢true (sym (none_disk fault e.fault) ∙ failed))
-
 pub returns-in-Err-reserve_edit-clause-refused : goal.returns-in-Err-reserve_edit-clause-refused
 returns-in-Err-reserve_edit-clause-refused g c not =
     let d = g.D.Disk in
@@ -218,8 +141,8 @@ returns-in-Err-reserve_edit-clause-refused g c not =
     let e = c.in-Err-reserve_edit.ensures in
     kept_before d f last self mid edit (Err fault) e
 
-pub returns-in-Err-reserve_edit-clause-same : goal.returns-in-Err-reserve_edit-clause-same
-returns-in-Err-reserve_edit-clause-same g c =
+pub returns-in-Err-reserve_edit-clause-called : goal.returns-in-Err-reserve_edit-clause-called
+returns-in-Err-reserve_edit-clause-called g c =
     let d = g.D.Disk in
     let f = g.D.File.DiskFile in
     let last : IsNowLast d f = record {
@@ -234,61 +157,12 @@ returns-in-Err-reserve_edit-clause-same g c =
     let edit = c.raise_edit-edit.result in
     let fault = c.in-Err-reserve_edit.fault in
     let e = c.in-Err-reserve_edit.ensures in
-    kept_folder d f last self mid edit (Err fault) e
-
-pub returns-in-Err-reserve_edit-clause-running : goal.returns-in-Err-reserve_edit-clause-running
-returns-in-Err-reserve_edit-clause-running g c not =
-    let d = g.D.Disk in
-    let f = g.D.File.DiskFile in
-    let last : IsNowLast d f = record {
-      disk = λ x n image left. (g.met.D.Disk g.world.𝓛 g.world.𝓜 g.world.𝓡 ((λ s x. x), (λ x. x), (λ x. x), λ x. x)).only_now x n image left;
-      file = λ x image left. (g.met.D.File.DiskFile g.world.𝓛 g.world.𝓜 g.world.𝓡 ((λ s x. x), (λ x. x), (λ x. x), λ x. x)).only_now x image left;
-    } in
-    let self = c.args.self.now in
-    let now = c.args.now.now in
-    let family = c.args.family in
-    let floor = c.args.floor in
-    let mid = c.reserve_edit.new.self in
-    let edit = c.raise_edit-edit.result in
-    let fault = c.in-Err-reserve_edit.fault in
-    let e = c.in-Err-reserve_edit.ensures in
-    e.running
-
-pub returns-in-Err-reserve_edit-clause-failed : goal.returns-in-Err-reserve_edit-clause-failed
-returns-in-Err-reserve_edit-clause-failed g c =
-    let d = g.D.Disk in
-    let f = g.D.File.DiskFile in
-    let last : IsNowLast d f = record {
-      disk = λ x n image left. (g.met.D.Disk g.world.𝓛 g.world.𝓜 g.world.𝓡 ((λ s x. x), (λ x. x), (λ x. x), λ x. x)).only_now x n image left;
-      file = λ x image left. (g.met.D.File.DiskFile g.world.𝓛 g.world.𝓜 g.world.𝓡 ((λ s x. x), (λ x. x), (λ x. x), λ x. x)).only_now x image left;
-    } in
-    let self = c.args.self.now in
-    let now = c.args.now.now in
-    let family = c.args.family in
-    let floor = c.args.floor in
-    let mid = c.reserve_edit.new.self in
-    let edit = c.raise_edit-edit.result in
-    let fault = c.in-Err-reserve_edit.fault in
-    let e = c.in-Err-reserve_edit.ensures in
-    e.running.runs ∙ sym (none_disk fault e.fault)
-
-pub returns-in-Err-reserve_edit-clause-cause : goal.returns-in-Err-reserve_edit-clause-cause
-returns-in-Err-reserve_edit-clause-cause g c =
-    let d = g.D.Disk in
-    let f = g.D.File.DiskFile in
-    let last : IsNowLast d f = record {
-      disk = λ x n image left. (g.met.D.Disk g.world.𝓛 g.world.𝓜 g.world.𝓡 ((λ s x. x), (λ x. x), (λ x. x), λ x. x)).only_now x n image left;
-      file = λ x image left. (g.met.D.File.DiskFile g.world.𝓛 g.world.𝓜 g.world.𝓡 ((λ s x. x), (λ x. x), (λ x. x), λ x. x)).only_now x image left;
-    } in
-    let self = c.args.self.now in
-    let now = c.args.now.now in
-    let family = c.args.family in
-    let floor = c.args.floor in
-    let mid = c.reserve_edit.new.self in
-    let edit = c.raise_edit-edit.result in
-    let fault = c.in-Err-reserve_edit.fault in
-    let e = c.in-Err-reserve_edit.ensures in
-    none_cause fault _ _ (none_disk fault e.fault) (kept_faults d f last self mid edit (Err fault) e)
+    record {
+      same = kept_folder d f last self mid edit (Err fault) e;
+      running = λ not. e.running;
+      failed = e.running.runs ∙ sym (none_disk fault e.fault);
+      counted = none_cause fault _ _ (none_disk fault e.fault) (kept_faults d f last self mid edit (Err fault) e);
+    }
 
 pub returns-in-Err-sync_log-clause-tells : goal.returns-in-Err-sync_log-clause-tells
 returns-in-Err-sync_log-clause-tells g c m co h =
@@ -330,26 +204,6 @@ returns-in-Err-sync_log-clause-moments g c m co number h =
     let e = c.in-Err-sync_log.ensures in
     first_ran d f last self mid edit (Ok tt) kept two (Err fault) e now m co number family floor h
 
-pub returns-in-Err-sync_log-clause-fails : goal.returns-in-Err-sync_log-clause-fails
-returns-in-Err-sync_log-clause-fails g c m co number h failed =
-    let d = g.D.Disk in
-    let f = g.D.File.DiskFile in
-    let last : IsNowLast d f = record {
-      disk = λ x n image left. (g.met.D.Disk g.world.𝓛 g.world.𝓜 g.world.𝓡 ((λ s x. x), (λ x. x), (λ x. x), λ x. x)).only_now x n image left;
-      file = λ x image left. (g.met.D.File.DiskFile g.world.𝓛 g.world.𝓜 g.world.𝓡 ((λ s x. x), (λ x. x), (λ x. x), λ x. x)).only_now x image left;
-    } in
-    let self = c.args.self.now in
-    let now = c.args.now.now in
-    let family = c.args.family in
-    let floor = c.args.floor in
-    let mid = c.reserve_edit.new.self in
-    let two = c.sync_log.new.self in
-    let edit = c.raise_edit-edit.result in
-    let kept = c.in-Ok-reserve_edit.ensures in
-    let fault = c.in-Err-sync_log.fault in
-    let e = c.in-Err-sync_log.ensures in
-    failed_leaves d f m co number (raise family floor) self two h.unfailed (first_ran d f last self mid edit (Ok tt) kept two (Err fault) e now m co number family floor h)
-
 pub returns-in-Err-sync_log-clause-refused : goal.returns-in-Err-sync_log-clause-refused
 returns-in-Err-sync_log-clause-refused g c not =
     let d = g.D.Disk in
@@ -370,8 +224,8 @@ returns-in-Err-sync_log-clause-refused g c not =
     let e = c.in-Err-sync_log.ensures in
     absurd (false≢true (sym not ∙ disk_disk fault e.fault))
 
-pub returns-in-Err-sync_log-clause-same : goal.returns-in-Err-sync_log-clause-same
-returns-in-Err-sync_log-clause-same g c =
+pub returns-in-Err-sync_log-clause-called : goal.returns-in-Err-sync_log-clause-called
+returns-in-Err-sync_log-clause-called g c =
     let d = g.D.Disk in
     let f = g.D.File.DiskFile in
     let last : IsNowLast d f = record {
@@ -388,67 +242,12 @@ returns-in-Err-sync_log-clause-same g c =
     let kept = c.in-Ok-reserve_edit.ensures in
     let fault = c.in-Err-sync_log.fault in
     let e = c.in-Err-sync_log.ensures in
-    first_folder d f last self mid edit (Ok tt) kept two (Err fault) e
-
-pub returns-in-Err-sync_log-clause-running : goal.returns-in-Err-sync_log-clause-running
-returns-in-Err-sync_log-clause-running g c not =
-    let d = g.D.Disk in
-    let f = g.D.File.DiskFile in
-    let last : IsNowLast d f = record {
-      disk = λ x n image left. (g.met.D.Disk g.world.𝓛 g.world.𝓜 g.world.𝓡 ((λ s x. x), (λ x. x), (λ x. x), λ x. x)).only_now x n image left;
-      file = λ x image left. (g.met.D.File.DiskFile g.world.𝓛 g.world.𝓜 g.world.𝓡 ((λ s x. x), (λ x. x), (λ x. x), λ x. x)).only_now x image left;
-    } in
-    let self = c.args.self.now in
-    let now = c.args.now.now in
-    let family = c.args.family in
-    let floor = c.args.floor in
-    let mid = c.reserve_edit.new.self in
-    let two = c.sync_log.new.self in
-    let edit = c.raise_edit-edit.result in
-    let kept = c.in-Ok-reserve_edit.ensures in
-    let fault = c.in-Err-sync_log.fault in
-    let e = c.in-Err-sync_log.ensures in
-    absurd (false≢true (sym not ∙ disk_disk fault e.fault))
-
-pub returns-in-Err-sync_log-clause-failed : goal.returns-in-Err-sync_log-clause-failed
-returns-in-Err-sync_log-clause-failed g c =
-    let d = g.D.Disk in
-    let f = g.D.File.DiskFile in
-    let last : IsNowLast d f = record {
-      disk = λ x n image left. (g.met.D.Disk g.world.𝓛 g.world.𝓜 g.world.𝓡 ((λ s x. x), (λ x. x), (λ x. x), λ x. x)).only_now x n image left;
-      file = λ x image left. (g.met.D.File.DiskFile g.world.𝓛 g.world.𝓜 g.world.𝓡 ((λ s x. x), (λ x. x), (λ x. x), λ x. x)).only_now x image left;
-    } in
-    let self = c.args.self.now in
-    let now = c.args.now.now in
-    let family = c.args.family in
-    let floor = c.args.floor in
-    let mid = c.reserve_edit.new.self in
-    let two = c.sync_log.new.self in
-    let edit = c.raise_edit-edit.result in
-    let kept = c.in-Ok-reserve_edit.ensures in
-    let fault = c.in-Err-sync_log.fault in
-    let e = c.in-Err-sync_log.ensures in
-    e.failed
-
-pub returns-in-Err-sync_log-clause-cause : goal.returns-in-Err-sync_log-clause-cause
-returns-in-Err-sync_log-clause-cause g c =
-    let d = g.D.Disk in
-    let f = g.D.File.DiskFile in
-    let last : IsNowLast d f = record {
-      disk = λ x n image left. (g.met.D.Disk g.world.𝓛 g.world.𝓜 g.world.𝓡 ((λ s x. x), (λ x. x), (λ x. x), λ x. x)).only_now x n image left;
-      file = λ x image left. (g.met.D.File.DiskFile g.world.𝓛 g.world.𝓜 g.world.𝓡 ((λ s x. x), (λ x. x), (λ x. x), λ x. x)).only_now x image left;
-    } in
-    let self = c.args.self.now in
-    let now = c.args.now.now in
-    let family = c.args.family in
-    let floor = c.args.floor in
-    let mid = c.reserve_edit.new.self in
-    let two = c.sync_log.new.self in
-    let edit = c.raise_edit-edit.result in
-    let kept = c.in-Ok-reserve_edit.ensures in
-    let fault = c.in-Err-sync_log.fault in
-    let e = c.in-Err-sync_log.ensures in
-    disk_cause fault _ _ e.fault (first_cause d f last self mid edit (Ok tt) kept two (Err fault) e).failed
+    record {
+      same = first_folder d f last self mid edit (Ok tt) kept two (Err fault) e;
+      running = λ not. absurd (false≢true (sym not ∙ disk_disk fault e.fault));
+      failed = e.failed;
+      counted = disk_cause fault _ _ e.fault (first_cause d f last self mid edit (Ok tt) kept two (Err fault) e).failed;
+    }
 
 pub returns-in-Err-append_edit-clause-tells : goal.returns-in-Err-append_edit-clause-tells
 returns-in-Err-append_edit-clause-tells g c m co h =
@@ -506,34 +305,6 @@ returns-in-Err-append_edit-clause-moments g c m co number h =
     let e = c.in-Err-append_edit.ensures in
     second_ran d f last self mid edit (Ok tt) kept two new synced (Err fault) e now family floor fam (fold_there fold now fits family floor state here).1 is c.requires.running.together m co number h (raised_told m family floor (c.in-Ok.ensures.admitted m h.runs h.shows))
 
-pub returns-in-Err-append_edit-clause-fails : goal.returns-in-Err-append_edit-clause-fails
-returns-in-Err-append_edit-clause-fails g c m co number h failed =
-    let d = g.D.Disk in
-    let f = g.D.File.DiskFile in
-    let last : IsNowLast d f = record {
-      disk = λ x n image left. (g.met.D.Disk g.world.𝓛 g.world.𝓜 g.world.𝓡 ((λ s x. x), (λ x. x), (λ x. x), λ x. x)).only_now x n image left;
-      file = λ x image left. (g.met.D.File.DiskFile g.world.𝓛 g.world.𝓜 g.world.𝓡 ((λ s x. x), (λ x. x), (λ x. x), λ x. x)).only_now x image left;
-    } in
-    let self = c.args.self.now in
-    let now = c.args.now.now in
-    let family = c.args.family in
-    let floor = c.args.floor in
-    let state = c.in-Some.state.now in
-    let here : slice_get now.families family.0 ≡ Some state = sym c.in-Some.ensures in
-    let fold = manifest_folded self.manifest in
-    let fits = c.requires.current.fits in
-    let fam = family_there fold now fits family floor state here in
-    let edit = c.raise_edit-edit.result in
-    let is : edit ≡ raise_edit now.last self.next family fam floor = c.raise_edit-edit.ensures ∙ ap (λ (q : Seq). (let e : Edit = record { add_logs = []; drop_logs = []; next_file = self.next; last = now.last; family = Some (record { family = family; floor = floor; through = q; add = []; remove = [] }) } in e)) (state_is fold now fits family floor state here).through in
-    let mid = c.reserve_edit.new.self in
-    let two = c.sync_log.new.self in
-    let kept = c.in-Ok-reserve_edit.ensures in
-    let synced = c.in-Ok-sync_log.ensures in
-    let new = c.append_edit.new.self in
-    let fault = c.in-Err-append_edit.fault in
-    let e = c.in-Err-append_edit.ensures in
-    failed_leaves d f m co number (raise family floor) self new h.unfailed (second_ran d f last self mid edit (Ok tt) kept two new synced (Err fault) e now family floor fam (fold_there fold now fits family floor state here).1 is c.requires.running.together m co number h (raised_told m family floor (c.in-Ok.ensures.admitted m h.runs h.shows)))
-
 pub returns-in-Err-append_edit-clause-refused : goal.returns-in-Err-append_edit-clause-refused
 returns-in-Err-append_edit-clause-refused g c not =
     let d = g.D.Disk in
@@ -562,8 +333,8 @@ returns-in-Err-append_edit-clause-refused g c not =
     let e = c.in-Err-append_edit.ensures in
     absurd (false≢true (sym not ∙ disk_disk fault e.fault))
 
-pub returns-in-Err-append_edit-clause-same : goal.returns-in-Err-append_edit-clause-same
-returns-in-Err-append_edit-clause-same g c =
+pub returns-in-Err-append_edit-clause-called : goal.returns-in-Err-append_edit-clause-called
+returns-in-Err-append_edit-clause-called g c =
     let d = g.D.Disk in
     let f = g.D.File.DiskFile in
     let last : IsNowLast d f = record {
@@ -588,91 +359,12 @@ returns-in-Err-append_edit-clause-same g c =
     let new = c.append_edit.new.self in
     let fault = c.in-Err-append_edit.fault in
     let e = c.in-Err-append_edit.ensures in
-    edited_folder d f last self mid edit (Ok tt) kept two new (Err fault) synced e
-
-pub returns-in-Err-append_edit-clause-running : goal.returns-in-Err-append_edit-clause-running
-returns-in-Err-append_edit-clause-running g c not =
-    let d = g.D.Disk in
-    let f = g.D.File.DiskFile in
-    let last : IsNowLast d f = record {
-      disk = λ x n image left. (g.met.D.Disk g.world.𝓛 g.world.𝓜 g.world.𝓡 ((λ s x. x), (λ x. x), (λ x. x), λ x. x)).only_now x n image left;
-      file = λ x image left. (g.met.D.File.DiskFile g.world.𝓛 g.world.𝓜 g.world.𝓡 ((λ s x. x), (λ x. x), (λ x. x), λ x. x)).only_now x image left;
-    } in
-    let self = c.args.self.now in
-    let now = c.args.now.now in
-    let family = c.args.family in
-    let floor = c.args.floor in
-    let state = c.in-Some.state.now in
-    let here : slice_get now.families family.0 ≡ Some state = sym c.in-Some.ensures in
-    let fold = manifest_folded self.manifest in
-    let fits = c.requires.current.fits in
-    let fam = family_there fold now fits family floor state here in
-    let edit = c.raise_edit-edit.result in
-    let is : edit ≡ raise_edit now.last self.next family fam floor = c.raise_edit-edit.ensures ∙ ap (λ (q : Seq). (let e : Edit = record { add_logs = []; drop_logs = []; next_file = self.next; last = now.last; family = Some (record { family = family; floor = floor; through = q; add = []; remove = [] }) } in e)) (state_is fold now fits family floor state here).through in
-    let mid = c.reserve_edit.new.self in
-    let two = c.sync_log.new.self in
-    let kept = c.in-Ok-reserve_edit.ensures in
-    let synced = c.in-Ok-sync_log.ensures in
-    let new = c.append_edit.new.self in
-    let fault = c.in-Err-append_edit.fault in
-    let e = c.in-Err-append_edit.ensures in
-    absurd (false≢true (sym not ∙ disk_disk fault e.fault))
-
-pub returns-in-Err-append_edit-clause-failed : goal.returns-in-Err-append_edit-clause-failed
-returns-in-Err-append_edit-clause-failed g c =
-    let d = g.D.Disk in
-    let f = g.D.File.DiskFile in
-    let last : IsNowLast d f = record {
-      disk = λ x n image left. (g.met.D.Disk g.world.𝓛 g.world.𝓜 g.world.𝓡 ((λ s x. x), (λ x. x), (λ x. x), λ x. x)).only_now x n image left;
-      file = λ x image left. (g.met.D.File.DiskFile g.world.𝓛 g.world.𝓜 g.world.𝓡 ((λ s x. x), (λ x. x), (λ x. x), λ x. x)).only_now x image left;
-    } in
-    let self = c.args.self.now in
-    let now = c.args.now.now in
-    let family = c.args.family in
-    let floor = c.args.floor in
-    let state = c.in-Some.state.now in
-    let here : slice_get now.families family.0 ≡ Some state = sym c.in-Some.ensures in
-    let fold = manifest_folded self.manifest in
-    let fits = c.requires.current.fits in
-    let fam = family_there fold now fits family floor state here in
-    let edit = c.raise_edit-edit.result in
-    let is : edit ≡ raise_edit now.last self.next family fam floor = c.raise_edit-edit.ensures ∙ ap (λ (q : Seq). (let e : Edit = record { add_logs = []; drop_logs = []; next_file = self.next; last = now.last; family = Some (record { family = family; floor = floor; through = q; add = []; remove = [] }) } in e)) (state_is fold now fits family floor state here).through in
-    let mid = c.reserve_edit.new.self in
-    let two = c.sync_log.new.self in
-    let kept = c.in-Ok-reserve_edit.ensures in
-    let synced = c.in-Ok-sync_log.ensures in
-    let new = c.append_edit.new.self in
-    let fault = c.in-Err-append_edit.fault in
-    let e = c.in-Err-append_edit.ensures in
-    e.failed
-
-pub returns-in-Err-append_edit-clause-cause : goal.returns-in-Err-append_edit-clause-cause
-returns-in-Err-append_edit-clause-cause g c =
-    let d = g.D.Disk in
-    let f = g.D.File.DiskFile in
-    let last : IsNowLast d f = record {
-      disk = λ x n image left. (g.met.D.Disk g.world.𝓛 g.world.𝓜 g.world.𝓡 ((λ s x. x), (λ x. x), (λ x. x), λ x. x)).only_now x n image left;
-      file = λ x image left. (g.met.D.File.DiskFile g.world.𝓛 g.world.𝓜 g.world.𝓡 ((λ s x. x), (λ x. x), (λ x. x), λ x. x)).only_now x image left;
-    } in
-    let self = c.args.self.now in
-    let now = c.args.now.now in
-    let family = c.args.family in
-    let floor = c.args.floor in
-    let state = c.in-Some.state.now in
-    let here : slice_get now.families family.0 ≡ Some state = sym c.in-Some.ensures in
-    let fold = manifest_folded self.manifest in
-    let fits = c.requires.current.fits in
-    let fam = family_there fold now fits family floor state here in
-    let edit = c.raise_edit-edit.result in
-    let is : edit ≡ raise_edit now.last self.next family fam floor = c.raise_edit-edit.ensures ∙ ap (λ (q : Seq). (let e : Edit = record { add_logs = []; drop_logs = []; next_file = self.next; last = now.last; family = Some (record { family = family; floor = floor; through = q; add = []; remove = [] }) } in e)) (state_is fold now fits family floor state here).through in
-    let mid = c.reserve_edit.new.self in
-    let two = c.sync_log.new.self in
-    let kept = c.in-Ok-reserve_edit.ensures in
-    let synced = c.in-Ok-sync_log.ensures in
-    let new = c.append_edit.new.self in
-    let fault = c.in-Err-append_edit.fault in
-    let e = c.in-Err-append_edit.ensures in
-    disk_cause fault _ _ e.fault (second_cause d f last self mid edit (Ok tt) kept two new synced (Err fault) e).failed
+    record {
+      same = edited_folder d f last self mid edit (Ok tt) kept two new (Err fault) synced e;
+      running = λ not. absurd (false≢true (sym not ∙ disk_disk fault e.fault));
+      failed = e.failed;
+      counted = disk_cause fault _ _ e.fault (second_cause d f last self mid edit (Ok tt) kept two new synced (Err fault) e).failed;
+    }
 
 pub returns-in-Ok-append_edit-clause-tells : goal.returns-in-Ok-append_edit-clause-tells
 returns-in-Ok-append_edit-clause-tells g c m co h =
@@ -758,34 +450,6 @@ returns-in-Ok-append_edit-clause-moments g c m co number h =
     let next = arc_value c.in-Ok.next in
     second_ran d f last self mid edit (Ok tt) kept two new synced (Ok tt) e now family floor fam (fold_there fold now fits family floor state here).1 is c.requires.running.together m co number h (raised_told m family floor (c.in-Ok.ensures.admitted m h.runs h.shows))
 
-pub returns-in-Ok-append_edit-clause-fails : goal.returns-in-Ok-append_edit-clause-fails
-returns-in-Ok-append_edit-clause-fails g c m co number h failed =
-    let d = g.D.Disk in
-    let f = g.D.File.DiskFile in
-    let last : IsNowLast d f = record {
-      disk = λ x n image left. (g.met.D.Disk g.world.𝓛 g.world.𝓜 g.world.𝓡 ((λ s x. x), (λ x. x), (λ x. x), λ x. x)).only_now x n image left;
-      file = λ x image left. (g.met.D.File.DiskFile g.world.𝓛 g.world.𝓜 g.world.𝓡 ((λ s x. x), (λ x. x), (λ x. x), λ x. x)).only_now x image left;
-    } in
-    let self = c.args.self.now in
-    let now = c.args.now.now in
-    let family = c.args.family in
-    let floor = c.args.floor in
-    let state = c.in-Some.state.now in
-    let here : slice_get now.families family.0 ≡ Some state = sym c.in-Some.ensures in
-    let fold = manifest_folded self.manifest in
-    let fits = c.requires.current.fits in
-    let fam = family_there fold now fits family floor state here in
-    let edit = c.raise_edit-edit.result in
-    let is : edit ≡ raise_edit now.last self.next family fam floor = c.raise_edit-edit.ensures ∙ ap (λ (q : Seq). (let e : Edit = record { add_logs = []; drop_logs = []; next_file = self.next; last = now.last; family = Some (record { family = family; floor = floor; through = q; add = []; remove = [] }) } in e)) (state_is fold now fits family floor state here).through in
-    let mid = c.reserve_edit.new.self in
-    let two = c.sync_log.new.self in
-    let kept = c.in-Ok-reserve_edit.ensures in
-    let synced = c.in-Ok-sync_log.ensures in
-    let new = c.append_edit.new.self in
-    let e = c.in-Ok-append_edit.ensures in
-    let next = arc_value c.in-Ok.next in
-    absurd (false≢true failed)
-
 pub returns-in-Ok-append_edit-clause-current : goal.returns-in-Ok-append_edit-clause-current
 returns-in-Ok-append_edit-clause-current g c =
     let d = g.D.Disk in
@@ -815,8 +479,8 @@ returns-in-Ok-append_edit-clause-current g c =
     let new_fits = raised_fits fold now fits family floor state here self.next c.requires.running.together.well (c.in-Ok.ensures.higher state here) c.requires.running.together.more c.requires.running.together.most next c.in-Ok.ensures.shown in
     second_current d f last self mid edit (Ok tt) kept two new synced (Ok tt) e now family floor fam (fold_there fold now fits family floor state here).1 is c.requires.running.together next (subst (λ (x : Edit). FitsFold (fold_with fold x) next) (sym is) new_fits) c.in-Ok.ensures.shown.last c.requires.current
 
-pub returns-in-Ok-append_edit-clause-same : goal.returns-in-Ok-append_edit-clause-same
-returns-in-Ok-append_edit-clause-same g c =
+pub returns-in-Ok-append_edit-clause-called : goal.returns-in-Ok-append_edit-clause-called
+returns-in-Ok-append_edit-clause-called g c =
     let d = g.D.Disk in
     let f = g.D.File.DiskFile in
     let last : IsNowLast d f = record {
@@ -841,91 +505,12 @@ returns-in-Ok-append_edit-clause-same g c =
     let new = c.append_edit.new.self in
     let e = c.in-Ok-append_edit.ensures in
     let next = arc_value c.in-Ok.next in
-    edited_folder d f last self mid edit (Ok tt) kept two new (Ok tt) synced e
-
-pub returns-in-Ok-append_edit-clause-running : goal.returns-in-Ok-append_edit-clause-running
-returns-in-Ok-append_edit-clause-running g c not =
-    let d = g.D.Disk in
-    let f = g.D.File.DiskFile in
-    let last : IsNowLast d f = record {
-      disk = λ x n image left. (g.met.D.Disk g.world.𝓛 g.world.𝓜 g.world.𝓡 ((λ s x. x), (λ x. x), (λ x. x), λ x. x)).only_now x n image left;
-      file = λ x image left. (g.met.D.File.DiskFile g.world.𝓛 g.world.𝓜 g.world.𝓡 ((λ s x. x), (λ x. x), (λ x. x), λ x. x)).only_now x image left;
-    } in
-    let self = c.args.self.now in
-    let now = c.args.now.now in
-    let family = c.args.family in
-    let floor = c.args.floor in
-    let state = c.in-Some.state.now in
-    let here : slice_get now.families family.0 ≡ Some state = sym c.in-Some.ensures in
-    let fold = manifest_folded self.manifest in
-    let fits = c.requires.current.fits in
-    let fam = family_there fold now fits family floor state here in
-    let edit = c.raise_edit-edit.result in
-    let is : edit ≡ raise_edit now.last self.next family fam floor = c.raise_edit-edit.ensures ∙ ap (λ (q : Seq). (let e : Edit = record { add_logs = []; drop_logs = []; next_file = self.next; last = now.last; family = Some (record { family = family; floor = floor; through = q; add = []; remove = [] }) } in e)) (state_is fold now fits family floor state here).through in
-    let mid = c.reserve_edit.new.self in
-    let two = c.sync_log.new.self in
-    let kept = c.in-Ok-reserve_edit.ensures in
-    let synced = c.in-Ok-sync_log.ensures in
-    let new = c.append_edit.new.self in
-    let e = c.in-Ok-append_edit.ensures in
-    let next = arc_value c.in-Ok.next in
-    e.running
-
-pub returns-in-Ok-append_edit-clause-failed : goal.returns-in-Ok-append_edit-clause-failed
-returns-in-Ok-append_edit-clause-failed g c =
-    let d = g.D.Disk in
-    let f = g.D.File.DiskFile in
-    let last : IsNowLast d f = record {
-      disk = λ x n image left. (g.met.D.Disk g.world.𝓛 g.world.𝓜 g.world.𝓡 ((λ s x. x), (λ x. x), (λ x. x), λ x. x)).only_now x n image left;
-      file = λ x image left. (g.met.D.File.DiskFile g.world.𝓛 g.world.𝓜 g.world.𝓡 ((λ s x. x), (λ x. x), (λ x. x), λ x. x)).only_now x image left;
-    } in
-    let self = c.args.self.now in
-    let now = c.args.now.now in
-    let family = c.args.family in
-    let floor = c.args.floor in
-    let state = c.in-Some.state.now in
-    let here : slice_get now.families family.0 ≡ Some state = sym c.in-Some.ensures in
-    let fold = manifest_folded self.manifest in
-    let fits = c.requires.current.fits in
-    let fam = family_there fold now fits family floor state here in
-    let edit = c.raise_edit-edit.result in
-    let is : edit ≡ raise_edit now.last self.next family fam floor = c.raise_edit-edit.ensures ∙ ap (λ (q : Seq). (let e : Edit = record { add_logs = []; drop_logs = []; next_file = self.next; last = now.last; family = Some (record { family = family; floor = floor; through = q; add = []; remove = [] }) } in e)) (state_is fold now fits family floor state here).through in
-    let mid = c.reserve_edit.new.self in
-    let two = c.sync_log.new.self in
-    let kept = c.in-Ok-reserve_edit.ensures in
-    let synced = c.in-Ok-sync_log.ensures in
-    let new = c.append_edit.new.self in
-    let e = c.in-Ok-append_edit.ensures in
-    let next = arc_value c.in-Ok.next in
-    e.failed
-
-pub returns-in-Ok-append_edit-clause-kept : goal.returns-in-Ok-append_edit-clause-kept
-returns-in-Ok-append_edit-clause-kept g c =
-    let d = g.D.Disk in
-    let f = g.D.File.DiskFile in
-    let last : IsNowLast d f = record {
-      disk = λ x n image left. (g.met.D.Disk g.world.𝓛 g.world.𝓜 g.world.𝓡 ((λ s x. x), (λ x. x), (λ x. x), λ x. x)).only_now x n image left;
-      file = λ x image left. (g.met.D.File.DiskFile g.world.𝓛 g.world.𝓜 g.world.𝓡 ((λ s x. x), (λ x. x), (λ x. x), λ x. x)).only_now x image left;
-    } in
-    let self = c.args.self.now in
-    let now = c.args.now.now in
-    let family = c.args.family in
-    let floor = c.args.floor in
-    let state = c.in-Some.state.now in
-    let here : slice_get now.families family.0 ≡ Some state = sym c.in-Some.ensures in
-    let fold = manifest_folded self.manifest in
-    let fits = c.requires.current.fits in
-    let fam = family_there fold now fits family floor state here in
-    let edit = c.raise_edit-edit.result in
-    let is : edit ≡ raise_edit now.last self.next family fam floor = c.raise_edit-edit.ensures ∙ ap (λ (q : Seq). (let e : Edit = record { add_logs = []; drop_logs = []; next_file = self.next; last = now.last; family = Some (record { family = family; floor = floor; through = q; add = []; remove = [] }) } in e)) (state_is fold now fits family floor state here).through in
-    let mid = c.reserve_edit.new.self in
-    let two = c.sync_log.new.self in
-    let kept = c.in-Ok-reserve_edit.ensures in
-    let synced = c.in-Ok-sync_log.ensures in
-    let new = c.append_edit.new.self in
-    let e = c.in-Ok-append_edit.ensures in
-    let next = arc_value c.in-Ok.next in
-    (second_cause d f last self mid edit (Ok tt) kept two new synced (Ok tt) e).kept
+    record {
+      same = edited_folder d f last self mid edit (Ok tt) kept two new (Ok tt) synced e;
+      running = λ not. e.running;
+      failed = e.failed;
+      counted = (second_cause d f last self mid edit (Ok tt) kept two new synced (Ok tt) e).kept;
+    }
 
 pub append_edit-requires-clause-accepted : goal.append_edit-requires-clause-accepted
 append_edit-requires-clause-accepted g c =
@@ -1028,4 +613,3 @@ append_edit-requires-clause-logs g c =
     let kept = c.in-Ok-reserve_edit.ensures in
     let synced = c.in-Ok-sync_log.ensures in
     λ κs outlived. (ap (λ (x : Edit). x.add_logs) is, ap (λ (x : Edit). x.drop_logs) is)
-

@@ -1,6 +1,6 @@
 use Rattle.engine_laws.specs.Joints.{IsNowLast}
 use Rattle.store_engine.proofs.Answering.{sync_tells, sync_told}
-use Rattle.store_engine.proofs.Synced.{synced_cause, synced_goes, synced_now, synced_ran}
+use Rattle.store_engine.proofs.Synced.{synced_called, synced_goes, synced_now, synced_ran}
 use Rattle.store_engine.proofs.engine.Engine.sync.Goals as goal
 
 pub returns-clause-tells : goal.returns-clause-tells
@@ -38,12 +38,12 @@ returns-clause-current g c now current =
     } in
     synced_goes d f last c.args.self.now c.sync_log.new.self c.sync_log.result c.sync_log.ensures now current.fits current.goes_on
 
-pub returns-clause-cause : goal.returns-clause-cause
-returns-clause-cause g c =
+pub returns-clause-called : goal.returns-clause-called
+returns-clause-called g c =
     let d = g.D.Disk in
     let f = g.D.File.DiskFile in
     let last : IsNowLast d f = record {
       disk = λ x n image left. (g.met.D.Disk g.world.𝓛 g.world.𝓜 g.world.𝓡 ((λ s x. x), (λ x. x), (λ x. x), λ x. x)).only_now x n image left;
       file = λ x image left. (g.met.D.File.DiskFile g.world.𝓛 g.world.𝓜 g.world.𝓡 ((λ s x. x), (λ x. x), (λ x. x), λ x. x)).only_now x image left;
     } in
-    synced_cause d f last c.args.self.now c.sync_log.new.self c.sync_log.result c.sync_log.ensures
+    synced_called d f last c.args.self.now c.sync_log.new.self c.sync_log.result c.sync_log.ensures

@@ -5,7 +5,7 @@ use Rattle.wal.specs.declared.numbered.Numbered.{Numbered}
 use Rattle.udt_model.specs.Acts.Act.{write}
 use Rattle.engine_laws.specs.Joints.{IsNowLast}
 use Rattle.store_engine.specs.Replies.{is_disk_fault}
-use Rattle.store_engine.proofs.Answering.{as_before, disk_cause, disk_disk, disk_tells, failed_leaves, memory_fault, none_cause, none_disk, none_tells, rest_ran, same_folder, write_fails, write_refused, written_told}
+use Rattle.store_engine.proofs.Answering.{as_before, disk_cause, disk_disk, disk_tells, memory_fault, none_cause, none_disk, none_tells, rest_ran, same_folder, write_fails, write_refused, written_told}
 use Rattle.store_engine.proofs.Written.{added_faults, added_folder, appended_held, unadded}
 use Rattle.store_engine.proofs.Writing.{end_cause, end_current, end_failed, end_fault, end_folder, end_now, end_ran, end_running, end_synced, end_waits}
 use Rattle.store_engine.proofs.engine.Engine.write.Goals as goal
@@ -42,22 +42,6 @@ returns-in-Err-clause-moments g c m co number h =
     let e = c.in-Err.ensures in
     rest_ran d f last self self now m co number (write ops sync) h refl
 
-pub returns-in-Err-clause-fails : goal.returns-in-Err-clause-fails
-returns-in-Err-clause-fails g c m co number h is =
-    let d = g.D.Disk in
-    let f = g.D.File.DiskFile in
-    let last : IsNowLast d f = record {
-      disk = λ x n image left. (g.met.D.Disk g.world.𝓛 g.world.𝓜 g.world.𝓡 ((λ s x. x), (λ x. x), (λ x. x), λ x. x)).only_now x n image left;
-      file = λ x image left. (g.met.D.File.DiskFile g.world.𝓛 g.world.𝓜 g.world.𝓡 ((λ s x. x), (λ x. x), (λ x. x), λ x. x)).only_now x image left;
-    } in
-    let self = c.args.self.now in
-    let now = c.args.now.now in
-    let ops = c.args.batch.now in
-    let sync = c.args.sync in
-    let fault = c.in-Err.fault in
-    let e = c.in-Err.ensures in
-    absurd (false≢true (sym (memory_fault fault e.memory) ∙ is))
-
 pub returns-in-Err-clause-refused : goal.returns-in-Err-clause-refused
 returns-in-Err-clause-refused g c not =
     let d = g.D.Disk in
@@ -74,8 +58,8 @@ returns-in-Err-clause-refused g c not =
     let e = c.in-Err.ensures in
     as_before d f last self
 
-pub returns-in-Err-clause-same : goal.returns-in-Err-clause-same
-returns-in-Err-clause-same g c =
+pub returns-in-Err-clause-called : goal.returns-in-Err-clause-called
+returns-in-Err-clause-called g c =
     let d = g.D.Disk in
     let f = g.D.File.DiskFile in
     let last : IsNowLast d f = record {
@@ -88,55 +72,12 @@ returns-in-Err-clause-same g c =
     let sync = c.args.sync in
     let fault = c.in-Err.fault in
     let e = c.in-Err.ensures in
-    same_folder d f last self
-
-pub returns-in-Err-clause-running : goal.returns-in-Err-clause-running
-returns-in-Err-clause-running g c not =
-    let d = g.D.Disk in
-    let f = g.D.File.DiskFile in
-    let last : IsNowLast d f = record {
-      disk = λ x n image left. (g.met.D.Disk g.world.𝓛 g.world.𝓜 g.world.𝓡 ((λ s x. x), (λ x. x), (λ x. x), λ x. x)).only_now x n image left;
-      file = λ x image left. (g.met.D.File.DiskFile g.world.𝓛 g.world.𝓜 g.world.𝓡 ((λ s x. x), (λ x. x), (λ x. x), λ x. x)).only_now x image left;
-    } in
-    let self = c.args.self.now in
-    let now = c.args.now.now in
-    let ops = c.args.batch.now in
-    let sync = c.args.sync in
-    let fault = c.in-Err.fault in
-    let e = c.in-Err.ensures in
-    c.requires.running
-
-pub returns-in-Err-clause-failed : goal.returns-in-Err-clause-failed
-returns-in-Err-clause-failed g c =
-    let d = g.D.Disk in
-    let f = g.D.File.DiskFile in
-    let last : IsNowLast d f = record {
-      disk = λ x n image left. (g.met.D.Disk g.world.𝓛 g.world.𝓜 g.world.𝓡 ((λ s x. x), (λ x. x), (λ x. x), λ x. x)).only_now x n image left;
-      file = λ x image left. (g.met.D.File.DiskFile g.world.𝓛 g.world.𝓜 g.world.𝓡 ((λ s x. x), (λ x. x), (λ x. x), λ x. x)).only_now x image left;
-    } in
-    let self = c.args.self.now in
-    let now = c.args.now.now in
-    let ops = c.args.batch.now in
-    let sync = c.args.sync in
-    let fault = c.in-Err.fault in
-    let e = c.in-Err.ensures in
-    c.requires.running.runs ∙ sym (memory_fault fault e.memory)
-
-pub returns-in-Err-clause-cause : goal.returns-in-Err-clause-cause
-returns-in-Err-clause-cause g c =
-    let d = g.D.Disk in
-    let f = g.D.File.DiskFile in
-    let last : IsNowLast d f = record {
-      disk = λ x n image left. (g.met.D.Disk g.world.𝓛 g.world.𝓜 g.world.𝓡 ((λ s x. x), (λ x. x), (λ x. x), λ x. x)).only_now x n image left;
-      file = λ x image left. (g.met.D.File.DiskFile g.world.𝓛 g.world.𝓜 g.world.𝓡 ((λ s x. x), (λ x. x), (λ x. x), λ x. x)).only_now x image left;
-    } in
-    let self = c.args.self.now in
-    let now = c.args.now.now in
-    let ops = c.args.batch.now in
-    let sync = c.args.sync in
-    let fault = c.in-Err.fault in
-    let e = c.in-Err.ensures in
-    none_cause fault _ _ (memory_fault fault e.memory) refl
+    record {
+      same = same_folder d f last self;
+      running = λ not. c.requires.running;
+      failed = c.requires.running.runs ∙ sym (memory_fault fault e.memory);
+      counted = none_cause fault _ _ (memory_fault fault e.memory) refl;
+    }
 
 pub returns-in-Err-add_batch-clause-tells : goal.returns-in-Err-add_batch-clause-tells
 returns-in-Err-add_batch-clause-tells g c m co h =
@@ -174,24 +115,6 @@ returns-in-Err-add_batch-clause-moments g c m co number h =
     let b : Numbered = record { first = record { 0 = now.last.0 + 1 }; batch = ops } in
     rest_ran d f last self mid now m co number (write ops sync) h (appended_held d f last self mid b (Err fault) e)
 
-pub returns-in-Err-add_batch-clause-fails : goal.returns-in-Err-add_batch-clause-fails
-returns-in-Err-add_batch-clause-fails g c m co number h is =
-    let d = g.D.Disk in
-    let f = g.D.File.DiskFile in
-    let last : IsNowLast d f = record {
-      disk = λ x n image left. (g.met.D.Disk g.world.𝓛 g.world.𝓜 g.world.𝓡 ((λ s x. x), (λ x. x), (λ x. x), λ x. x)).only_now x n image left;
-      file = λ x image left. (g.met.D.File.DiskFile g.world.𝓛 g.world.𝓜 g.world.𝓡 ((λ s x. x), (λ x. x), (λ x. x), λ x. x)).only_now x image left;
-    } in
-    let self = c.args.self.now in
-    let now = c.args.now.now in
-    let ops = c.args.batch.now in
-    let sync = c.args.sync in
-    let mid = c.add_batch.new.self in
-    let fault = c.in-Err-add_batch.fault in
-    let e = c.in-Err-add_batch.ensures in
-    let b : Numbered = record { first = record { 0 = now.last.0 + 1 }; batch = ops } in
-    absurd (false≢true (sym (none_disk fault e.fault) ∙ is))
-
 pub returns-in-Err-add_batch-clause-refused : goal.returns-in-Err-add_batch-clause-refused
 returns-in-Err-add_batch-clause-refused g c not =
     let d = g.D.Disk in
@@ -210,8 +133,8 @@ returns-in-Err-add_batch-clause-refused g c not =
     let b : Numbered = record { first = record { 0 = now.last.0 + 1 }; batch = ops } in
     unadded d f last self mid b (Err fault) e
 
-pub returns-in-Err-add_batch-clause-same : goal.returns-in-Err-add_batch-clause-same
-returns-in-Err-add_batch-clause-same g c =
+pub returns-in-Err-add_batch-clause-called : goal.returns-in-Err-add_batch-clause-called
+returns-in-Err-add_batch-clause-called g c =
     let d = g.D.Disk in
     let f = g.D.File.DiskFile in
     let last : IsNowLast d f = record {
@@ -226,61 +149,12 @@ returns-in-Err-add_batch-clause-same g c =
     let fault = c.in-Err-add_batch.fault in
     let e = c.in-Err-add_batch.ensures in
     let b : Numbered = record { first = record { 0 = now.last.0 + 1 }; batch = ops } in
-    added_folder d f last self mid b (Err fault) e
-
-pub returns-in-Err-add_batch-clause-running : goal.returns-in-Err-add_batch-clause-running
-returns-in-Err-add_batch-clause-running g c not =
-    let d = g.D.Disk in
-    let f = g.D.File.DiskFile in
-    let last : IsNowLast d f = record {
-      disk = λ x n image left. (g.met.D.Disk g.world.𝓛 g.world.𝓜 g.world.𝓡 ((λ s x. x), (λ x. x), (λ x. x), λ x. x)).only_now x n image left;
-      file = λ x image left. (g.met.D.File.DiskFile g.world.𝓛 g.world.𝓜 g.world.𝓡 ((λ s x. x), (λ x. x), (λ x. x), λ x. x)).only_now x image left;
-    } in
-    let self = c.args.self.now in
-    let now = c.args.now.now in
-    let ops = c.args.batch.now in
-    let sync = c.args.sync in
-    let mid = c.add_batch.new.self in
-    let fault = c.in-Err-add_batch.fault in
-    let e = c.in-Err-add_batch.ensures in
-    let b : Numbered = record { first = record { 0 = now.last.0 + 1 }; batch = ops } in
-    e.running
-
-pub returns-in-Err-add_batch-clause-failed : goal.returns-in-Err-add_batch-clause-failed
-returns-in-Err-add_batch-clause-failed g c =
-    let d = g.D.Disk in
-    let f = g.D.File.DiskFile in
-    let last : IsNowLast d f = record {
-      disk = λ x n image left. (g.met.D.Disk g.world.𝓛 g.world.𝓜 g.world.𝓡 ((λ s x. x), (λ x. x), (λ x. x), λ x. x)).only_now x n image left;
-      file = λ x image left. (g.met.D.File.DiskFile g.world.𝓛 g.world.𝓜 g.world.𝓡 ((λ s x. x), (λ x. x), (λ x. x), λ x. x)).only_now x image left;
-    } in
-    let self = c.args.self.now in
-    let now = c.args.now.now in
-    let ops = c.args.batch.now in
-    let sync = c.args.sync in
-    let mid = c.add_batch.new.self in
-    let fault = c.in-Err-add_batch.fault in
-    let e = c.in-Err-add_batch.ensures in
-    let b : Numbered = record { first = record { 0 = now.last.0 + 1 }; batch = ops } in
-    e.running.runs ∙ sym (none_disk fault e.fault)
-
-pub returns-in-Err-add_batch-clause-cause : goal.returns-in-Err-add_batch-clause-cause
-returns-in-Err-add_batch-clause-cause g c =
-    let d = g.D.Disk in
-    let f = g.D.File.DiskFile in
-    let last : IsNowLast d f = record {
-      disk = λ x n image left. (g.met.D.Disk g.world.𝓛 g.world.𝓜 g.world.𝓡 ((λ s x. x), (λ x. x), (λ x. x), λ x. x)).only_now x n image left;
-      file = λ x image left. (g.met.D.File.DiskFile g.world.𝓛 g.world.𝓜 g.world.𝓡 ((λ s x. x), (λ x. x), (λ x. x), λ x. x)).only_now x image left;
-    } in
-    let self = c.args.self.now in
-    let now = c.args.now.now in
-    let ops = c.args.batch.now in
-    let sync = c.args.sync in
-    let mid = c.add_batch.new.self in
-    let fault = c.in-Err-add_batch.fault in
-    let e = c.in-Err-add_batch.ensures in
-    let b : Numbered = record { first = record { 0 = now.last.0 + 1 }; batch = ops } in
-    none_cause fault _ _ (none_disk fault e.fault) (added_faults d f last self mid b (Err fault) e)
+    record {
+      same = added_folder d f last self mid b (Err fault) e;
+      running = λ not. e.running;
+      failed = e.running.runs ∙ sym (none_disk fault e.fault);
+      counted = none_cause fault _ _ (none_disk fault e.fault) (added_faults d f last self mid b (Err fault) e);
+    }
 
 pub returns-in-Err-sync_due-clause-tells : goal.returns-in-Err-sync_due-clause-tells
 returns-in-Err-sync_due-clause-tells g c m co h =
@@ -320,25 +194,6 @@ returns-in-Err-sync_due-clause-moments g c m co number h =
     let e = c.in-Err-sync_due.ensures in
     end_ran d f last self mid new now ops sync added c.requires.running.together (Err fault) e.due e.waits m co number h (written_told m ops (m.last.0 + length ops) (c.in-Ok.ensures.admitted m h.holds.sound h.runs h.shows))
 
-pub returns-in-Err-sync_due-clause-fails : goal.returns-in-Err-sync_due-clause-fails
-returns-in-Err-sync_due-clause-fails g c m co number h is =
-    let d = g.D.Disk in
-    let f = g.D.File.DiskFile in
-    let last : IsNowLast d f = record {
-      disk = λ x n image left. (g.met.D.Disk g.world.𝓛 g.world.𝓜 g.world.𝓡 ((λ s x. x), (λ x. x), (λ x. x), λ x. x)).only_now x n image left;
-      file = λ x image left. (g.met.D.File.DiskFile g.world.𝓛 g.world.𝓜 g.world.𝓡 ((λ s x. x), (λ x. x), (λ x. x), λ x. x)).only_now x image left;
-    } in
-    let self = c.args.self.now in
-    let now = c.args.now.now in
-    let ops = c.args.batch.now in
-    let sync = c.args.sync in
-    let mid = c.add_batch.new.self in
-    let new = c.sync_due.new.self in
-    let added = c.in-Ok-add_batch.ensures in
-    let fault = c.in-Err-sync_due.fault in
-    let e = c.in-Err-sync_due.ensures in
-    failed_leaves d f m co number (write ops sync) self new h.unfailed (end_ran d f last self mid new now ops sync added c.requires.running.together (Err fault) e.due e.waits m co number h (written_told m ops (m.last.0 + length ops) (c.in-Ok.ensures.admitted m h.holds.sound h.runs h.shows)))
-
 pub returns-in-Err-sync_due-clause-refused : goal.returns-in-Err-sync_due-clause-refused
 returns-in-Err-sync_due-clause-refused g c not =
     let d = g.D.Disk in
@@ -358,8 +213,8 @@ returns-in-Err-sync_due-clause-refused g c not =
     let e = c.in-Err-sync_due.ensures in
     absurd (false≢true (sym not ∙ disk_disk fault (end_fault d f last self mid new now ops sync added c.requires.running.together (Err fault) e.due e.waits)))
 
-pub returns-in-Err-sync_due-clause-same : goal.returns-in-Err-sync_due-clause-same
-returns-in-Err-sync_due-clause-same g c =
+pub returns-in-Err-sync_due-clause-called : goal.returns-in-Err-sync_due-clause-called
+returns-in-Err-sync_due-clause-called g c =
     let d = g.D.Disk in
     let f = g.D.File.DiskFile in
     let last : IsNowLast d f = record {
@@ -375,64 +230,12 @@ returns-in-Err-sync_due-clause-same g c =
     let added = c.in-Ok-add_batch.ensures in
     let fault = c.in-Err-sync_due.fault in
     let e = c.in-Err-sync_due.ensures in
-    end_folder d f last self mid new now ops sync added c.requires.running.together (Err fault) e.due e.waits
-
-pub returns-in-Err-sync_due-clause-running : goal.returns-in-Err-sync_due-clause-running
-returns-in-Err-sync_due-clause-running g c not =
-    let d = g.D.Disk in
-    let f = g.D.File.DiskFile in
-    let last : IsNowLast d f = record {
-      disk = λ x n image left. (g.met.D.Disk g.world.𝓛 g.world.𝓜 g.world.𝓡 ((λ s x. x), (λ x. x), (λ x. x), λ x. x)).only_now x n image left;
-      file = λ x image left. (g.met.D.File.DiskFile g.world.𝓛 g.world.𝓜 g.world.𝓡 ((λ s x. x), (λ x. x), (λ x. x), λ x. x)).only_now x image left;
-    } in
-    let self = c.args.self.now in
-    let now = c.args.now.now in
-    let ops = c.args.batch.now in
-    let sync = c.args.sync in
-    let mid = c.add_batch.new.self in
-    let new = c.sync_due.new.self in
-    let added = c.in-Ok-add_batch.ensures in
-    let fault = c.in-Err-sync_due.fault in
-    let e = c.in-Err-sync_due.ensures in
-    absurd (false≢true (sym not ∙ disk_disk fault (end_fault d f last self mid new now ops sync added c.requires.running.together (Err fault) e.due e.waits)))
-
-pub returns-in-Err-sync_due-clause-failed : goal.returns-in-Err-sync_due-clause-failed
-returns-in-Err-sync_due-clause-failed g c =
-    let d = g.D.Disk in
-    let f = g.D.File.DiskFile in
-    let last : IsNowLast d f = record {
-      disk = λ x n image left. (g.met.D.Disk g.world.𝓛 g.world.𝓜 g.world.𝓡 ((λ s x. x), (λ x. x), (λ x. x), λ x. x)).only_now x n image left;
-      file = λ x image left. (g.met.D.File.DiskFile g.world.𝓛 g.world.𝓜 g.world.𝓡 ((λ s x. x), (λ x. x), (λ x. x), λ x. x)).only_now x image left;
-    } in
-    let self = c.args.self.now in
-    let now = c.args.now.now in
-    let ops = c.args.batch.now in
-    let sync = c.args.sync in
-    let mid = c.add_batch.new.self in
-    let new = c.sync_due.new.self in
-    let added = c.in-Ok-add_batch.ensures in
-    let fault = c.in-Err-sync_due.fault in
-    let e = c.in-Err-sync_due.ensures in
-    end_failed d f last self mid new now ops sync added c.requires.running.together (Err fault) e.due e.waits
-
-pub returns-in-Err-sync_due-clause-cause : goal.returns-in-Err-sync_due-clause-cause
-returns-in-Err-sync_due-clause-cause g c =
-    let d = g.D.Disk in
-    let f = g.D.File.DiskFile in
-    let last : IsNowLast d f = record {
-      disk = λ x n image left. (g.met.D.Disk g.world.𝓛 g.world.𝓜 g.world.𝓡 ((λ s x. x), (λ x. x), (λ x. x), λ x. x)).only_now x n image left;
-      file = λ x image left. (g.met.D.File.DiskFile g.world.𝓛 g.world.𝓜 g.world.𝓡 ((λ s x. x), (λ x. x), (λ x. x), λ x. x)).only_now x image left;
-    } in
-    let self = c.args.self.now in
-    let now = c.args.now.now in
-    let ops = c.args.batch.now in
-    let sync = c.args.sync in
-    let mid = c.add_batch.new.self in
-    let new = c.sync_due.new.self in
-    let added = c.in-Ok-add_batch.ensures in
-    let fault = c.in-Err-sync_due.fault in
-    let e = c.in-Err-sync_due.ensures in
-    disk_cause fault _ _ (end_fault d f last self mid new now ops sync added c.requires.running.together (Err fault) e.due e.waits) (end_cause d f last self mid new now ops sync added c.requires.running.together (Err fault) e.due e.waits).failed
+    record {
+      same = end_folder d f last self mid new now ops sync added c.requires.running.together (Err fault) e.due e.waits;
+      running = λ not. absurd (false≢true (sym not ∙ disk_disk fault (end_fault d f last self mid new now ops sync added c.requires.running.together (Err fault) e.due e.waits)));
+      failed = end_failed d f last self mid new now ops sync added c.requires.running.together (Err fault) e.due e.waits;
+      counted = disk_cause fault _ _ (end_fault d f last self mid new now ops sync added c.requires.running.together (Err fault) e.due e.waits) (end_cause d f last self mid new now ops sync added c.requires.running.together (Err fault) e.due e.waits).failed;
+    }
 
 pub returns-in-Ok-sync_due-clause-tells : goal.returns-in-Ok-sync_due-clause-tells
 returns-in-Ok-sync_due-clause-tells g c m co h =
@@ -491,25 +294,6 @@ returns-in-Ok-sync_due-clause-moments g c m co number h =
     let next = arc_value c.in-Ok.next in
     end_ran d f last self mid new now ops sync added c.requires.running.together (Ok tt) e.due e.waits m co number h (written_told m ops (m.last.0 + length ops) (c.in-Ok.ensures.admitted m h.holds.sound h.runs h.shows))
 
-pub returns-in-Ok-sync_due-clause-fails : goal.returns-in-Ok-sync_due-clause-fails
-returns-in-Ok-sync_due-clause-fails g c m co number h is =
-    let d = g.D.Disk in
-    let f = g.D.File.DiskFile in
-    let last : IsNowLast d f = record {
-      disk = λ x n image left. (g.met.D.Disk g.world.𝓛 g.world.𝓜 g.world.𝓡 ((λ s x. x), (λ x. x), (λ x. x), λ x. x)).only_now x n image left;
-      file = λ x image left. (g.met.D.File.DiskFile g.world.𝓛 g.world.𝓜 g.world.𝓡 ((λ s x. x), (λ x. x), (λ x. x), λ x. x)).only_now x image left;
-    } in
-    let self = c.args.self.now in
-    let now = c.args.now.now in
-    let ops = c.args.batch.now in
-    let sync = c.args.sync in
-    let mid = c.add_batch.new.self in
-    let new = c.sync_due.new.self in
-    let added = c.in-Ok-add_batch.ensures in
-    let e = c.in-Ok-sync_due.ensures in
-    let next = arc_value c.in-Ok.next in
-    absurd (false≢true is)
-
 pub returns-in-Ok-sync_due-clause-current : goal.returns-in-Ok-sync_due-clause-current
 returns-in-Ok-sync_due-clause-current g c =
     let d = g.D.Disk in
@@ -567,8 +351,8 @@ returns-in-Ok-sync_due-clause-synced g c is =
     let next = arc_value c.in-Ok.next in
     end_synced d f last self mid new now ops sync added c.requires.running.together (Ok tt) e.due e.waits is
 
-pub returns-in-Ok-sync_due-clause-same : goal.returns-in-Ok-sync_due-clause-same
-returns-in-Ok-sync_due-clause-same g c =
+pub returns-in-Ok-sync_due-clause-called : goal.returns-in-Ok-sync_due-clause-called
+returns-in-Ok-sync_due-clause-called g c =
     let d = g.D.Disk in
     let f = g.D.File.DiskFile in
     let last : IsNowLast d f = record {
@@ -584,62 +368,9 @@ returns-in-Ok-sync_due-clause-same g c =
     let added = c.in-Ok-add_batch.ensures in
     let e = c.in-Ok-sync_due.ensures in
     let next = arc_value c.in-Ok.next in
-    end_folder d f last self mid new now ops sync added c.requires.running.together (Ok tt) e.due e.waits
-
-pub returns-in-Ok-sync_due-clause-running : goal.returns-in-Ok-sync_due-clause-running
-returns-in-Ok-sync_due-clause-running g c not =
-    let d = g.D.Disk in
-    let f = g.D.File.DiskFile in
-    let last : IsNowLast d f = record {
-      disk = λ x n image left. (g.met.D.Disk g.world.𝓛 g.world.𝓜 g.world.𝓡 ((λ s x. x), (λ x. x), (λ x. x), λ x. x)).only_now x n image left;
-      file = λ x image left. (g.met.D.File.DiskFile g.world.𝓛 g.world.𝓜 g.world.𝓡 ((λ s x. x), (λ x. x), (λ x. x), λ x. x)).only_now x image left;
-    } in
-    let self = c.args.self.now in
-    let now = c.args.now.now in
-    let ops = c.args.batch.now in
-    let sync = c.args.sync in
-    let mid = c.add_batch.new.self in
-    let new = c.sync_due.new.self in
-    let added = c.in-Ok-add_batch.ensures in
-    let e = c.in-Ok-sync_due.ensures in
-    let next = arc_value c.in-Ok.next in
-    end_running d f last self mid new now ops sync added c.requires.running.together (Ok tt) e.due e.waits
-
-pub returns-in-Ok-sync_due-clause-failed : goal.returns-in-Ok-sync_due-clause-failed
-returns-in-Ok-sync_due-clause-failed g c =
-    let d = g.D.Disk in
-    let f = g.D.File.DiskFile in
-    let last : IsNowLast d f = record {
-      disk = λ x n image left. (g.met.D.Disk g.world.𝓛 g.world.𝓜 g.world.𝓡 ((λ s x. x), (λ x. x), (λ x. x), λ x. x)).only_now x n image left;
-      file = λ x image left. (g.met.D.File.DiskFile g.world.𝓛 g.world.𝓜 g.world.𝓡 ((λ s x. x), (λ x. x), (λ x. x), λ x. x)).only_now x image left;
-    } in
-    let self = c.args.self.now in
-    let now = c.args.now.now in
-    let ops = c.args.batch.now in
-    let sync = c.args.sync in
-    let mid = c.add_batch.new.self in
-    let new = c.sync_due.new.self in
-    let added = c.in-Ok-add_batch.ensures in
-    let e = c.in-Ok-sync_due.ensures in
-    let next = arc_value c.in-Ok.next in
-    end_failed d f last self mid new now ops sync added c.requires.running.together (Ok tt) e.due e.waits
-
-pub returns-in-Ok-sync_due-clause-kept : goal.returns-in-Ok-sync_due-clause-kept
-returns-in-Ok-sync_due-clause-kept g c =
-    let d = g.D.Disk in
-    let f = g.D.File.DiskFile in
-    let last : IsNowLast d f = record {
-      disk = λ x n image left. (g.met.D.Disk g.world.𝓛 g.world.𝓜 g.world.𝓡 ((λ s x. x), (λ x. x), (λ x. x), λ x. x)).only_now x n image left;
-      file = λ x image left. (g.met.D.File.DiskFile g.world.𝓛 g.world.𝓜 g.world.𝓡 ((λ s x. x), (λ x. x), (λ x. x), λ x. x)).only_now x image left;
-    } in
-    let self = c.args.self.now in
-    let now = c.args.now.now in
-    let ops = c.args.batch.now in
-    let sync = c.args.sync in
-    let mid = c.add_batch.new.self in
-    let new = c.sync_due.new.self in
-    let added = c.in-Ok-add_batch.ensures in
-    let e = c.in-Ok-sync_due.ensures in
-    let next = arc_value c.in-Ok.next in
-    (end_cause d f last self mid new now ops sync added c.requires.running.together (Ok tt) e.due e.waits).kept
-
+    record {
+      same = end_folder d f last self mid new now ops sync added c.requires.running.together (Ok tt) e.due e.waits;
+      running = λ not. end_running d f last self mid new now ops sync added c.requires.running.together (Ok tt) e.due e.waits;
+      failed = end_failed d f last self mid new now ops sync added c.requires.running.together (Ok tt) e.due e.waits;
+      counted = (end_cause d f last self mid new now ops sync added c.requires.running.together (Ok tt) e.due e.waits).kept;
+    }
