@@ -1,7 +1,6 @@
 -- The files of an engine that is closed.
-use Rattle.std.proofs.Common.{◌≡◌, ℕ, List, [], ◌∷◌, refl, sym, ap, ◌∙◌}
-use Rattle.udt_disk.specs.Crash.{Image}
-use Rattle.udt_disk.specs.Joint.{Folder, LeavesNow}
+use Rattle.std.proofs.Common.{◌≡◌, [], ◌∷◌, sym, ◌∙◌}
+use Rattle.udt_disk.specs.Joint.{LeavesNow}
 use Rattle.udt_disk.specs.Moments.{OnlyReads, alone, holding}
 use Rattle.udt_disk.specs.declared.file.DiskFile as file
 use Rattle.udt_disk.specs.declared.disk.Disk as disk
@@ -11,7 +10,6 @@ use Rattle.udt_model.specs.Crashes.{Course, IsOutcome}
 use Rattle.super_version.specs.declared.version.SuperVersion.{SuperVersion}
 use Rattle.manifest.specs.Folders.{IsManifestName}
 use Rattle.manifest.specs.Manifest.{manifest_file}
-use Rattle.wal.specs.Wals.{wal_file}
 use Rattle.engine_laws.specs.Joints.{IsNowLast}
 use Rattle.engine_laws.specs.Standing.{StandsForSome}
 use Rattle.engine_laws.proofs.Joined.{dead_rests, now_leaves}

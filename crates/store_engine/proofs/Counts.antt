@@ -1,7 +1,6 @@
 -- Counts of faults that are added up.
-use Rattle.std.proofs.Common.{◌≡◌, ℕ, ◌+◌, ◌-◌, ◌^◌, ◌≤◌, min, Result, Ok, Err, refl, sym, ap, ◌∙◌, subst, arith}
-use Rattle.std.specs.Prelude.{OnErr, OnOk}
-use Rattle.udt_disk.specs.Causes.{HasCause, Rose, plus_faults}
+use Rattle.std.proofs.Common.{◌≡◌, ℕ, ◌+◌, ◌-◌, ◌^◌, ◌≤◌, min, Result, Ok, Err, ap, subst, arith}
+use Rattle.udt_disk.specs.Causes.{HasCause, plus_faults}
 
 grows : (most a x y : ℕ) → x ≤ y → min (a + x) most ≤ min (a + y) most
 grows most a x y low = omega arith

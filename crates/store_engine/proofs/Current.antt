@@ -1,7 +1,6 @@
 -- What a super version has in common with the manifest, behind a write and behind a raise.
-use Rattle.std.proofs.Common.{◌≡◌, ℕ, zero, suc, ◌+◌, ◌<◌, ◌≤◌, List, [], ◌∷◌, ◌++◌, length, take, drop, Some, None, refl, sym, ap, ◌∙◌, subst, arith, inl, inr}
-use Rattle.std.specs.Prelude.{All, IsTrue, slice_get}
-use Rattle.std.specs.List.Sorted.{IsStrictlyIncreasing}
+use Rattle.std.proofs.Common.{◌≡◌, ℕ, zero, suc, ◌+◌, ◌<◌, ◌≤◌, List, [], ◌∷◌, length, Some, refl, sym, ap, ◌∙◌, subst, arith, inl, inr}
+use Rattle.std.specs.Prelude.{IsTrue, slice_get}
 use Rattle.std.proofs.lemmas.List.{append-nil}
 use Rattle.std.proofs.lemmas.List.Elements.{All-nil}
 use Rattle.ts_key.specs.declared.limits.TheConstants.{SEQUENCE_LIMIT}
@@ -18,7 +17,7 @@ use Rattle.manifest_edit.specs.LiveTables.{has_table_number}
 use Rattle.manifest_fold.specs.declared.fold.FamilyFold.{FamilyFold}
 use Rattle.manifest_fold.specs.declared.fold.Folded.{Folded}
 use Rattle.manifest_fold.specs.declared.limits.TheConstants.{FILE_NUMBER_LIMIT, LOWEST_LEVEL}
-use Rattle.manifest_fold.specs.Folds.{IsAccepted, IsFree, IsLogsEdit, family_with, families_with, fold_with, newest_log}
+use Rattle.manifest_fold.specs.Folds.{IsAccepted, IsFree, IsLogsEdit, fold_with, newest_log}
 use Rattle.super_version.specs.declared.family.FamilyState.{FamilyState}
 use Rattle.super_version.specs.declared.version.SuperVersion.{SuperVersion}
 use Rattle.super_version.specs.Changes.{ChangesFamily, with_floor}

@@ -1,9 +1,8 @@
 -- The two files that an engine holds: one runs on, and the other is held as it was.
-use Rattle.std.proofs.Common.{◌≡◌, ◌⊎◌, List, [], ◌∷◌, refl, sym, ap, ◌∙◌, inl, inr}
+use Rattle.std.proofs.Common.{◌≡◌, ◌⊎◌, [], ◌∷◌, refl, inl, inr}
 use Rattle.udt_disk.specs.Joint.{IsHeld, Joint}
 use Rattle.udt_disk.specs.Moments.{holding}
 use Rattle.udt_disk.specs.declared.file.DiskFile as file
-use Rattle.udt_disk.specs.declared.disk.Disk as disk
 use Rattle.engine_laws.specs.Joints.{OneRan}
 
 module _ {F : Type 0} (f : file.Ghosts F) where

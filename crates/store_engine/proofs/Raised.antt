@@ -1,59 +1,37 @@
 -- A floor that was written to the manifest: what the engine holds behind it.
-use Rattle.std.proofs.Common.{◌≡◌, ℕ, ◌≤◌, ◌<◌, Bool, true, false, List, [], ◌∷◌, ◌++◌, length, Result, Ok, Err, refl, sym, ap, ◌∙◌, subst, arith, inl, inr}
-use Rattle.std.specs.Prelude.{All, Contains, OnOk, Some, slice_get}
-use Rattle.std.proofs.lemmas.List.{append-nil}
-use Rattle.ts_key.specs.declared.numbers.Family.{Family}
-use Rattle.ts_key.specs.declared.numbers.Ts.{Ts}
-use Rattle.udt_disk.specs.Crash.{Image}
-use Rattle.udt_disk.specs.Joint.{Folder, Joint, Ran}
+use Rattle.std.proofs.Common.{◌≡◌, ◌<◌, List, [], ◌∷◌, Result, Ok, Err, refl, sym, ap, ◌∙◌, subst}
+use Rattle.std.specs.Prelude.{All, Contains, OnOk}
+use Rattle.udt_disk.specs.Joint.{Ran}
 use Rattle.udt_disk.specs.Moments.{MayLeave, holding}
 use Rattle.udt_disk.specs.Runs.{Leaves}
 use Rattle.udt_disk.specs.declared.file.DiskFile as file
 use Rattle.udt_disk.specs.declared.disk.Disk as disk
 use Rattle.udt_disk.specs.declared.name.FileName.{FileName}
-use Rattle.udt_disk.specs.declared.name.FileName.TheVariants.{Log}
-use Rattle.udt_disk.proofs.Joints.{ran_more, ran_on}
 use Rattle.wal.specs.declared.numbered.Numbered.{Numbered}
-use Rattle.wal.specs.declared.wal.Wal.{Wal}
 use Rattle.wal.specs.Wals as log
 use Rattle.wal.specs.Wals.{wal_file}
-use Rattle.udt_model.specs.declared.reply.Reply.TheVariants.{Done}
 use Rattle.udt_model.specs.State.{State}
-use Rattle.udt_model.specs.Acts.Act.{raise}
-use Rattle.udt_model.specs.Steps.{IsReplyTo, IsTold, after}
-use Rattle.udt_model.specs.Crashes.{Course, IsOutcome, IsOutcomeUnder, course_after}
+use Rattle.udt_model.specs.Crashes.{Course}
 use Rattle.manifest_edit.specs.declared.edit.TableAt.{TableAt}
 use Rattle.manifest_edit.specs.declared.edit.Edit.{Edit}
-use Rattle.manifest_fold.specs.declared.fold.FamilyFold.{FamilyFold}
 use Rattle.manifest_fold.specs.Folds.{fold_with, newest_log}
 use Rattle.manifest.specs.Files.{HasFold, IsEditImage}
-use Rattle.manifest.specs.Folders.{IsManifestName}
-use Rattle.manifest.specs.Folds.{sizes_of}
-use Rattle.manifest.specs.Manifest.{FoldRests, IsManifestReady, manifest_file, manifest_folded}
+use Rattle.manifest.specs.Manifest.{FoldRests, manifest_file, manifest_folded}
 use Rattle.manifest.proofs.Edits.{rests_fold}
 use Rattle.super_version.specs.declared.version.SuperVersion.{SuperVersion}
-use Rattle.engine_laws.specs.Installs.{IsNextFile, raise_edit}
 use Rattle.engine_laws.specs.Joints.{IsNowLast, OneRan}
-use Rattle.engine_laws.specs.Manifests.{IsWell}
 use Rattle.engine_laws.specs.JointLaws.{RestIn}
 use Rattle.engine_laws.specs.Moves.{IsReady, added_tables}
 use Rattle.engine_laws.specs.Standing.{Says, StandsForSome}
-use Rattle.engine_laws.specs.Engine.{Holds, IsOutcomeOr, MayEdit, newest_of, with_batches, with_edit}
-use Rattle.engine_laws.proofs.Acting.{act_holds}
-use Rattle.engine_laws.proofs.Calls.{under_act}
-use Rattle.engine_laws.proofs.Installing.{raise_may}
+use Rattle.engine_laws.specs.Engine.{Holds, IsOutcomeOr, MayEdit, newest_of, with_edit}
 use Rattle.engine_laws.proofs.Joined.{edit_rests, ran_edit}
 use Rattle.engine_laws.proofs.Moving.{edit_ready}
-use Rattle.engine_laws.proofs.Syncing.{sync_unasked}
 use Rattle.floor_laws.proofs.Members.{contains_In}
-use Rattle.recovery.specs.Replayed.{IsLogName}
 use Rattle.recovery.specs.Tables.{ReadsAsTable}
-use Rattle.store_engine.specs.Engines.{HoldsNow, IsEngineOf, IsOneFolder, held}
-use Rattle.store_engine.specs.Now.{IsNow}
+use Rattle.store_engine.specs.Engines.{HoldsNow, IsEngineOf, held}
 use Rattle.store_engine.specs.Steps.{IsEdited, IsReserved}
 use Rattle.store_engine.specs.declared.engine.Engine.{Engine}
 use Rattle.store_engine.specs.declared.fault.EngineFault.{EngineFault}
-use Rattle.store_engine.proofs.Answering.{on_ok}
 use Rattle.store_engine.proofs.Files.{same_joint, second_ran}
 use Rattle.store_engine.proofs.Together.{named_on}
 

@@ -1,11 +1,10 @@
 -- The steps of a raise, one after another.
-use Rattle.std.proofs.Common.{◌≡◌, ◌⊎◌, ℕ, ◌+◌, ◌<◌, ◌≤◌, List, [], ◌∷◌, length, Result, Ok, Err, refl, sym, ap, ◌∙◌, subst, arith, inl, inr}
-use Rattle.std.specs.Prelude.{All, Contains, OnErr, OnOk, Some, slice_get}
+use Rattle.std.proofs.Common.{◌≡◌, ℕ, ◌+◌, ◌<◌, ◌≤◌, [], Result, Ok, refl, sym, ap, ◌∙◌, subst, arith, inl}
+use Rattle.std.specs.Prelude.{All, Contains, OnOk, Some, slice_get}
 use Rattle.ts_key.specs.declared.numbers.Family.{Family}
-use Rattle.ts_key.specs.declared.numbers.Seq.{Seq}
 use Rattle.ts_key.specs.declared.numbers.Ts.{Ts}
 use Rattle.udt_disk.specs.Causes.{HasCause, plus_faults}
-use Rattle.udt_disk.specs.Joint.{Folder, Ran}
+use Rattle.udt_disk.specs.Joint.{Ran}
 use Rattle.udt_disk.specs.declared.file.DiskFile as file
 use Rattle.udt_disk.specs.declared.disk.Disk as disk
 use Rattle.udt_disk.proofs.Joints.{ran_more, ran_on}
@@ -18,13 +17,9 @@ use Rattle.udt_model.specs.Crashes.{Course, IsOutcome, IsOutcomeUnder, course_af
 use Rattle.manifest_edit.specs.declared.edit.Edit.{Edit}
 use Rattle.manifest_edit.specs.declared.edit.TableAt.{TableAt}
 use Rattle.manifest_fold.specs.declared.fold.FamilyFold.{FamilyFold}
-use Rattle.manifest_fold.specs.declared.fold.Folded.{Folded}
-use Rattle.manifest_fold.specs.declared.limits.TheConstants.{FILE_NUMBER_LIMIT}
 use Rattle.manifest_fold.specs.Folds.{fold_with}
 use Rattle.manifest.specs.Manifest.{manifest_file, manifest_folded}
-use Rattle.super_version.specs.declared.family.FamilyState.{FamilyState}
 use Rattle.super_version.specs.declared.version.SuperVersion.{SuperVersion}
-use Rattle.super_version.specs.Changes.{ChangesFamily, with_floor}
 use Rattle.floor_laws.proofs.Members.{contains_In}
 use Rattle.floor_laws.proofs.Told.{told_of}
 use Rattle.engine_laws.specs.Installs.{IsNextFile, raise_edit}
@@ -39,7 +34,7 @@ use Rattle.engine_laws.proofs.Syncing.{sync_unasked}
 use Rattle.recovery.specs.Tables.{ReadsAsTable}
 use Rattle.recovery.specs.Versions.{FitsFold}
 use Rattle.store_engine.specs.Calls.{RanUnder}
-use Rattle.store_engine.specs.Engines.{HoldsAsBefore, HoldsNow, IsCurrent, IsEngineOf, IsRunning, faults_of, held}
+use Rattle.store_engine.specs.Engines.{HoldsAsBefore, HoldsNow, IsCurrent, IsEngineOf, faults_of, held}
 use Rattle.store_engine.specs.Now.{IsNow}
 use Rattle.store_engine.specs.Steps.{IsEdited, IsLogSynced, IsReserved, IsSameFolder}
 use Rattle.store_engine.specs.Together.{AreTogether}
@@ -112,8 +107,8 @@ module _ {D F : Type 0} (d : disk.Ghosts D F) (f : file.Ghosts F) (now_last : Is
           let a = plus_faults (d.faults two.disk) (f.faults (wal_file two.wal)) in
           let cause = cause_third a (f.faults (manifest_file two.manifest)) (f.faults (manifest_file new.manifest)) second edited.cause in
           let same : plus_faults a (f.faults (manifest_file new.manifest)) ≡ faults_of d f new =
-              ap (λ k. plus_faults (plus_faults (d.faults k) (f.faults (wal_file two.wal))) (f.faults (manifest_file new.manifest))) (sym edited.disk)
-              ∙ ap (λ w. plus_faults (plus_faults (d.faults new.disk) (f.faults (wal_file w))) (f.faults (manifest_file new.manifest))) (sym edited.wal) in
+          ap (λ k. plus_faults (plus_faults (d.faults k) (f.faults (wal_file two.wal))) (f.faults (manifest_file new.manifest))) (sym edited.disk)
+          ∙ ap (λ w. plus_faults (plus_faults (d.faults new.disk) (f.faults (wal_file w))) (f.faults (manifest_file new.manifest))) (sym edited.wal) in
           let before : faults_of d f two ≡ faults_of d f old = (first_cause two (Ok tt) synced).kept in
           subst (λ n. HasCause n (faults_of d f new) second) before (subst (λ n. HasCause (faults_of d f two) n second) same cause)
 

@@ -4,7 +4,7 @@ use Rattle.std.specs.Prelude.{All, IfErr, None, OnOk}
 use Rattle.std.proofs.lemmas.Bool.{false≢true}
 use Rattle.udt_disk.specs.Causes.{HasCause, plus_faults}
 use Rattle.udt_disk.specs.Crash.{Image}
-use Rattle.udt_disk.specs.Joint.{Folder, Joint, Ran}
+use Rattle.udt_disk.specs.Joint.{Ran}
 use Rattle.udt_disk.specs.Moments.{MayLeave, holding}
 use Rattle.udt_disk.specs.Runs.{Leaves}
 use Rattle.udt_disk.specs.declared.file.DiskFile as file
@@ -22,14 +22,13 @@ use Rattle.udt_model.specs.declared.reply.Reply.TheVariants.{Done}
 use Rattle.udt_model.specs.Steps.{IsReplyTo, after}
 use Rattle.udt_model.specs.Crashes.{Course, IsOutcome, course_after}
 use Rattle.super_version.specs.declared.version.SuperVersion.{SuperVersion}
-use Rattle.manifest.specs.Folders.{IsManifestName}
 use Rattle.manifest.specs.Folds.{sizes_of}
 use Rattle.manifest.specs.Manifest.{FoldRests, manifest_file, manifest_folded}
 use Rattle.engine_laws.specs.Joints.{IsNowLast, OneRan}
 use Rattle.engine_laws.specs.JointLaws.{RestIn}
-use Rattle.engine_laws.specs.Standing.{Grammar, Says, StandsForSome}
+use Rattle.engine_laws.specs.Standing.{Says, StandsForSome}
 use Rattle.engine_laws.specs.Engine.{Holds, newest_of, with_batches}
-use Rattle.engine_laws.proofs.Joined.{newest_rests, now_leaves, ran_sync, sync_rests}
+use Rattle.engine_laws.proofs.Joined.{newest_rests, ran_sync, sync_rests}
 use Rattle.engine_laws.proofs.Moving.{newest_log_is}
 use Rattle.engine_laws.proofs.Syncing.{sync_holds}
 use Rattle.recovery.specs.Tables.{ReadsAsTable}

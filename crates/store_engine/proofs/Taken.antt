@@ -1,14 +1,11 @@
 -- What an engine that was just made of an opening's parts holds.
-use Rattle.std.proofs.Common.{◌≡◌, ◌≢◌, ℕ, ◌+◌, ◌-◌, ◌<◌, ◌≤◌, List, [], ◌∷◌, ◌++◌, length, map, Some, None, refl, sym, ap, ◌∙◌, subst, arith, inl, inr}
-use Rattle.std.specs.Prelude.{All, Contains, IsTrue, flat_map}
+use Rattle.std.proofs.Common.{◌≡◌, ℕ, ◌+◌, ◌<◌, ◌≤◌, List, [], ◌∷◌, ◌++◌, length, map, Some, None, refl, sym, ap, ◌∙◌, subst, arith, inl, inr}
+use Rattle.std.specs.Prelude.{All, IsTrue, flat_map}
 use Rattle.std.proofs.lemmas.List.{append-nil, length-map}
 use Rattle.std.proofs.lemmas.List.Elements.{All-head, All-tail}
-use Rattle.ts_key.specs.declared.limits.TheConstants.{FAMILY_LIMIT}
-use Rattle.ts_key.specs.declared.numbers.Family.{Family}
 use Rattle.ts_key.specs.declared.numbers.Seq.{Seq}
 use Rattle.udt_disk.specs.Crash.{Image}
-use Rattle.udt_disk.specs.Joint.{Folder}
-use Rattle.udt_disk.specs.Moments.{IsClean, MayLeave, alone, holding}
+use Rattle.udt_disk.specs.Moments.{IsClean, MayLeave, holding}
 use Rattle.udt_disk.specs.declared.file.DiskFile as file
 use Rattle.udt_disk.specs.declared.disk.Disk as disk
 use Rattle.udt_disk.specs.declared.name.FileName.{FileName}
@@ -21,19 +18,17 @@ use Rattle.wal.specs.Wals as log
 use Rattle.wal.specs.Wals.{IsWalOf, MayGoOn, wal_file}
 use Rattle.wal.proofs.Logs.{log_holds_one}
 use Rattle.udt_model.specs.Crashes.{course_start}
-use Rattle.udt_model.specs.State.{FamilyState, LiveTable, State, live_numbers, numbers_of}
+use Rattle.udt_model.specs.State.{FamilyState, LiveTable, State, numbers_of}
 use Rattle.manifest_edit.specs.declared.edit.TableAt.{TableAt}
-use Rattle.manifest_fold.specs.declared.fold.FamilyFold.{FamilyFold}
 use Rattle.manifest_fold.specs.declared.fold.Folded.{Folded}
 use Rattle.manifest_fold.specs.Folds.{newest_log}
 use Rattle.manifest.specs.Files.{HasFold}
 use Rattle.manifest.specs.Folders.{chosen_by}
-use Rattle.manifest.specs.Folds.{IsManifestFold, sizes_of}
+use Rattle.manifest.specs.Folds.{sizes_of}
 use Rattle.manifest.specs.Manifest.{FoldRests, manifest_file, manifest_folded}
-use Rattle.super_version.specs.declared.version.SuperVersion.{SuperVersion}
 use Rattle.engine_laws.specs.JointLaws.{RestIn}
-use Rattle.engine_laws.specs.Logs.{batches_of, last_of, last_over}
-use Rattle.engine_laws.specs.Manifests.{IsLive, IsWell}
+use Rattle.engine_laws.specs.Logs.{batches_of, last_of}
+use Rattle.engine_laws.specs.Manifests.{IsWell}
 use Rattle.engine_laws.specs.Standing.{FolderStands, Says, TableReads, TableSays, family_said, families_said, table_of}
 use Rattle.engine_laws.specs.Engine.{Holds, newest_of}
 use Rattle.engine_laws.proofs.Ascending.{newest_of as newest_in, rising_sorted}

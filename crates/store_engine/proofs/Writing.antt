@@ -1,7 +1,7 @@
 -- The end of a write: its batch waits, or was synced.
-use Rattle.std.proofs.Common.{◌≡◌, ◌⊎◌, ℕ, ◌+◌, ◌<◌, ◌≤◌, Bool, true, false, List, [], ◌∷◌, length, Result, Ok, Err, refl, sym, ap, ◌∙◌, subst, arith, inl, inr}
+use Rattle.std.proofs.Common.{◌≡◌, ◌⊎◌, ℕ, ◌+◌, ◌<◌, ◌≤◌, Bool, true, false, List, length, Result, Ok, Err, refl, sym, ap, ◌∙◌, subst, arith, inl, inr}
 use Rattle.std.specs.Prelude.{IfErr, IsOk, OnOk}
-use Rattle.std.proofs.lemmas.Bool.{cases_Bool, cases_lt}
+use Rattle.std.proofs.lemmas.Bool.{cases_lt}
 use Rattle.ts_key.specs.declared.batch.WriteOp.{WriteOp}
 use Rattle.ts_key.specs.declared.limits.TheConstants.{SEQUENCE_LIMIT}
 use Rattle.udt_disk.specs.Causes.{HasCause}
@@ -10,7 +10,7 @@ use Rattle.udt_disk.specs.declared.disk.Disk as disk
 use Rattle.wal.specs.declared.numbered.Numbered.{Numbered}
 use Rattle.wal.specs.declared.wal.TheConstants.{PENDING_LIMIT}
 use Rattle.wal.specs.Sequences.{sequence_after}
-use Rattle.wal.specs.Wals.{MayGoOn, waiting_with, wal_file, wal_pending, wal_waiting}
+use Rattle.wal.specs.Wals.{MayGoOn, waiting_with, wal_pending}
 use Rattle.udt_model.specs.declared.reply.Reply.TheVariants.{OkAt}
 use Rattle.udt_model.specs.State.{State}
 use Rattle.udt_model.specs.Acts.Act.{write}

@@ -1,28 +1,25 @@
 -- A batch that was added to the log: what the engine holds behind it.
-use Rattle.std.proofs.Common.{◌≡◌, ℕ, ◌+◌, ◌<◌, Bool, true, false, List, [], ◌∷◌, ◌++◌, length, Result, Ok, Err, refl, sym, ap, ◌∙◌, subst, arith, inl, inr}
-use Rattle.std.specs.Prelude.{All, None, OnErr, OnOk}
+use Rattle.std.proofs.Common.{◌≡◌, ℕ, ◌+◌, ◌<◌, Bool, true, false, List, [], ◌∷◌, ◌++◌, length, Result, Ok, Err, refl, sym, ap, ◌∙◌, subst, arith, inl}
+use Rattle.std.specs.Prelude.{All, OnErr, OnOk}
 use Rattle.std.proofs.lemmas.List.{length-map}
 use Rattle.ts_key.specs.declared.batch.WriteOp.{WriteOp}
 use Rattle.udt_disk.specs.Causes.{plus_faults}
-use Rattle.udt_disk.specs.Crash.{Image}
-use Rattle.udt_disk.specs.Joint.{Folder, Joint, LeavesNow, Ran}
+use Rattle.udt_disk.specs.Joint.{Folder, Ran}
 use Rattle.udt_disk.specs.Joint.Ran.{rests}
-use Rattle.udt_disk.specs.Moments.{MayLeave, holding}
 use Rattle.udt_disk.specs.Runs.{Leaves}
 use Rattle.udt_disk.specs.declared.file.DiskFile as file
 use Rattle.udt_disk.specs.declared.disk.Disk as disk
 use Rattle.udt_disk.specs.declared.name.FileName.TheVariants.{Log}
 use Rattle.wal.specs.declared.numbered.Numbered.{Numbered}
 use Rattle.wal.specs.Records.{IsLoggedBatch}
-use Rattle.wal.specs.Replays.{IsBeforeOrAfter, ReadsAs}
+use Rattle.wal.specs.Replays.{IsBeforeOrAfter}
 use Rattle.wal.specs.Wals as log
 use Rattle.wal.specs.Wals.{MayGoOn, wal_file, wal_pending, wal_sizes}
 use Rattle.udt_model.specs.declared.reply.Reply.TheVariants.{OkAt}
 use Rattle.udt_model.specs.State.{State}
 use Rattle.udt_model.specs.Acts.Act.{write}
 use Rattle.udt_model.specs.Steps.{IsReplyTo}
-use Rattle.udt_model.specs.Crashes.{Course, IsOutcome, IsOutcomeUnder}
-use Rattle.manifest_fold.specs.declared.fold.FamilyFold.{FamilyFold}
+use Rattle.udt_model.specs.Crashes.{Course, IsOutcomeUnder}
 use Rattle.manifest.specs.Folds.{sizes_of}
 use Rattle.manifest.specs.Manifest.{FoldRests, manifest_file, manifest_folded}
 use Rattle.super_version.specs.declared.version.SuperVersion.{SuperVersion}

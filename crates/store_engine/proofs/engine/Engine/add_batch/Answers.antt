@@ -2,9 +2,8 @@ use Rattle.std.proofs.Common.{◌≡◌, ◌<◌, length, refl, sym, ap, ◌∙�
 use Rattle.std.specs.Prelude.{All}
 use Rattle.std.proofs.lemmas.List.{length-map}
 use Rattle.ts_key.specs.declared.batch.WriteOp.{WriteOp}
-use Rattle.manifest.specs.Folds.{sizes_of}
 use Rattle.manifest.specs.Manifest.{manifest_folded}
-use Rattle.wal.specs.Wals.{wal_file, wal_sizes}
+use Rattle.wal.specs.Wals.{wal_sizes}
 use Rattle.store_engine.proofs.Together.{go_on_still, ready_more, ready_still, together_log}
 use Rattle.store_engine.proofs.engine.Engine.add_batch.Goals as goal
 

@@ -1,5 +1,4 @@
-use Rattle.std.proofs.Common.{[], ◌∷◌, subst, ap}
-use Rattle.udt_disk.specs.Moments.{holding}
+use Rattle.std.proofs.Common.{subst}
 use Rattle.udt_disk.proofs.Moments.{Giving}
 use Rattle.udt_disk.proofs.TouchLemmas.{touches_one}
 use Rattle.manifest.specs.Manifest.{manifest_file}

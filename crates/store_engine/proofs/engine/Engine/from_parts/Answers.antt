@@ -1,6 +1,4 @@
 use Rattle.std.proofs.Common.{ap, refl, arith}
-use Rattle.manifest.specs.Manifest.{manifest_folded}
-use Rattle.udt_model.specs.Crashes.{course_start}
 use Rattle.recovery.specs.declared.opening.Parts.{Parts}
 use Rattle.store_engine.proofs.Taken.{parts_go_on, parts_now, parts_one, parts_together}
 use Rattle.store_engine.proofs.engine.Engine.from_parts.Goals as goal

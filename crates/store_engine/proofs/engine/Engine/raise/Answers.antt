@@ -1,4 +1,4 @@
-use Rattle.std.proofs.Common.{◌≡◌, ◌≤◌, ◌∷◌, [], Ok, Err, Some, length, refl, sym, ap, ◌∙◌, subst}
+use Rattle.std.proofs.Common.{◌≡◌, [], Ok, Err, Some, refl, sym, ap, ◌∙◌, subst}
 use Rattle.std.specs.Prelude.{slice_get}
 use Rattle.std.proofs.lemmas.Bool.{false≢true}
 use Rattle.std.specs.Arc.{arc_value}
@@ -8,7 +8,6 @@ use Rattle.manifest_edit.specs.declared.edit.Edit.{Edit}
 use Rattle.manifest_fold.specs.declared.fold.Folded.{Folded}
 use Rattle.manifest_fold.specs.Folds.{IsAccepted, fold_with}
 use Rattle.manifest.specs.Manifest.{IsEditReserved, manifest_folded}
-use Rattle.super_version.specs.declared.family.FamilyState.{FamilyState}
 use Rattle.engine_laws.specs.Installs.{raise_edit}
 use Rattle.engine_laws.specs.Joints.{IsNowLast}
 use Rattle.recovery.specs.Versions.{FitsFold}

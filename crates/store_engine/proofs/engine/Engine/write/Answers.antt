@@ -1,10 +1,9 @@
-use Rattle.std.proofs.Common.{◌≡◌, ◌+◌, ◌∷◌, [], Ok, Err, length, refl, sym, ap, ◌∙◌, subst}
+use Rattle.std.proofs.Common.{◌+◌, Ok, Err, length, refl, sym, ◌∙◌}
 use Rattle.std.proofs.lemmas.Bool.{false≢true}
 use Rattle.std.specs.Arc.{arc_value}
 use Rattle.wal.specs.declared.numbered.Numbered.{Numbered}
 use Rattle.udt_model.specs.Acts.Act.{write}
 use Rattle.engine_laws.specs.Joints.{IsNowLast}
-use Rattle.store_engine.specs.Replies.{is_disk_fault}
 use Rattle.store_engine.proofs.Answering.{as_before, disk_cause, disk_disk, disk_tells, memory_fault, none_cause, none_disk, none_tells, rest_ran, same_folder, write_fails, write_refused, written_told}
 use Rattle.store_engine.proofs.Written.{added_faults, added_folder, appended_held, unadded}
 use Rattle.store_engine.proofs.Writing.{end_cause, end_current, end_failed, end_fault, end_folder, end_now, end_ran, end_running, end_synced, end_waits}
