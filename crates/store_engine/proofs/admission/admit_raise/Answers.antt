@@ -1,0 +1,23 @@
+use Rattle.std.proofs.Common.{sym, subst}
+use Rattle.udt_model.specs.declared.reply.Reply.TheVariants.{Done}
+use Rattle.udt_model.specs.Acts.Act.{raise}
+use Rattle.udt_model.specs.Steps.{after}
+use Rattle.super_version.specs.declared.version.SuperVersion.{SuperVersion}
+use Rattle.store_engine.specs.Admission.{RefusesRaise}
+use Rattle.store_engine.specs.Now.{IsNow}
+use Rattle.store_engine.proofs.Admitting.{handed_on, raise_admitted, raise_refused}
+use Rattle.store_engine.proofs.NowRaised.{now_raised}
+use Rattle.store_engine.proofs.admission.admit_raise.Goals as goal
+
+pub returns-in_err-judge_raise-clause-refused : goal.returns-in_err-judge_raise-clause-refused
+returns-in_err-judge_raise-clause-refused c = λ m up shows.
+    handed_on (RefusesRaise m c.args.family c.args.floor) c.from_residual.result c.in_err-judge_raise.field-0.0 c.from_residual.ensures.1
+    (raise_refused m c.args.now.now c.args.family c.args.floor c.in_err-judge_raise.field-0.0 up shows (sym c.in_err-judge_raise.ensures.fault))
+
+pub returns-clause-admitted : goal.returns-clause-admitted
+returns-clause-admitted c = λ m up shows. raise_admitted m c.args.now.now c.args.family c.args.floor up shows (sym c.in_ok-judge_raise.ensures.fault)
+
+pub returns-clause-next : goal.returns-clause-next
+returns-clause-next c = λ m number shows.
+    subst (λ (v : SuperVersion). IsNow v (after m number (raise c.args.family c.args.floor) Done)) (sym c.in_ok-share.ensures)
+    (now_raised m c.args.now.now c.in_ok-with_floor.field-0 number c.args.family c.args.floor (sym c.in_ok-judge_raise.ensures.fault) shows c.in_ok-with_floor.ensures)
