@@ -1,0 +1,5 @@
+//! Tests of scans.
+
+mod making;
+mod plain;
+mod small;

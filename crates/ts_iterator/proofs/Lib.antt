@@ -1,0 +1,10 @@
+pub mod Keys
+pub mod Ranges
+pub mod Lasts
+pub mod Backwards
+pub mod Steps
+pub mod StepsDown
+pub mod Ends
+pub mod Merged
+pub mod Whole
+pub mod Gathering

@@ -1,0 +1,5 @@
+pub mod Walks
+pub mod Sources
+pub mod Rows
+pub mod Rests
+pub mod Laws

@@ -1,0 +1,35 @@
+-- The rows that a scan has yet to give.
+use Rattle.std.specs.Prelude.{ℕ, List, [], ◌∷◌, Bool, reverse, if◌then◌else◌, Option, Some, None}
+use Rattle.std.specs.Option.{option_copied}
+use Rattle.ts_key.specs.Items.{Item, shown_by}
+use Rattle.udt_model.specs.declared.reply.Row.{Row}
+use Rattle.ts_iterator.specs.declared.up.Up.{Up}
+use Rattle.ts_iterator.specs.declared.down.Down.{Down}
+use Rattle.ts_iterator.specs.declared.scan.Scan.{Scan}
+use Rattle.ts_iterator.specs.declared.scan.Way.{Way}
+use Rattle.ts_iterator.specs.declared.scan.Way.TheVariants as ways
+use Rattle.ts_iterator.specs.Rows.{least_of, rows_down, rows_up}
+use Rattle.ts_iterator.specs.Sources.{walk_place, walked}
+use Rattle.ts_iterator.specs.Walks.{ahead, behind}
+
+abbrev pub rest_up : {C : Type 0} → (C → List Item) → (C → ℕ) → Up C → List Row
+rest_up items place x = rows_up x.floor x.high x.t.0 x.s.0 (option_copied x.decided) (ahead (place x.cursor) (items x.cursor))
+
+abbrev pub rest_down : {C : Type 0} → (C → List Item) → (C → ℕ) → Down C → List Row
+rest_down items place x = rows_down x.floor (least_of x.low) x.high x.t.0 x.s.0 (shown_by x.best) (behind (place x.cursor) (items x.cursor))
+
+abbrev pub rest_of : Way → List Row
+rest_of (ways.Up x) = rest_up (λ m. walked m.children.items) (λ m. walk_place m.before m.children.items) x
+rest_of (ways.Down x) = rest_down (λ m. walked m.children.items) (λ m. walk_place m.before m.children.items) x
+
+abbrev pub rest : Scan → List Row
+rest x = rest_of x.way
+
+-- the rows of an answer
+abbrev pub rows_given : Option Row → List Row
+rows_given None = []
+rows_given (Some row) = row ∷ []
+
+-- in which order rows are given
+abbrev pub in_order_of : Bool → List Row → List Row
+in_order_of forward rows = if forward then rows else reverse rows

@@ -1,0 +1,23 @@
+-- What lies before a cursor that goes up, and before one that goes down.
+use Rattle.std.specs.Prelude.{◌≡◌, ℕ, zero, suc, ◌-◌, ◌^◌, nat_le, if◌then◌else◌, List, [], drop, length, reverse, take, Option, Some, None}
+use Rattle.ts_key.specs.Items.{Item}
+use Rattle.ts_key.specs.Lists.{below}
+use Rattle.ts_key.specs.Order.{SortKey}
+
+-- the items from its place on; none where it stands before the first
+abbrev pub ahead : {X : Type 0} → ℕ → List X → List X
+ahead zero xs = []
+ahead (suc n) xs = drop n xs
+
+-- the items from its place back; none where it stands after the last
+abbrev pub behind : {X : Type 0} → ℕ → List X → List X
+behind place xs = if nat_le place (length xs) then reverse (take place xs) else []
+
+-- where a key's versions begin
+abbrev pub top_of : List ℕ → SortKey
+top_of key = record { key = key; ts = 2 ^ 64 - 1; seq = 2 ^ 64 - 1 }
+
+-- the place is that of the last version before the upper bound, and the last of all where there is no bound
+abbrev pub IsLastBelow : Option (List ℕ) → ℕ → List Item → Type 0
+IsLastBelow None place vs = place ≡ length vs
+IsLastBelow (Some high) place vs = place ≡ below (top_of high) vs

@@ -1,0 +1,96 @@
+//! A scan upwards.
+ghost use Rattle.std.specs.Prelude.{ℕ, List, [], ◌∷◌, ◌≡◌, ◌+◌, ◌||◌, None, not, MatchOption, MatchResult};
+ghost use Rattle.std.specs.Option.{option_copied};
+ghost use Rattle.ts_key.specs.Items.{Item, hit_at, shown};
+ghost use Rattle.ts_key.specs.Lists.{below};
+ghost use Rattle.ts_key.specs.Order.{SortKey, sort_key_of};
+ghost use Rattle.ts_key.specs.Visible.{is_within};
+ghost use Rattle.ts_iterator.specs.Rows.{is_decided as is_decided_by, range_rows};
+ghost use Rattle.ts_iterator.specs.Rests.{rest_up};
+
+use crate::NoMemory;
+use crate::rows::{is_past, row_at};
+use merge_cursor::{Cursor, Placed};
+use std::alloc::Global;
+use ts_key::{Hit, Key, KeyRef, Kind, Seq, Ts};
+use udt_model::Row;
+
+/// The rows of a range, ascending.
+#[derive(Drop)]
+pub(crate) struct Up<'a, C> {
+    cursor: C,
+    /// The key whose row was given, or that has none.
+    decided: Option<&'a [u8]>,
+    high: Option<Key>,
+    floor: Ts,
+    t: Ts,
+    s: Seq,
+}
+
+fn is_decided(decided: Option<&[u8]>, key: &[u8]) -> bool
+    ensures { result ≡ is_decided_by (option_copied decided.entry) key.now }
+{
+    match decided {
+        None => false,
+        Some(decided) => decided == key,
+    }
+}
+
+/// Whether the key is decided, or the read doesn't see the version.
+fn is_passed_over(decided: Option<&[u8]>, key: &KeyRef<'_>, t: Ts, s: Seq) -> bool
+    ensures { (v : Item) → v.sort_key ≡ sort_key_of key.now
+        → result ≡ (is_decided_by (option_copied decided.entry) v.sort_key.key || not (is_within t.0 s.0 v)) }
+{
+    is_decided(decided, key.key) || !(key.ts.0 <= t.0 && key.seq.0 <= s.0)
+}
+
+impl<'a, C: Cursor<'a> + Drop> Up<'a, C> {
+    /// The rows of the keys below `high`, over a cursor at the first version that isn't before `low` at `t` and `s`.
+    pub(crate) fn new(cursor: C, high: Option<Key>, floor: Ts, t: Ts, s: Seq) -> Up<'a, C>
+        ensures { (low : List ℕ) → C.place cursor ≡ below (record { key = low; ts = t.0; seq = s.0 }) (C.items cursor) + 1
+            → rest_up C.items C.place result ≡ range_rows (C.items cursor) floor low high t.0 s.0 }
+    {
+        Up {
+            cursor,
+            decided: None,
+            high,
+            floor,
+            t,
+            s,
+        }
+    }
+
+    /// The next row. Where it answers `NoMemory` the same one is still to come.
+    pub(crate) fn next(&mut self, alloc: Global) -> Result<Option<Row>, NoMemory>
+        ensures { MatchResult result
+            (λ found. MatchOption found
+            ((rest_up C.items C.place self.old ≡ []) × (rest_up C.items C.place self.new ≡ []))
+            (λ row. rest_up C.items C.place self.old ≡ row ∷ rest_up C.items C.place self.new))
+            (λ _. rest_up C.items C.place self.new ≡ rest_up C.items C.place self.old) }
+    {
+        loop {
+            let Some((key, hit)) = self.cursor.at() else {
+                return Ok(None);
+            };
+            if is_past(&self.high, key.key) {
+                return Ok(None);
+            }
+            if is_passed_over(self.decided, &key, self.t, self.s) {
+                self.cursor.next();
+                continue;
+            }
+            match hit.kind {
+                Kind::Del => {
+                    self.decided = Some(key.key);
+                    self.cursor.next();
+                }
+                Kind::Put => {
+                    let row = row_at(alloc, self.floor, &key, &hit)?;
+                    self.decided = Some(key.key);
+                    self.cursor.next();
+                    return Ok(Some(row));
+                }
+            }
+        }
+    }
+}
