@@ -110,9 +110,12 @@ fn a_raise_that_stops_is_made_or_not(rt: HostRuntime) -> Result<(), Fail> {
                     call,
                     lasting: true,
                 };
-                if let Some((last, floor, done)) =
-                    left(rt.alloc(), trouble, PUT_AND_RAISE, *outcome)?
-                {
+                if let Some((last, floor, done)) = left(
+                    rt.alloc(),
+                    trouble,
+                    PUT_AND_RAISE,
+                    *outcome,
+                )? {
                     let is_made = floor == 5 && last == 1;
                     assert!(rt; is_made || (floor == 0 && !done), "{call}");
                 }
@@ -149,7 +152,10 @@ fn families_are_written_and_raised(rt: HostRuntime) -> Result<(), Fail> {
     let (disk, fault) = history(rt.alloc(), disk, &steps)?;
     assert_eq!(rt;
         fault,
-        Some(EngineFault::BelowFloor { op: 1, floor: Ts(4) })
+        Some(EngineFault::BelowFloor {
+            op: 1,
+            floor: Ts(4)
+        })
     );
     let version = version_of(rt.alloc(), disk)?;
     assert_eq!(rt; version.last, Seq(3));

@@ -30,7 +30,7 @@ use Rattle.recovery.specs.Opening.{IsShown, IsUsable, RefusesFiles, RefusesOpeni
 use Rattle.recovery.specs.Versions.{ShowsVersion}
 use Rattle.recovery.specs.Places.{AreOpened, HasPlaces, IsTableName, RefusesTables}
 use Rattle.recovery.specs.Replayed.{AreInLine, IsLogName, IsNewestLog, RefusesLogs, above_through}
-use Rattle.recovery.specs.Tables.{AreInOrder}
+use Rattle.recovery.specs.Tables.{AreTablesInOrder}
 use Rattle.recovery.specs.declared.fault.OpenFault.{OpenFault}
 use Rattle.recovery.specs.declared.fault.OpenFault.TheVariants.{NoStore, BadManifest, MissingTable, BadTable, BadLog, DiskFault, NoMemory}
 use Rattle.recovery.specs.declared.gathered.Gathered.{Gathered}
@@ -48,7 +48,7 @@ tables_files fold folder (BadLog n at) refused = absurd refused
 tables_files fold folder DiskFault refused = tt
 tables_files fold folder NoMemory refused = tt
 
-pub logs_files : (fold : Folded) (folder : Folder) → AreInOrder fold folder → (e : OpenFault) → RefusesLogs fold folder e → RefusesFiles fold folder e
+pub logs_files : (fold : Folded) (folder : Folder) → AreTablesInOrder fold folder → (e : OpenFault) → RefusesLogs fold folder e → RefusesFiles fold folder e
 logs_files fold folder order NoStore refused = refused
 logs_files fold folder order (BadManifest at) refused = refused
 logs_files fold folder order (MissingTable n) refused = absurd refused

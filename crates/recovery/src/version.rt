@@ -6,10 +6,10 @@ ghost use Rattle.std.specs.Arc.{arc_value};
 ghost use Rattle.std.specs.Ordering.{is_lt};
 ghost use Rattle.ts_key.specs.declared.limits.TheConstants.{FAMILY_LIMIT};
 ghost use Rattle.sorted_run.specs.Sorts.{sorted};
-ghost use Rattle.memtable.specs.Memtables.{versions_of};
+ghost use Rattle.memtable.specs.Memtables.{versions_of_memtable};
 ghost use Rattle.super_version.specs.Levels.{stands_before};
 ghost use Rattle.super_version.specs.Writes.{of_family};
-ghost use Rattle.recovery.specs.Versions.{AreLevels, AreStates, IsLevel, ShowsFamily, ShowsVersion, tables_of};
+ghost use Rattle.recovery.specs.Versions.{AreLevels, AreStates, IsLevel, ShowsFamily, ShowsVersion, level_tables};
 
 use crate::NoMemory;
 use crate::tables::Opened;
@@ -41,7 +41,7 @@ fn own_versions(
 /// The memtable of a family: one run of its versions, where it has any.
 fn memtable_of(alloc: Global, family: Family, versions: &[Version]) -> Result<Mem, NoMemory>
     ensures family { IfOk result (λ mem. mem.family ≡ family) }
-    ensures versions { IfOk result (λ mem. versions_of mem ≡ sorted (of_family family versions.now)) }
+    ensures versions { IfOk result (λ mem. versions_of_memtable mem ≡ sorted (of_family family versions.now)) }
 {
     let own = own_versions(alloc, family, versions)?;
     Mem::empty(alloc, family).with(&own)
@@ -54,7 +54,7 @@ pub(crate) fn tables_on(
     level: u32,
     opened: &[Opened],
 ) -> Result<Vec<Arc<LiveTable>>, NoMemory>
-    ensures { IfOk result (λ tables. map arc_value tables.items ≡ tables_of family level opened.now) }
+    ensures { IfOk result (λ tables. map arc_value tables.items ≡ level_tables family level opened.now) }
 {
     let mut tables = Vec::new(alloc);
     for table in opened {
@@ -108,7 +108,7 @@ fn level_of(
     level: u32,
     opened: &[Opened],
 ) -> Result<SharedList<LiveTable>, NoMemory>
-    ensures { IfOk result (IsLevel level (tables_of family level opened.now)) }
+    ensures { IfOk result (IsLevel level (level_tables family level opened.now)) }
 {
     let tables = tables_on(alloc, family, level, opened)?;
     if level == 0 {

@@ -2,14 +2,14 @@
 ghost use Rattle.std.specs.Prelude.{◌≡◌, ◌<◌, ◌≤◌, ◌++◌, length, IfOk, OnOk};
 ghost use Rattle.ts_key.specs.Items.{items_of};
 ghost use Rattle.ts_key.specs.Lists.{IsOrdered};
-ghost use Rattle.sorted_run.specs.Sorts.{is_before as stands_before, sorted as sorted_of};
+ghost use Rattle.sorted_run.specs.Sorts.{is_sorted_before, sorted as sorted_of};
 
 use std::alloc::Global;
 use ts_key::{NoMemory, Version, compare};
 
 /// Whether `a` stands before `b` in the stored order.
 fn is_before(a: &Version, b: &Version) -> bool
-    ensures { result ≡ stands_before a.now b.now }
+    ensures { result ≡ is_sorted_before a.now b.now }
 {
     compare(&a.key_ref(), &b.key_ref()).is_lt()
 }

@@ -14,11 +14,11 @@ use std::alloc::Global;
 use std::sync::Arc;
 use std::test::Fail;
 use super_version::{FamilyState, LiveTable, SharedList, SuperVersion};
+use ts_iterator::{Row, Scan};
 use ts_key::{
     Batch, Family, Form, Key, Op, SEQUENCE_LIMIT, STAMP_LIMIT, Seq, Ts, Value, Version, WriteOp,
     compare,
 };
-use ts_iterator::{Row, Scan};
 use udt_disk::{Disk, FileName, MemDisk};
 
 /// The bounds of a range.
@@ -74,7 +74,16 @@ pub fn rows(
         return Err(Fail::new("no family"));
     }
     let (low, high) = (range.low.as_ref(), range.high.as_ref());
-    let scan = Scan::new(alloc, now, Family(0), low, high, Ts(t), Seq(u64::MAX), forward);
+    let scan = Scan::new(
+        alloc,
+        now,
+        Family(0),
+        low,
+        high,
+        Ts(t),
+        Seq(u64::MAX),
+        forward,
+    );
     let Ok(mut scan) = scan else {
         return Err(Fail::new("no scan"));
     };

@@ -107,7 +107,15 @@ fn plain_rows(
     let mut rows = Vec::new(alloc);
     for k in 0..6u8 {
         let key = Key::of(alloc, &[b'k', k])?;
-        let read = plain_read(alloc, all, Ts(floor), Family(0), key.bytes(), Ts(t), Seq(u64::MAX))?;
+        let read = plain_read(
+            alloc,
+            all,
+            Ts(floor),
+            Family(0),
+            key.bytes(),
+            Ts(t),
+            Seq(u64::MAX),
+        )?;
         if let ModelRead::Told(Answer::Found { value, stamp }) = read {
             if is_in(range, key.bytes()) {
                 rows.push(Row { key, value, stamp })?;
