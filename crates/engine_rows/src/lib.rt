@@ -2,6 +2,5 @@
 #![tactic(auto)]
 
 pub mod script;
-
 #[cfg(test)]
 mod tests;

@@ -50,10 +50,7 @@ fn batch_of(alloc: Global, family: u32, ts: u64, count: u8) -> Result<Batch, All
 }
 
 /// The engine of a store, and the super version of its opening.
-fn opened(
-    alloc: Global,
-    disk: MemDisk,
-) -> Result<(Engine<MemDisk>, Arc<SuperVersion>), OpenFault>
+fn opened(alloc: Global, disk: MemDisk) -> Result<(Engine<MemDisk>, Arc<SuperVersion>), OpenFault>
     ensures running { IfOk result (λ r. IsRunning r.0) }
     ensures current { IfOk result (λ r. IsCurrent r.0 (arc_value r.1)) }
 {
@@ -164,12 +161,14 @@ pub fn history(
 /// The super version of a store that is opened, and closed at once.
 pub fn version_of(alloc: Global, disk: MemDisk) -> Result<SuperVersion, OpenFault> {
     match open_store(alloc, disk) {
-        Ok(Parts {
-            mut disk,
-            manifest,
-            wal,
-            version,
-        }) => {
+        Ok(
+            Parts {
+                mut disk,
+                manifest,
+                wal,
+                version,
+            },
+        ) => {
             disk.retire(wal.into_file());
             disk.retire(manifest.into_file());
             Ok(version)
