@@ -158,9 +158,11 @@ module _ {D F : Type 0} (d : disk.Ghosts D F) (f : file.Ghosts F) (now_last : Is
 
     pub synced_called : IsCalled d f old new result
     synced_called = elim result as (λ r. HasCause (faults_of d f old) (faults_of d f new) r → OnOk r (IsRunning new) → has_failed new ≡ is_disk_failure r → IfErr r (λ fault. fault ≡ DiskFault) → IsCalled d f old new r) [
-      | Ok u ↦ λ cause running failed fault. record { same = synced_folder; running = λ not. running; failed = failed; counted = cause.kept }
+      | Ok u ↦ λ cause running failed fault. record { same = synced_folder; next = synced.next; untouched = tt; running = λ not. running; failed = failed; counted = cause.kept }
       | Err e ↦ λ cause running failed fault. record {
         same = synced_folder;
+        next = synced.next;
+        untouched = λ not. absurd (false≢true (sym not ∙ ap is_disk_fault fault));
         running = λ not. absurd (false≢true (sym not ∙ ap is_disk_fault fault));
         failed = failed;
         counted = disk_cause e (faults_of d f old) (faults_of d f new) fault cause.failed;

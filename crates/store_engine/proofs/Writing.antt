@@ -128,6 +128,18 @@ module _ {D F : Type 0} (d : disk.Ghosts D F) (f : file.Ghosts F) (now_last : Is
       | inr waited ↦ subst (λ e. IsSameFolder f old e) (sym waited.3) (added_folder d f now_last old mid b (Ok tt) added)
     ]
 
+    pub end_next : new.next ≡ old.next
+    end_next = elim either [
+      | inl synced ↦ synced.next ∙ added.next
+      | inr waited ↦ ap (λ (e : Engine D F f). e.next) waited.3 ∙ added.next
+    ]
+
+    pub end_manifest : new.manifest ≡ old.manifest
+    end_manifest = elim either [
+      | inl synced ↦ synced.manifest ∙ added.manifest
+      | inr waited ↦ ap (λ (e : Engine D F f). e.manifest) waited.3 ∙ added.manifest
+    ]
+
     pub end_fault : IfErr result (λ fault. fault ≡ DiskFault)
     end_fault = elim either [
       | inl synced ↦ synced.fault

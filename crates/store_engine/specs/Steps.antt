@@ -13,7 +13,8 @@ use Rattle.manifest_fold.specs.Folds.{fold_with}
 use Rattle.manifest.specs.Files.{IsEditImage}
 use Rattle.manifest.specs.Manifest.{FoldRests, IsEditReserved, manifest_file, manifest_folded}
 use Rattle.store_engine.specs.Calls.{is_disk_failure}
-use Rattle.store_engine.specs.Engines.{IsRunning, faults_of, has_failed}
+use Rattle.store_engine.specs.Engines.{IsRunning, faults_of, has_failed, held}
+use Rattle.store_engine.specs.Replies.{is_disk_fault}
 use Rattle.store_engine.specs.declared.engine.Engine.{Engine}
 use Rattle.store_engine.specs.declared.fault.EngineFault.{EngineFault}
 use Rattle.store_engine.specs.declared.fault.EngineFault.TheVariants.{DiskFault, NoMemory}
@@ -84,10 +85,12 @@ pub record IsSameFolder {D F : Type 0} (f : Ghosts F) (old new : Engine D F f) :
   pub wal : IsSameFile f (wal_file old.wal) (wal_file new.wal)
   pub manifest : IsSameFile f (manifest_file old.manifest) (manifest_file new.manifest)
 
--- What each call leaves, whether or not the disk tells what it holds: the same folder, an engine that may be called unless the disk failed,
--- and as many faults as before unless it did.
+-- What each call leaves, whether or not the disk tells what it holds: the same folder and number of the next file; nothing touched where the
+-- call was refused; an engine that may be called unless the disk failed, and as many faults as before unless it did.
 pub record IsCalled {D F A : Type 0} (d : disk.Ghosts D F) (f : Ghosts F) (old new : Engine D F f) (result : Result A EngineFault) : Type 0 where
   pub same : IsSameFolder f old new
+  pub next : new.next ≡ old.next
+  pub untouched : IfErr result (λ fault. is_disk_fault fault ≡ false → held new ≡ held old)
   pub running : is_disk_failure result ≡ false → IsRunning new
   pub failed : has_failed new ≡ is_disk_failure result
   pub counted : IsCause (is_disk_failure result) (faults_of d f old) (faults_of d f new)

@@ -74,6 +74,7 @@ impl<D: Disk> Engine<D> {
     pub fn from_parts(disk: D, manifest: Manifest<D::File>, wal: Wal<D::File>) -> Engine<D>
         requires { (old : D) × (version : Version) × ArePartsOf D.Disk D.File.DiskFile old (parts_of disk manifest wal version) }
         ensures held { held result ≡ holding disk (wal_file wal ∷ manifest_file manifest ∷ []) }
+        ensures next { result.next ≡ (manifest_folded manifest).next_file }
         ensures running { IsRunning result }
         ensures one { IsOneFolder D.Disk D.File.DiskFile result }
         ensures current { (old : D) (version : Version) → ArePartsOf D.Disk D.File.DiskFile old (parts_of disk manifest wal version) → IsCurrent result version }
@@ -192,6 +193,7 @@ impl<D: Disk> Engine<D> {
 
         // Whether or not the disk tells what it holds.
         ensures waits { OnOk result (sync ≡ false → length (waiting_with self.old.wal (batch_behind now.now batch.now)) < PENDING_LIMIT → held self.new ≡ held self.old) }
+        ensures manifest { self.new.manifest ≡ self.old.manifest }
         ensures synced { OnOk result ((sync ≡ true) ⊎ (PENDING_LIMIT ≤ length (waiting_with self.old.wal (batch_behind now.now batch.now))) → wal_pending self.new.wal ≡ 0) }
         ensures called { IsCalled D.Disk D.File.DiskFile self.old self.new result }
     {
@@ -265,6 +267,7 @@ impl<D: Disk> Engine<D> {
 
         // Whether or not the disk tells what it holds.
         ensures none { wal_pending self.old.wal ≡ 0 → held self.new ≡ held self.old }
+        ensures manifest { self.new.manifest ≡ self.old.manifest }
         ensures synced { OnOk result (wal_pending self.new.wal ≡ 0) }
         ensures called { IsCalled D.Disk D.File.DiskFile self.old self.new result }
         ensures fault { IfErr result (λ fault. fault ≡ EngineFault.DiskFault) }

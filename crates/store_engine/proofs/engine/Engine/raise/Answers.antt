@@ -81,6 +81,8 @@ returns-in-Err-clause-called g c =
     let e = c.in-Err.ensures in
     record {
       same = same_folder d f last self;
+      next = refl;
+      untouched = λ not. refl;
       running = λ not. c.requires.running;
       failed = c.requires.running.runs ∙ sym (memory_fault fault e.memory);
       counted = none_cause fault _ _ (memory_fault fault e.memory) refl;
@@ -158,6 +160,8 @@ returns-in-Err-reserve_edit-clause-called g c =
     let e = c.in-Err-reserve_edit.ensures in
     record {
       same = kept_folder d f last self mid edit (Err fault) e;
+      next = e.next;
+      untouched = λ not. reserved_held d f last self mid edit (Err fault) e;
       running = λ not. e.running;
       failed = e.running.runs ∙ sym (none_disk fault e.fault);
       counted = none_cause fault _ _ (none_disk fault e.fault) (kept_faults d f last self mid edit (Err fault) e);
@@ -243,6 +247,8 @@ returns-in-Err-sync_log-clause-called g c =
     let e = c.in-Err-sync_log.ensures in
     record {
       same = first_folder d f last self mid edit (Ok tt) kept two (Err fault) e;
+      next = e.next ∙ kept.next;
+      untouched = λ not. absurd (false≢true (sym not ∙ disk_disk fault e.fault));
       running = λ not. absurd (false≢true (sym not ∙ disk_disk fault e.fault));
       failed = e.failed;
       counted = disk_cause fault _ _ e.fault (first_cause d f last self mid edit (Ok tt) kept two (Err fault) e).failed;
@@ -360,6 +366,8 @@ returns-in-Err-append_edit-clause-called g c =
     let e = c.in-Err-append_edit.ensures in
     record {
       same = edited_folder d f last self mid edit (Ok tt) kept two new (Err fault) synced e;
+      next = e.next ∙ synced.next ∙ kept.next;
+      untouched = λ not. absurd (false≢true (sym not ∙ disk_disk fault e.fault));
       running = λ not. absurd (false≢true (sym not ∙ disk_disk fault e.fault));
       failed = e.failed;
       counted = disk_cause fault _ _ e.fault (second_cause d f last self mid edit (Ok tt) kept two new synced (Err fault) e).failed;
@@ -506,6 +514,8 @@ returns-in-Ok-append_edit-clause-called g c =
     let next = arc_value c.in-Ok.next in
     record {
       same = edited_folder d f last self mid edit (Ok tt) kept two new (Ok tt) synced e;
+      next = e.next ∙ synced.next ∙ kept.next;
+      untouched = tt;
       running = λ not. e.running;
       failed = e.failed;
       counted = (second_cause d f last self mid edit (Ok tt) kept two new synced (Ok tt) e).kept;

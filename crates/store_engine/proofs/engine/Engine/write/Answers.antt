@@ -6,7 +6,7 @@ use Rattle.udt_model.specs.Acts.Act.{write}
 use Rattle.engine_laws.specs.Joints.{IsNowLast}
 use Rattle.store_engine.proofs.Answering.{as_before, disk_cause, disk_disk, disk_tells, memory_fault, none_cause, none_disk, none_tells, rest_ran, same_folder, write_fails, write_refused, written_told}
 use Rattle.store_engine.proofs.Written.{added_faults, added_folder, appended_held, unadded}
-use Rattle.store_engine.proofs.Writing.{end_cause, end_current, end_failed, end_fault, end_folder, end_now, end_ran, end_running, end_synced, end_waits}
+use Rattle.store_engine.proofs.Writing.{end_cause, end_current, end_failed, end_fault, end_folder, end_manifest, end_next, end_now, end_ran, end_running, end_synced, end_waits}
 use Rattle.store_engine.proofs.engine.Engine.write.Goals as goal
 
 pub returns-in-Err-clause-tells : goal.returns-in-Err-clause-tells
@@ -73,6 +73,8 @@ returns-in-Err-clause-called g c =
     let e = c.in-Err.ensures in
     record {
       same = same_folder d f last self;
+      next = refl;
+      untouched = λ not. refl;
       running = λ not. c.requires.running;
       failed = c.requires.running.runs ∙ sym (memory_fault fault e.memory);
       counted = none_cause fault _ _ (memory_fault fault e.memory) refl;
@@ -150,6 +152,8 @@ returns-in-Err-add_batch-clause-called g c =
     let b : Numbered = record { first = record { 0 = now.last.0 + 1 }; batch = ops } in
     record {
       same = added_folder d f last self mid b (Err fault) e;
+      next = e.next;
+      untouched = λ not. appended_held d f last self mid b (Err fault) e;
       running = λ not. e.running;
       failed = e.running.runs ∙ sym (none_disk fault e.fault);
       counted = none_cause fault _ _ (none_disk fault e.fault) (added_faults d f last self mid b (Err fault) e);
@@ -231,6 +235,8 @@ returns-in-Err-sync_due-clause-called g c =
     let e = c.in-Err-sync_due.ensures in
     record {
       same = end_folder d f last self mid new now ops sync added c.requires.running.together (Err fault) e.due e.waits;
+      next = end_next d f last self mid new now ops sync added c.requires.running.together (Err fault) e.due e.waits;
+      untouched = λ not. absurd (false≢true (sym not ∙ disk_disk fault (end_fault d f last self mid new now ops sync added c.requires.running.together (Err fault) e.due e.waits)));
       running = λ not. absurd (false≢true (sym not ∙ disk_disk fault (end_fault d f last self mid new now ops sync added c.requires.running.together (Err fault) e.due e.waits)));
       failed = end_failed d f last self mid new now ops sync added c.requires.running.together (Err fault) e.due e.waits;
       counted = disk_cause fault _ _ (end_fault d f last self mid new now ops sync added c.requires.running.together (Err fault) e.due e.waits) (end_cause d f last self mid new now ops sync added c.requires.running.together (Err fault) e.due e.waits).failed;
@@ -369,7 +375,47 @@ returns-in-Ok-sync_due-clause-called g c =
     let next = arc_value c.in-Ok.next in
     record {
       same = end_folder d f last self mid new now ops sync added c.requires.running.together (Ok tt) e.due e.waits;
+      next = end_next d f last self mid new now ops sync added c.requires.running.together (Ok tt) e.due e.waits;
+      untouched = tt;
       running = λ not. end_running d f last self mid new now ops sync added c.requires.running.together (Ok tt) e.due e.waits;
       failed = end_failed d f last self mid new now ops sync added c.requires.running.together (Ok tt) e.due e.waits;
       counted = (end_cause d f last self mid new now ops sync added c.requires.running.together (Ok tt) e.due e.waits).kept;
     }
+
+pub returns-in-Err-sync_due-clause-manifest : goal.returns-in-Err-sync_due-clause-manifest
+returns-in-Err-sync_due-clause-manifest g c =
+    let d = g.D.Disk in
+    let f = g.D.File.DiskFile in
+    let last : IsNowLast d f = record {
+      disk = λ x n image left. (g.met.D.Disk g.world.𝓛 g.world.𝓜 g.world.𝓡 ((λ s x. x), (λ x. x), (λ x. x), λ x. x)).only_now x n image left;
+      file = λ x image left. (g.met.D.File.DiskFile g.world.𝓛 g.world.𝓜 g.world.𝓡 ((λ s x. x), (λ x. x), (λ x. x), λ x. x)).only_now x image left;
+    } in
+    let self = c.args.self.now in
+    let now = c.args.now.now in
+    let ops = c.args.batch.now in
+    let sync = c.args.sync in
+    let mid = c.add_batch.new.self in
+    let new = c.sync_due.new.self in
+    let added = c.in-Ok-add_batch.ensures in
+    let fault = c.in-Err-sync_due.fault in
+    let e = c.in-Err-sync_due.ensures in
+    end_manifest d f last self mid new now ops sync added c.requires.running.together (Err fault) e.due e.waits
+
+pub returns-in-Ok-sync_due-clause-manifest : goal.returns-in-Ok-sync_due-clause-manifest
+returns-in-Ok-sync_due-clause-manifest g c =
+    let d = g.D.Disk in
+    let f = g.D.File.DiskFile in
+    let last : IsNowLast d f = record {
+      disk = λ x n image left. (g.met.D.Disk g.world.𝓛 g.world.𝓜 g.world.𝓡 ((λ s x. x), (λ x. x), (λ x. x), λ x. x)).only_now x n image left;
+      file = λ x image left. (g.met.D.File.DiskFile g.world.𝓛 g.world.𝓜 g.world.𝓡 ((λ s x. x), (λ x. x), (λ x. x), λ x. x)).only_now x image left;
+    } in
+    let self = c.args.self.now in
+    let now = c.args.now.now in
+    let ops = c.args.batch.now in
+    let sync = c.args.sync in
+    let mid = c.add_batch.new.self in
+    let new = c.sync_due.new.self in
+    let added = c.in-Ok-add_batch.ensures in
+    let e = c.in-Ok-sync_due.ensures in
+    let next = arc_value c.in-Ok.next in
+    end_manifest d f last self mid new now ops sync added c.requires.running.together (Ok tt) e.due e.waits
