@@ -214,7 +214,7 @@ module _ (floor : Ts) (low : List ℕ) (high : Option (List ℕ)) (t s : ℕ) wh
             (λ i. cond (q i) (v ∷ open_from v vs k so.0 i) (open_from v vs k so.0 i)) ∙ sym (ap (λ m. filter open_one (drop m (v ∷ vs))) n)
       ]
 
-  -- the scan, descending
+  -- D5 descending
   pub scan_backwards : (vs : List Item) → IsOrdered vs → rows_down floor low high t s None (reverse vs) ≡ reverse (range_rows vs floor low high t s)
   scan_backwards vs so =
       rows_backwards vs so
