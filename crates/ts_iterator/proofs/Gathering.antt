@@ -1,13 +1,10 @@
 -- Cursors put at the end, one after the other.
-use Rattle.std.proofs.Common.{◌≡◌, ℕ, ◌+◌, ◌<◌, List, [], ◌∷◌, ◌++◌, length, get_or, map, take, Option, Some, refl, sym, ap, ◌∙◌, arith, append_assoc}
+use Rattle.std.proofs.Common.{◌≡◌, ℕ, ◌+◌, List, [], ◌∷◌, ◌++◌, take, Some, refl, sym, ap, ◌∙◌, arith, append_assoc}
 use Rattle.std.specs.Prelude.{slice_get, zero, suc}
-use Rattle.std.specs.List.{flat_map}
 use Rattle.std.proofs.lemmas.List.{append-nil}
 use Rattle.ts_key.specs.declared.version.Version.{Version}
 use Rattle.ts_key.specs.Items.{Item, item_of, items_of}
-use Rattle.ts_key.specs.Lists.{joined}
 use Rattle.memtable.specs.Memtables as memtables
-use Rattle.super_version.proofs.Lists.{flat_more}
 use Rattle.ts_iterator.specs.declared.source.Source.{Source}
 use Rattle.ts_iterator.specs.Sources.{items, items_of_all}
 

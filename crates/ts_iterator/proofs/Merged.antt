@@ -1,5 +1,5 @@
 -- In whatever order lists stand one after the other, and merged or not, a scan has the same rows.
-use Rattle.std.proofs.Common.{◌≡◌, ℕ, ◌<◌, ◌⊎◌, inl, inr, Bool, true, false, cond, List, [], ◌∷◌, ◌++◌, Option, Some, None, refl, sym, ap, subst, ◌∙◌, arith}
+use Rattle.std.proofs.Common.{◌≡◌, ℕ, ◌<◌, ◌⊎◌, inl, inr, Bool, true, false, cond, List, [], ◌∷◌, ◌++◌, Option, Some, refl, sym, ap, subst, ◌∙◌, arith}
 use Rattle.std.specs.Prelude.{filter, nat_lt, ◌==◌, ◌&&◌, ◌||◌}
 use Rattle.std.specs.List.{flat_map}
 use Rattle.std.specs.Ordering.{is_lt, nat_cmp, ordering_reverse, ordering_then}
@@ -14,7 +14,7 @@ use Rattle.std.proofs.lemmas.Map.Lookups.{exact_bytes}
 use Rattle.ts_key.specs.declared.numbers.Ts.{Ts}
 use Rattle.ts_key.specs.Order.{is_before}
 use Rattle.ts_key.specs.Orders.{is_Less}
-use Rattle.ts_key.specs.Items.{Item, items_of}
+use Rattle.ts_key.specs.Items.{Item}
 use Rattle.ts_key.specs.Lists.{stored, with_item}
 use Rattle.ts_key.specs.Visible.{is_newer, is_seen, newer, newest_of, visible}
 use Rattle.ts_key.specs.Firsts.{lower, seen_of_key, slice_self}
@@ -173,10 +173,10 @@ stored_alike vs = record { seen = λ key t s. tested-stored key (is_seen key t s
 alike-append : (ws xs ys zs : List Item) → AreAlike ws xs → AreAlike ys zs → AreAlike (ws ++ ys) (xs ++ zs)
 alike-append ws xs ys zs g h = record {
   seen = λ key t s.
-    tested-append (is_seen key t s) ws ys
-    ∙ ap (λ (o : Option Item). newer o (visible ys key t s)) (g.seen key t s)
-    ∙ ap (newer (visible xs key t s)) (h.seen key t s)
-    ∙ sym (tested-append (is_seen key t s) xs zs);
+      tested-append (is_seen key t s) ws ys
+      ∙ ap (λ (o : Option Item). newer o (visible ys key t s)) (g.seen key t s)
+      ∙ ap (newer (visible xs key t s)) (h.seen key t s)
+      ∙ sym (tested-append (is_seen key t s) xs zs);
   keyed = λ ks. onto-append ks ws ys ∙ ap (λ ls. keys_onto ls ws) (h.keyed ks) ∙ g.keyed (keys_onto ks zs) ∙ sym (onto-append ks xs zs);
 }
 

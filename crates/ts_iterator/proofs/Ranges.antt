@@ -20,7 +20,6 @@ use Rattle.ts_key.specs.Firsts.{bytes_apart, key_upto, lower, visible_is_first}
 use Rattle.ts_key.specs.Visible.{first_of, is_seen, is_within, visible}
 use Rattle.udt_model.specs.declared.reply.Row.{Row}
 use Rattle.udt_model.specs.Orders.{is_below}
-use Rattle.udt_model.specs.Scans.{with_key}
 use Rattle.ts_iterator.specs.Rows.{emit, emit_of, is_between, is_decided, is_past, keys, range_rows, rows_up}
 use Rattle.ts_iterator.proofs.Keys.{Heads, heads, keys_less, keys_same, key_less, key_trans, key_apart, not_after, past_on, filter_insert, flat_agree, filter_none, filter_alike, all_more}
 

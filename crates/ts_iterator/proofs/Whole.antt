@@ -1,6 +1,6 @@
 -- The rows of whole versions are those of versions without their family.
 use Rattle.std.proofs.Common.{◌≡◌, ℕ, Bool, true, false, cond, not, ◌&&◌, List, [], ◌∷◌, ◌++◌, map, Option, Some, None, refl, sym, ap, ◌∙◌, arith}
-use Rattle.std.specs.Prelude.{filter, filter_map, option_map, ◌==◌, if◌then◌else◌}
+use Rattle.std.specs.Prelude.{filter, filter_map, option_map, ◌==◌}
 use Rattle.std.specs.List.{cons_option, flat_map}
 use Rattle.std.specs.Ordering.{is_le, is_lt, nat_cmp, ordering_reverse}
 use Rattle.std.specs.Cmp.Lexicographic.{slice_cmp}
@@ -25,7 +25,7 @@ use Rattle.udt_model.specs.Scans.{Range, is_from, is_in_range, is_under, keys_of
 use Rattle.super_version.specs.Contents.{op_of, version_of_item}
 use Rattle.point_read.proofs.Newer.{of_its_key}
 use Rattle.point_read.proofs.Whole.{whole-visible}
-use Rattle.ts_iterator.specs.Rows.{emit_of, given_by, is_between, is_past, keys, least_of, range_rows, row_at}
+use Rattle.ts_iterator.specs.Rows.{emit_of, given_by, is_between, is_past, keys, least_of, range_rows}
 
 same_number : (n : ℕ) → (n == n) ≡ true
 same_number n = grind (arith, nat_tests)

@@ -1,8 +1,6 @@
 -- The rows that a scan has yet to give.
 use Rattle.std.specs.Prelude.{ℕ, List, [], ◌∷◌, Bool, reverse, if◌then◌else◌, Option, Some, None}
 use Rattle.std.specs.Option.{option_copied}
-use Rattle.ts_key.specs.declared.lent.KeyRef.{KeyRef}
-use Rattle.ts_key.specs.declared.lent.Hit.{Hit}
 use Rattle.ts_key.specs.Items.{Item, shown_by}
 use Rattle.udt_model.specs.declared.reply.Row.{Row}
 use Rattle.ts_iterator.specs.declared.up.Up.{Up}

@@ -96,8 +96,8 @@ impl<'a, C: Cursor<'a> + Drop> Down<'a, C> {
     pub(crate) fn next(&mut self, alloc: Global) -> Result<Option<Row>, NoMemory>
         ensures { MatchResult result
             (λ found. MatchOption found
-                ((rest_down C.items C.place self.old ≡ []) × (rest_down C.items C.place self.new ≡ []))
-                (λ row. rest_down C.items C.place self.old ≡ row ∷ rest_down C.items C.place self.new))
+            ((rest_down C.items C.place self.old ≡ []) × (rest_down C.items C.place self.new ≡ []))
+            (λ row. rest_down C.items C.place self.old ≡ row ∷ rest_down C.items C.place self.new))
             (λ _. rest_down C.items C.place self.new ≡ rest_down C.items C.place self.old) }
     {
         loop {

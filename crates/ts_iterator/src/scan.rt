@@ -175,7 +175,7 @@ impl<'a> Scan<'a> {
         requires { family.0 < length now.now.families }
         ensures rows { (f : StateOf) → slice_get now.now.families family.0 ≡ Some f
             → IfOk result (λ scan. rest scan ≡ in_order_of forward
-                (rows_of (versions_in family f) f.floor family (record { low = option_copied low.entry; high = option_copied high.entry }) t s)) }
+            (rows_of (versions_in family f) f.floor family (record { low = option_copied low.entry; high = option_copied high.entry }) t s)) }
         ensures collapsed { (f : StateOf) → slice_get now.now.families family.0 ≡ Some f
             → t.0 < f.floor.0 → result ≡ Err (ScanFault.Collapsed f.floor) }
         ensures served { (f : StateOf) → slice_get now.now.families family.0 ≡ Some f
@@ -196,8 +196,8 @@ impl<'a> Scan<'a> {
     pub fn next(&mut self) -> Result<Option<Row>, NoMemory>
         ensures { MatchResult result
             (λ found. MatchOption found
-                ((rest self.old ≡ []) × (rest self.new ≡ []))
-                (λ row. rest self.old ≡ row ∷ rest self.new))
+            ((rest self.old ≡ []) × (rest self.new ≡ []))
+            (λ row. rest self.old ≡ row ∷ rest self.new))
             (λ _. rest self.new ≡ rest self.old) }
     {
         let alloc = self.alloc;

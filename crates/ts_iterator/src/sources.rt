@@ -69,10 +69,7 @@ fn push_levels<'a>(
 }
 
 /// Cursors over the runs and the tables of a family.
-pub(crate) fn sources_of(
-    alloc: Global,
-    state: &FamilyState,
-) -> Result<Vec<Source<'_>>, NoMemory>
+pub(crate) fn sources_of(alloc: Global, state: &FamilyState) -> Result<Vec<Source<'_>>, NoMemory>
     ensures { IfOk result (λ sources. items_of_all sources.items ≡ runs_and_tables state.now) }
 {
     let mut sources = Vec::new(alloc);

@@ -90,8 +90,8 @@ impl<'a, C: Cursor<'a> + Drop> Up<'a, C> {
     pub(crate) fn next(&mut self, alloc: Global) -> Result<Option<Row>, NoMemory>
         ensures { MatchResult result
             (λ found. MatchOption found
-                ((rest_up C.items C.place self.old ≡ []) × (rest_up C.items C.place self.new ≡ []))
-                (λ row. rest_up C.items C.place self.old ≡ row ∷ rest_up C.items C.place self.new))
+            ((rest_up C.items C.place self.old ≡ []) × (rest_up C.items C.place self.new ≡ []))
+            (λ row. rest_up C.items C.place self.old ≡ row ∷ rest_up C.items C.place self.new))
             (λ _. rest_up C.items C.place self.new ≡ rest_up C.items C.place self.old) }
     {
         let mut passed = 0u32;

@@ -1,11 +1,11 @@
-use Rattle.std.proofs.Common.{◌≡◌, ℕ, List, [], ◌∷◌, ◌++◌, ◌-◌, Some, None, refl, sym, ap, ◌∙◌, arith}
+use Rattle.std.proofs.Common.{◌≡◌, ℕ, List, ◌∷◌, ◌++◌, ◌-◌, Some, None, refl, sym, ap, ◌∙◌}
 use Rattle.ts_key.specs.Items.{Item, shown, shown_by}
 use Rattle.udt_model.specs.declared.reply.Row.{Row}
 use Rattle.ts_iterator.specs.Rests.{rest_down, rows_given}
 use Rattle.ts_iterator.specs.Rows.{least_of, rows_down}
 use Rattle.ts_iterator.specs.Walks.{behind}
 use Rattle.ts_iterator.proofs.Ends.{told_at_end}
-use Rattle.ts_iterator.proofs.StepsDown.{behind_none, ends_at, finds, lower_place, passes}
+use Rattle.ts_iterator.proofs.StepsDown.{behind_none, ends_at, finds, passes}
 use Rattle.ts_iterator.proofs.down.Down.next.Goals as goal
 
 pub returns-in_default : goal.returns-in_default

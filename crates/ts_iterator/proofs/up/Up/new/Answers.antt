@@ -1,4 +1,4 @@
-use Rattle.std.proofs.Common.{◌≡◌, ℕ, suc, ◌+◌, None, ap, ◌∙◌, arith}
+use Rattle.std.proofs.Common.{◌≡◌, ℕ, suc, None, ap, ◌∙◌, arith}
 use Rattle.ts_key.specs.Lists.{below}
 use Rattle.ts_iterator.specs.Rows.{rows_up}
 use Rattle.ts_iterator.specs.Walks.{ahead}
