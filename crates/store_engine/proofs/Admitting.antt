@@ -19,7 +19,7 @@ use Rattle.udt_model.specs.State.{State, family_at, place_at, seqs_of}
 use Rattle.udt_model.specs.State.{FamilyState as ModelFamily}
 use Rattle.udt_model.specs.Steps.{admitted, raised}
 use Rattle.udt_model.specs.Versions.{AreWritten, between, logged, made, newest_of, of_key, version_of}
-use Rattle.super_version.specs.Contents.{items_in}
+use Rattle.super_version.specs.Contents.{items_of_family}
 use Rattle.super_version.specs.declared.family.FamilyState.{FamilyState}
 use Rattle.super_version.specs.declared.version.SuperVersion.{SuperVersion}
 use Rattle.floor_laws.specs.Sound.{IsSoundState}
@@ -144,7 +144,7 @@ module _ (m : State) (now : SuperVersion) (sound : IsSoundState m) (shows : IsNo
 
   -- at or above the floor an operation falls over all writes as it does over the lists
   falls : (before : List WriteOp) (k : ℕ) (o : WriteOp) (f : ModelFamily) (g : FamilyState) → IsBehind before → family_at m o.family ≡ Some f → slice_get now.families o.family.0 ≡ Some g → f.head.floor.0 ≤ o.ts.0
-      → fell k o.ts (newest_of (of_key (writes before) o.family o.key)) ≡ told (fell_fault k o.ts (greater (newest_ts (items_in g) o.key) (latest_at o.family o.key before)))
+      → fell k o.ts (newest_of (of_key (writes before) o.family o.key)) ≡ told (fell_fault k o.ts (greater (newest_ts (items_of_family g) o.key) (latest_at o.family o.key before)))
   falls before k o f g b of there high =
       let fam = b.families o.family f of in
       let vs = between o.family f.through.0 (reached before) (writes before) ++ contents f.tables in
@@ -164,9 +164,9 @@ module _ (m : State) (now : SuperVersion) (sound : IsSoundState m) (shows : IsNo
         let of : family_at m o.family ≡ Some f = some.1.1.0 in
         let there : slice_get now.families o.family.0 ≡ Some g = some.1.1.1 in
         let floor : g.floor ≡ f.head.floor = (shows.families o.family f g of there).floor in
-        let one = floor_told k o f.head.floor (newest_of (of_key (writes before) o.family o.key)) (greater (newest_ts (items_in g) o.key) (latest_at o.family o.key before)) (falls before k o f g b of there) in
+        let one = floor_told k o f.head.floor (newest_of (of_key (writes before) o.family o.key)) (greater (newest_ts (items_of_family g) o.key) (latest_at o.family o.key before)) (falls before k o f g b of there) in
         let two = subst (λ (z : Ts). (if nat_lt o.ts.0 f.head.floor.0 then Some (replies.Below k f.head.floor) else fell k o.ts (newest_of (of_key (writes before) o.family o.key)))
-        ≡ told (if nat_lt o.ts.0 z.0 then Some (BelowFloor k z) else fell_fault k o.ts (greater (newest_ts (items_in g) o.key) (latest_at o.family o.key before)))) (sym floor) one in
+        ≡ told (if nat_lt o.ts.0 z.0 then Some (BelowFloor k z) else fell_fault k o.ts (greater (newest_ts (items_of_family g) o.key) (latest_at o.family o.key before)))) (sym floor) one in
         rw (of, there) two
   ]
 
@@ -291,7 +291,7 @@ fell_in_memory k ts (Some n) = elim (cases_Bool (nat_lt ts.0 n)) [ inl y ↦ rw 
 
 op_in_memory : (g : Option FamilyState) (before : List WriteOp) (k : ℕ) (o : WriteOp) → IfSome (op_fault g before k o) IsInMemory
 op_in_memory None before k o = tt
-op_in_memory (Some g) before k o = elim (cases_Bool (nat_lt o.ts.0 g.floor.0)) [ inl y ↦ rw y tt | inr y ↦ rw y (fell_in_memory k o.ts (greater (newest_ts (items_in g) o.key) (latest_at o.family o.key before))) ]
+op_in_memory (Some g) before k o = elim (cases_Bool (nat_lt o.ts.0 g.floor.0)) [ inl y ↦ rw y tt | inr y ↦ rw y (fell_in_memory k o.ts (greater (newest_ts (items_of_family g) o.key) (latest_at o.family o.key before))) ]
 
 ops_in_memory : (families : List FamilyState) (before : List WriteOp) (k : ℕ) (ops : List WriteOp) → IfSome (ops_fault families before k ops) IsInMemory
 ops_in_memory families before k [] = tt

@@ -10,15 +10,15 @@ use Rattle.ts_key.specs.declared.batch.WriteOp.{WriteOp}
 use Rattle.ts_key.specs.declared.numbers.Family.{Family}
 use Rattle.ts_key.specs.declared.numbers.Seq.{Seq}
 use Rattle.ts_key.specs.declared.version.Version.{Version}
-use Rattle.memtable.specs.Memtables.{versions_of}
-use Rattle.sorted_run.specs.Sorts.{is_before, sorted, with_version}
+use Rattle.memtable.specs.Memtables.{versions_of_memtable}
+use Rattle.sorted_run.specs.Sorts.{is_sorted_before, sorted, with_sorted}
 use Rattle.udt_model.specs.declared.reply.Reply.TheVariants.{OkAt}
 use Rattle.udt_model.specs.Acts.Act.{write}
 use Rattle.udt_model.specs.State.{State, family_at}
 use Rattle.udt_model.specs.State.{FamilyState as ModelFamily}
 use Rattle.udt_model.specs.Steps.{after}
 use Rattle.udt_model.specs.Versions.{between, made}
-use Rattle.super_version.specs.Writes.{AddsBatch, AreWritten, IsWrittenTo, of_family}
+use Rattle.super_version.specs.Writes.{AddsBatch, AreWrittenTo, IsWrittenTo, of_family}
 use Rattle.super_version.specs.declared.family.FamilyState.{FamilyState}
 use Rattle.super_version.specs.declared.version.SuperVersion.{SuperVersion}
 use Rattle.floor_laws.specs.Sound.{IsSoundState}
@@ -31,25 +31,25 @@ use Rattle.store_engine.proofs.Admitting.{both}
 
 -- ---- sorting moves versions
 
-with_moves : (v : Version) (vs : List Version) → IsPermutation (v ∷ vs) (with_version v vs)
+with_moves : (v : Version) (vs : List Version) → IsPermutation (v ∷ vs) (with_sorted v vs)
 with_moves v [] = IsPermutation-refl (v ∷ [])
-with_moves v (x ∷ xs) = elim (cases_Bool (is_before x v)) [
-  | inl y ↦ rw y (IsPermutation-trans (v ∷ x ∷ xs) (x ∷ v ∷ xs) (x ∷ with_version v xs) (IsPermutation-middle (v ∷ []) x xs) (IsPermutation-cons x (v ∷ xs) (with_version v xs) (with_moves v xs)))
+with_moves v (x ∷ xs) = elim (cases_Bool (is_sorted_before x v)) [
+  | inl y ↦ rw y (IsPermutation-trans (v ∷ x ∷ xs) (x ∷ v ∷ xs) (x ∷ with_sorted v xs) (IsPermutation-middle (v ∷ []) x xs) (IsPermutation-cons x (v ∷ xs) (with_sorted v xs) (with_moves v xs)))
   | inr y ↦ rw y (IsPermutation-refl (v ∷ x ∷ xs))
 ]
 
 pub sorted_moves : (vs : List Version) → IsPermutation vs (sorted vs)
 sorted_moves [] = IsPermutation-refl []
-sorted_moves (v ∷ vs) = IsPermutation-trans (v ∷ vs) (v ∷ sorted vs) (with_version v (sorted vs)) (IsPermutation-cons v vs (sorted vs) (sorted_moves vs)) (with_moves v (sorted vs))
+sorted_moves (v ∷ vs) = IsPermutation-trans (v ∷ vs) (v ∷ sorted vs) (with_sorted v (sorted vs)) (IsPermutation-cons v vs (sorted vs) (sorted_moves vs)) (with_moves v (sorted vs))
 
 -- ---- families behind a batch
 
-written_length : (vs : List Version) (fs gs : List FamilyState) → AreWritten vs fs gs → length gs ≡ length fs
+written_length : (vs : List Version) (fs gs : List FamilyState) → AreWrittenTo vs fs gs → length gs ≡ length fs
 written_length vs [] gs h = ap length h
 written_length vs (f ∷ fs) [] h = absurd h
 written_length vs (f ∷ fs) (g ∷ gs) h = ap suc (written_length vs fs gs h.1)
 
-written_at : (vs : List Version) (fs gs : List FamilyState) (n : ℕ) (f g : FamilyState) → AreWritten vs fs gs → slice_get fs n ≡ Some f → slice_get gs n ≡ Some g → IsWrittenTo (of_family f.active.family vs) f g
+written_at : (vs : List Version) (fs gs : List FamilyState) (n : ℕ) (f g : FamilyState) → AreWrittenTo vs fs gs → slice_get fs n ≡ Some f → slice_get gs n ≡ Some g → IsWrittenTo (of_family f.active.family vs) f g
 written_at vs [] gs n f g h of there = absurd (cc)
 written_at vs (x ∷ fs) [] n f g h of there = absurd h
 written_at vs (x ∷ fs) (y ∷ gs) zero f g h of there =
@@ -87,8 +87,8 @@ between_written i through last w ops low bounded =
 
 family_written : (i : Family) (unflushed more : List Version) (f : ModelFamily) (g h : FamilyState) → IsWrittenTo more g h → IsFamilyNow i unflushed f g → IsFamilyNow i (unflushed ++ more) f h
 family_written i unflushed more f g h w s =
-    let active = versions_of g.active in
-    let sealed = flat_map versions_of g.sealed in
+    let active = versions_of_memtable g.active in
+    let sealed = flat_map versions_of_memtable g.sealed in
     let moved : IsPermutation (unflushed ++ more) (sorted (more ++ active) ++ sealed) =
     IsPermutation-trans (unflushed ++ more) (more ++ unflushed) (sorted (more ++ active) ++ sealed) (IsPermutation-append_comm unflushed more)
     (IsPermutation-trans (more ++ unflushed) ((more ++ active) ++ sealed) (sorted (more ++ active) ++ sealed)

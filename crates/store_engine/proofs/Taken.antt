@@ -30,7 +30,7 @@ use Rattle.engine_laws.specs.JointLaws.{RestIn}
 use Rattle.engine_laws.specs.Logs.{batches_of, last_of}
 use Rattle.engine_laws.specs.Manifests.{IsWell}
 use Rattle.engine_laws.specs.Standing.{FolderStands, Says, TableReads, TableSays, family_said, families_said, table_of}
-use Rattle.engine_laws.specs.Engine.{Holds, newest_of}
+use Rattle.engine_laws.specs.Engine.{HoldsState, newest_log_of}
 use Rattle.engine_laws.proofs.Ascending.{newest_of as newest_in, rising_sorted}
 use Rattle.engine_laws.proofs.Batches.{all_right, batches_append, last_append, last_over_is}
 use Rattle.engine_laws.proofs.Editing.{newest_live}
@@ -195,7 +195,7 @@ module _ {D F : Type 0} (d : disk.Ghosts D F) (f : file.Ghosts F) (old : D) (par
     pub parts_now : (engine : Engine D F f) → engine.disk ≡ parts.disk → engine.manifest ≡ parts.manifest → engine.wal ≡ parts.wal → fold.next_file ≤ engine.next → (m : State) → FolderStands ReadsAsTable (d.stands old) m → HoldsNow d f engine parts.version m (course_start m)
     parts_now engine disk manifest wal more m stands =
         let o = are.opened told in
-        let h : Holds m (course_start m) says [] = opened_states (d.stands old) fold parts.version m o.means o.shown stands in
+        let h : HoldsState m (course_start m) says [] = opened_states (d.stands old) fold parts.version m o.means o.shown stands in
         let settled = stands.stands.settled in
         let of_parts : IsEngineOf d f engine says [] = record {
           rests = subst (λ x. RestIn d f ReadsAsTable (holding x (wal_file engine.wal ∷ manifest_file engine.manifest ∷ [])) (f.name (manifest_file engine.manifest)) says) (sym disk)
@@ -203,7 +203,7 @@ module _ {D F : Type 0} (d : disk.Ghosts D F) (f : file.Ghosts F) (old : D) (par
               (subst (λ k. RestIn d f ReadsAsTable (holding parts.disk (wal_file parts.wal ∷ manifest_file k ∷ [])) (f.name (manifest_file k)) says) (sym manifest) parts_rest));
           fold = ap manifest_folded manifest;
           edits = subst (FoldRests f) (sym manifest) (o.manifest_rests clean);
-          log = subst (λ w. log.Holds f w (says.logs (newest_of says)) []) (sym wal) parts_log;
+          log = subst (λ w. log.Holds f w (says.logs (newest_log_of says)) []) (sym wal) parts_log;
           one = parts_one engine disk manifest wal;
         } in
         record {

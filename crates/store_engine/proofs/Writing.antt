@@ -24,7 +24,7 @@ use Rattle.engine_laws.specs.Laws.{after_write, course_after_write}
 use Rattle.engine_laws.specs.Engine.{next_batch}
 use Rattle.recovery.specs.Versions.{FitsFold}
 use Rattle.store_engine.specs.Calls.{RanUnder, is_disk_failure}
-use Rattle.store_engine.specs.Engines.{HoldsNow, IsCurrent, IsRunning, faults_of, has_failed, held}
+use Rattle.store_engine.specs.Engines.{HoldsNow, IsCurrent, IsRunning, engine_faults, has_failed, held}
 use Rattle.store_engine.specs.Now.{IsNow}
 use Rattle.store_engine.specs.Steps.{IsAdded, IsLogSynced, IsSameFolder}
 use Rattle.store_engine.specs.Together.{AreTogether}
@@ -116,10 +116,10 @@ module _ {D F : Type 0} (d : disk.Ghosts D F) (f : file.Ghosts F) (now_last : Is
         let e : wal_pending mid.wal ≡ length (waiting_with old.wal b) = ap length bytes in
         (due (elim is [ inl asked ↦ inl asked | inr high ↦ inr (omega (arith, e, high)) ])).pending
 
-    pub end_cause : HasCause (faults_of d f old) (faults_of d f new) result
+    pub end_cause : HasCause (engine_faults d f old) (engine_faults d f new) result
     end_cause = elim either [
-      | inl synced ↦ subst (λ n. HasCause n (faults_of d f new) result) (added_faults d f now_last old mid b (Ok tt) added) (synced_cause d f now_last mid new result synced)
-      | inr waited ↦ none_of result waited.2 (ap (λ e. faults_of d f e) waited.3 ∙ added_faults d f now_last old mid b (Ok tt) added)
+      | inl synced ↦ subst (λ n. HasCause n (engine_faults d f new) result) (added_faults d f now_last old mid b (Ok tt) added) (synced_cause d f now_last mid new result synced)
+      | inr waited ↦ none_of result waited.2 (ap (λ e. engine_faults d f e) waited.3 ∙ added_faults d f now_last old mid b (Ok tt) added)
     ]
 
     pub end_folder : IsSameFolder f old new

@@ -14,14 +14,14 @@ use Rattle.super_version.specs.declared.version.SuperVersion.{SuperVersion}
 use Rattle.engine_laws.specs.Standing.{StandsForSome}
 use Rattle.recovery.specs.Tables.{ReadsAsTable}
 use Rattle.store_engine.specs.Engines.{held}
-use Rattle.store_engine.specs.Replies.{is_disk_fault, told_by}
+use Rattle.store_engine.specs.Replies.{is_disk_fault, reply_of_fault}
 use Rattle.store_engine.specs.declared.engine.Engine.{Engine}
 use Rattle.store_engine.specs.declared.fault.EngineFault.{EngineFault}
 
 -- The answer is the model's, where memory didn't run out: with this reply, or by the fault.
 abbrev pub Tells : {A : Type 0} → State → Act → Reply → Result A EngineFault → Type 0
 Tells m act reply (Ok a) = IsReplyTo m act reply
-Tells m act reply (Err fault) = IfSome (told_by fault) (IsReplyTo m act)
+Tells m act reply (Err fault) = IfSome (reply_of_fault fault) (IsReplyTo m act)
 
 -- the answer is a fault of the disk
 abbrev pub is_disk_failure : {A : Type 0} → Result A EngineFault → Bool

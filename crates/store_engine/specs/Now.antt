@@ -6,7 +6,7 @@ use Rattle.ts_key.specs.declared.numbers.Family.{Family}
 use Rattle.ts_key.specs.declared.numbers.Ts.{Ts}
 use Rattle.ts_key.specs.declared.version.Form.{Form}
 use Rattle.ts_key.specs.declared.version.Version.{Version}
-use Rattle.memtable.specs.Memtables.{versions_of}
+use Rattle.memtable.specs.Memtables.{versions_of_memtable}
 use Rattle.udt_model.specs.Versions.{between}
 use Rattle.udt_model.specs.State.{State, LiveTable, family_at}
 use Rattle.udt_model.specs.State.{FamilyState as ModelFamily}
@@ -20,7 +20,7 @@ use Rattle.super_version.specs.declared.version.SuperVersion.{SuperVersion}
 
 -- the versions that the memtables of a family hold
 abbrev pub versions_held : FamilyState → List Version
-versions_held f = versions_of f.active ++ flat_map versions_of f.sealed
+versions_held f = versions_of_memtable f.active ++ flat_map versions_of_memtable f.sealed
 
 -- the table of the model that a live table on this level is
 abbrev pub table_shown : Family → ℕ → Live → LiveTable

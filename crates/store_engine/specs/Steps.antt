@@ -13,7 +13,7 @@ use Rattle.manifest_fold.specs.Folds.{fold_with}
 use Rattle.manifest.specs.Files.{IsEditImage}
 use Rattle.manifest.specs.Manifest.{FoldRests, IsEditReserved, manifest_file, manifest_folded}
 use Rattle.store_engine.specs.Calls.{is_disk_failure}
-use Rattle.store_engine.specs.Engines.{IsRunning, faults_of, has_failed, held}
+use Rattle.store_engine.specs.Engines.{IsRunning, engine_faults, has_failed, held}
 use Rattle.store_engine.specs.Replies.{is_disk_fault}
 use Rattle.store_engine.specs.declared.engine.Engine.{Engine}
 use Rattle.store_engine.specs.declared.fault.EngineFault.{EngineFault}
@@ -53,7 +53,7 @@ pub record IsAdded {D F : Type 0} (f : Ghosts F) (b : Numbered) (old new : Engin
   pub fault : IfErr result (λ fault. fault ≡ NoMemory)
 
 -- The manifest is ready for the edit where memory didn't run out. No file is touched.
-pub record IsReserved {D F : Type 0} (f : Ghosts F) (edit : Edit) (old new : Engine D F f) (result : Result (Unit {0}) EngineFault) : Type 0 where
+pub record ReservesEdit {D F : Type 0} (f : Ghosts F) (edit : Edit) (old new : Engine D F f) (result : Result (Unit {0}) EngineFault) : Type 0 where
   pub disk : new.disk ≡ old.disk
   pub wal : new.wal ≡ old.wal
   pub next : new.next ≡ old.next
@@ -93,4 +93,4 @@ pub record IsCalled {D F A : Type 0} (d : disk.Ghosts D F) (f : Ghosts F) (old n
   pub untouched : IfErr result (λ fault. is_disk_fault fault ≡ false → held new ≡ held old)
   pub running : is_disk_failure result ≡ false → IsRunning new
   pub failed : has_failed new ≡ is_disk_failure result
-  pub counted : IsCause (is_disk_failure result) (faults_of d f old) (faults_of d f new)
+  pub counted : IsCause (is_disk_failure result) (engine_faults d f old) (engine_faults d f new)

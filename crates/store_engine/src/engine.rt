@@ -67,8 +67,8 @@ fn raise_edit(alloc: Global, next: u64, last: Seq, family: Family, floor: Ts, th
 
 impl<D: Disk> Engine<D> {
     ghost use Rattle.store_engine.specs.Calls.{RanOn, RanUnder, Tells, batch_behind};
-    ghost use Rattle.store_engine.specs.Engines.{HoldsAsBefore, HoldsNow, IsCurrent, IsOneFolder, IsRunning, faults_of, has_failed, held};
-    ghost use Rattle.store_engine.specs.Steps.{IsAdded, IsCalled, IsEdited, IsLogSynced, IsReserved};
+    ghost use Rattle.store_engine.specs.Engines.{HoldsAsBefore, HoldsNow, IsCurrent, IsOneFolder, IsRunning, engine_faults, has_failed, held};
+    ghost use Rattle.store_engine.specs.Steps.{IsAdded, IsCalled, IsEdited, IsLogSynced, ReservesEdit};
 
     /// The engine of an opened store, whose folder, manifest and newest log these are. It takes no memory.
     pub fn from_parts(disk: D, manifest: Manifest<D::File>, wal: Wal<D::File>) -> Engine<D>
@@ -145,7 +145,7 @@ impl<D: Disk> Engine<D> {
     /// Makes the manifest ready for an edit.
     fn reserve_edit(&mut self, alloc: Global, edit: &Edit) -> Result<(), EngineFault>
         requires { IsRunning self.old }
-        ensures { IsReserved D.File.DiskFile edit.now self.old self.new result }
+        ensures { ReservesEdit D.File.DiskFile edit.now self.old self.new result }
     {
         match self.manifest.reserve(alloc, edit) {
             Ok(()) => Ok(()),
@@ -279,7 +279,7 @@ impl<D: Disk> Engine<D> {
     pub fn close(self) -> D
         ensures reads { IsOneFolder D.Disk D.File.DiskFile self → OnlyReads D.Disk D.File.DiskFile (held self) (alone result) }
         ensures leaves { (now : Version) (m : State) (c : Course) → HoldsNow D.Disk D.File.DiskFile self now m c → LeavesNow D.Disk D.File.DiskFile (λ folder. StandsForSome ReadsAsTable folder (IsOutcome m c)) (alone result) }
-        ensures counted { D.faults result ≡ faults_of D.Disk D.File.DiskFile self }
+        ensures counted { D.faults result ≡ engine_faults D.Disk D.File.DiskFile self }
     {
         let Engine {
             mut disk,

@@ -8,19 +8,19 @@ use Rattle.ts_iterator.specs.declared.down.Down.{Down}
 use Rattle.ts_iterator.specs.declared.scan.Scan.{Scan}
 use Rattle.ts_iterator.specs.declared.scan.Way.{Way}
 use Rattle.ts_iterator.specs.declared.scan.Way.TheVariants as ways
-use Rattle.ts_iterator.specs.Rows.{least_of, rows_down, rows_up}
-use Rattle.ts_iterator.specs.Sources.{walk_place, walked}
-use Rattle.ts_iterator.specs.Walks.{ahead, behind}
+use Rattle.ts_iterator.specs.Rows.{least_key, rows_down, rows_up}
+use Rattle.ts_iterator.specs.Sources.{source_walk_place, walked_sources}
+use Rattle.ts_iterator.specs.Walks.{ahead, back_from}
 
 abbrev pub rest_up : {C : Type 0} → (C → List Item) → (C → ℕ) → Up C → List Row
 rest_up items place x = rows_up x.floor x.high x.t.0 x.s.0 (option_copied x.decided) (ahead (place x.cursor) (items x.cursor))
 
 abbrev pub rest_down : {C : Type 0} → (C → List Item) → (C → ℕ) → Down C → List Row
-rest_down items place x = rows_down x.floor (least_of x.low) x.high x.t.0 x.s.0 (shown_by x.best) (behind (place x.cursor) (items x.cursor))
+rest_down items place x = rows_down x.floor (least_key x.low) x.high x.t.0 x.s.0 (shown_by x.best) (back_from (place x.cursor) (items x.cursor))
 
 abbrev pub rest_of : Way → List Row
-rest_of (ways.Up x) = rest_up (λ m. walked m.children.items) (λ m. walk_place m.before m.children.items) x
-rest_of (ways.Down x) = rest_down (λ m. walked m.children.items) (λ m. walk_place m.before m.children.items) x
+rest_of (ways.Up x) = rest_up (λ m. walked_sources m.children.items) (λ m. source_walk_place m.before m.children.items) x
+rest_of (ways.Down x) = rest_down (λ m. walked_sources m.children.items) (λ m. source_walk_place m.before m.children.items) x
 
 abbrev pub rest : Scan → List Row
 rest x = rest_of x.way

@@ -10,8 +10,8 @@ ahead zero xs = []
 ahead (suc n) xs = drop n xs
 
 -- the items from its place back; none where it stands after the last
-abbrev pub behind : {X : Type 0} → ℕ → List X → List X
-behind place xs = if nat_le place (length xs) then reverse (take place xs) else []
+abbrev pub back_from : {X : Type 0} → ℕ → List X → List X
+back_from place xs = if nat_le place (length xs) then reverse (take place xs) else []
 
 -- where a key's versions begin
 abbrev pub top_of : List ℕ → SortKey

@@ -2,8 +2,8 @@
 ghost use Rattle.std.specs.Prelude.{[], ◌∷◌, ◌≡◌, ◌||◌, not, reverse, IfOk, MatchOption, MatchResult};
 ghost use Rattle.ts_key.specs.Items.{Item, shown, shown_by};
 ghost use Rattle.ts_key.specs.Order.{sort_key_of};
-ghost use Rattle.ts_key.specs.Visible.{is_within};
-ghost use Rattle.ts_iterator.specs.Rows.{emit_of, given_before, is_past as is_past_bound, least_of, range_rows};
+ghost use Rattle.ts_key.specs.Visible.{is_item_within};
+ghost use Rattle.ts_iterator.specs.Rows.{emit_of, given_before, is_past as is_past_bound, least_key, range_rows};
 ghost use Rattle.ts_iterator.specs.Rests.{rest_down, rows_given};
 ghost use Rattle.ts_iterator.specs.Walks.{IsLastBelow};
 
@@ -30,7 +30,7 @@ pub(crate) struct Down<'a, C> {
 /// Whether the version isn't below the upper bound, or the read doesn't see it.
 fn is_passed_over(high: &Option<Key>, key: &KeyRef<'_>, t: Ts, s: Seq) -> bool
     ensures { (v : Item) → v.sort_key ≡ sort_key_of key.now
-        → result ≡ (is_past_bound high.now v.sort_key.key || not (is_within t.0 s.0 v)) }
+        → result ≡ (is_past_bound high.now v.sort_key.key || not (is_item_within t.0 s.0 v)) }
 {
     is_past(high, key.key) || !(key.ts.0 <= t.0 && key.seq.0 <= s.0)
 }
@@ -79,7 +79,7 @@ impl<'a, C: Cursor<'a> + Drop> Down<'a, C> {
         s: Seq,
     ) -> Down<'a, C>
         ensures { IsLastBelow high (C.place cursor) (C.items cursor)
-            → rest_down C.items C.place result ≡ reverse (range_rows (C.items cursor) floor (least_of low) high t.0 s.0) }
+            → rest_down C.items C.place result ≡ reverse (range_rows (C.items cursor) floor (least_key low) high t.0 s.0) }
     {
         Down {
             cursor,

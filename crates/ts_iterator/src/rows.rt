@@ -4,7 +4,7 @@ ghost use Rattle.std.specs.Option.{option_copied};
 ghost use Rattle.ts_key.specs.Items.{shown};
 ghost use Rattle.udt_model.specs.Orders.{is_below as is_below_key};
 ghost use Rattle.udt_model.specs.Reads.{stamp_of};
-ghost use Rattle.ts_iterator.specs.Rows.{emit, is_past as is_past_bound, least_of, row_at as row_of_item};
+ghost use Rattle.ts_iterator.specs.Rows.{emit, is_past as is_past_bound, least_key, row_at as row_of_item};
 ghost use Rattle.ts_iterator.specs.Rests.{rows_given};
 
 use crate::NoMemory;
@@ -24,7 +24,7 @@ pub(crate) fn is_past(high: &Option<Key>, key: &[u8]) -> bool
 
 /// Whether the key is below the lower bound.
 pub(crate) fn is_below(low: &Option<Key>, key: &[u8]) -> bool
-    ensures { result ≡ is_below_key key.now (least_of low.now) }
+    ensures { result ≡ is_below_key key.now (least_key low.now) }
 {
     match low {
         None => false,

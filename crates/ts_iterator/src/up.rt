@@ -4,7 +4,7 @@ ghost use Rattle.std.specs.Option.{option_copied};
 ghost use Rattle.ts_key.specs.Items.{Item, hit_at, shown};
 ghost use Rattle.ts_key.specs.Lists.{below};
 ghost use Rattle.ts_key.specs.Order.{SortKey, sort_key_of};
-ghost use Rattle.ts_key.specs.Visible.{is_within};
+ghost use Rattle.ts_key.specs.Visible.{is_item_within};
 ghost use Rattle.ts_iterator.specs.Rows.{is_decided as is_decided_by, range_rows};
 ghost use Rattle.ts_iterator.specs.Rests.{rest_up};
 
@@ -39,7 +39,7 @@ fn is_decided(decided: Option<&[u8]>, key: &[u8]) -> bool
 /// Whether the key is decided, or the read doesn't see the version.
 fn is_passed_over(decided: Option<&[u8]>, key: &KeyRef<'_>, t: Ts, s: Seq) -> bool
     ensures { (v : Item) → v.sort_key ≡ sort_key_of key.now
-        → result ≡ (is_decided_by (option_copied decided.entry) v.sort_key.key || not (is_within t.0 s.0 v)) }
+        → result ≡ (is_decided_by (option_copied decided.entry) v.sort_key.key || not (is_item_within t.0 s.0 v)) }
 {
     is_decided(decided, key.key) || !(key.ts.0 <= t.0 && key.seq.0 <= s.0)
 }

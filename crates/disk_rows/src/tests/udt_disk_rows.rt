@@ -1,91 +1,11 @@
-//! Folders, files and hosts, in memory and real.
+//! Folders in memory, what crashes leave of them, and real folders, files and hosts.
 
 use std::alloc::{AllocError, Global};
 use std::{env, fs, io, process};
 use udt_disk::{
-    Disk, DiskFile, Failed, FileName, Host, HostSink, MemDisk, MemHost, MemSink, MemSource,
-    Outcome, RealHost, Sink, Source, Text, TextFault, Trouble,
+    Disk, DiskFile, Failed, FileName, Host, HostSink, MemDisk, Outcome, RealHost, Sink, Source,
+    Text, TextFault, Trouble,
 };
-
-fn source(alloc: Global, bytes: &[u8], fail_at: Option<u64>) -> Result<MemSource, AllocError> {
-    Ok(MemSource::new(Vec::from_slice(alloc, bytes)?, fail_at))
-}
-
-#[test]
-fn texts_have_at_most_4096_bytes(rt: HostRuntime) {
-    let bytes = [120u8; 4097];
-    for len in [0, 1, 4096] {
-        let text = Text::of(rt.alloc(), &bytes[..len]);
-        assert_eq!(rt; text.map(|text| text.bytes().len()), Ok(len), "{len} bytes");
-    }
-    let fault = Text::of(rt.alloc(), &bytes).map(|_| ());
-    assert_eq!(rt; fault, Err(TextFault::TooLong { len: 4097 }));
-    let text = Text::of(rt.alloc(), b"x");
-    assert!(rt; text.is_ok_and(|text| text.bytes() == b"x".as_slice()));
-}
-
-#[test]
-fn a_source_gives_its_bytes_in_turn(rt: HostRuntime) {
-    let source = source(rt.alloc(), b"abcde", Some(2));
-    assert!(rt; source.is_ok());
-    let Ok(mut source) = source else {
-        return;
-    };
-    let mut into = [0u8; 3];
-    for (want, front) in [
-        (Ok(3), [97, 98, 99]),
-        (Err(Failed), [97, 98, 99]),
-        (Ok(2), [100, 101, 99]),
-        (Ok(0), [100, 101, 99]),
-        (Ok(0), [100, 101, 99]),
-    ] {
-        assert_eq!(rt; source.read(&mut into), want);
-        assert_eq!(rt; into, front);
-    }
-}
-
-#[test]
-fn a_sink_keeps_what_it_takes(rt: HostRuntime) {
-    let mut sink = MemSink::new(rt.alloc(), Some(2));
-    assert_eq!(rt; sink.write(b"ab"), Ok(2));
-    assert_eq!(rt; sink.write(b"cd"), Err(Failed));
-    assert_eq!(rt; sink.write(b"ef"), Ok(2));
-    assert_eq!(rt; sink.write(b""), Ok(0));
-    assert_eq!(rt; sink.taken(), b"abef".as_slice());
-    assert_eq!(rt; sink.starved(), 0);
-}
-
-/// Reads a source of the host to its end, which is within 8 bytes, and gives it back.
-fn read_source(host: &mut MemHost, path: &Text) -> Option<([u8; 8], usize)> {
-    let Ok(Some(mut source)) = host.open_source(path) else {
-        return None;
-    };
-    let mut into = [0u8; 8];
-    let count = source.read(&mut into).ok();
-    host.close_source(source);
-    count.map(|count| (into, count))
-}
-
-#[test]
-fn a_host_gives_each_source_once(rt: HostRuntime) -> Result<(), TextFault> {
-    let mut host = MemHost::new(rt.alloc());
-    let one = Text::of(rt.alloc(), b"one")?;
-    let two = Text::of(rt.alloc(), b"two")?;
-    for (path, bytes) in [("one", "old"), ("two", "bytes"), ("one", "new")] {
-        let path = Text::of(rt.alloc(), path.as_bytes())?;
-        host.put_source(path, source(rt.alloc(), bytes.as_bytes(), None)?)?;
-    }
-
-    assert_eq!(rt; read_source(&mut host, &one), Some((*b"new\0\0\0\0\0", 3)));
-    assert_eq!(rt; read_source(&mut host, &one), None);
-    assert_eq!(rt; read_source(&mut host, &two), Some((*b"bytes\0\0\0", 5)));
-
-    let path = Text::of(rt.alloc(), b"one")?;
-    host.put_source(path, source(rt.alloc(), b"again", None)?)?;
-    assert_eq!(rt; read_source(&mut host, &one), Some((*b"again\0\0\0", 5)));
-    assert_eq!(rt; host.starved(), 0);
-    Ok(())
-}
 
 /// What becomes of a file in a test.
 #[derive(Clone, Copy, Debug)]
@@ -212,91 +132,6 @@ fn a_trouble_fires_at_its_call(rt: HostRuntime) -> Result<(), AllocError> {
             assert_eq!(rt; removed.is_err(), fails, "call {call}");
         }
     }
-    Ok(())
-}
-
-#[test]
-fn a_trouble_counts_the_calls_of_the_file(rt: HostRuntime) -> Result<(), AllocError> {
-    let trouble = Trouble {
-        name: FileName::Log(1),
-        call: 3,
-        lasting: false,
-    };
-    let mut disk = MemDisk::new(rt.alloc(), Vec::from_slice(rt.alloc(), &[trouble])?)?;
-    let Ok(mut file) = disk.create(FileName::Log(1)) else {
-        assert!(rt; false, "create");
-        return Ok(());
-    };
-    assert_eq!(rt; file.len(), Ok(0));
-    assert_eq!(rt; file.sync(), Err(Failed));
-    assert_eq!(rt; file.write_at(0, b"ab"), Ok(()));
-    let mut into = [0u8; 3];
-    assert_eq!(rt; file.read_at(1, &mut into), Ok(1));
-    assert_eq!(rt; into[0], b'b');
-    assert_eq!(rt; file.sync(), Ok(()));
-    assert_eq!(rt; file.starved(), 0);
-    disk.retire(file);
-    assert!(rt; disk.contents(FileName::Log(1)) == Some(b"ab".as_slice()));
-    assert_eq!(rt; disk.remove(FileName::Log(1)), Ok(()));
-    assert!(rt; disk.contents(FileName::Log(1)).is_none());
-    Ok(())
-}
-
-#[test]
-fn giving_a_file_back_has_no_number(rt: HostRuntime) -> Result<(), AllocError> {
-    let trouble = Trouble {
-        name: FileName::Current,
-        call: 3,
-        lasting: true,
-    };
-    let mut disk = MemDisk::new(rt.alloc(), Vec::from_slice(rt.alloc(), &[trouble])?)?;
-    assert_eq!(rt;
-        take_steps(&mut disk, &[Step::Create, Step::Create]),
-        Ok(())
-    );
-    for step in [Step::Create, Step::Remove, Step::Sync] {
-        assert_eq!(rt; take_step(&mut disk, step), Err(Failed), "{step:?}");
-    }
-    assert!(rt; disk.contents(FileName::Current) == Some(b"".as_slice()));
-    assert_eq!(rt; disk.starved(), 0);
-    Ok(())
-}
-
-#[test]
-fn a_host_gives_each_folder_once(rt: HostRuntime) -> Result<(), TextFault> {
-    let alloc = rt.alloc();
-    let mut host = MemHost::new(alloc);
-    let path = Text::of(alloc, b"folder")?;
-    let other = Text::of(alloc, b"other")?;
-    assert!(rt; matches!(host.open_folder(&path, false), Ok(None)));
-    assert!(rt; matches!(host.open_source(&path), Ok(None)));
-    let Ok(Some(mut folder)) = host.open_folder(&path, true) else {
-        assert!(rt; false, "a new folder");
-        return Ok(());
-    };
-    assert_eq!(rt;
-        take_steps(&mut folder, &[Step::Create, Step::Write("abc")]),
-        Ok(())
-    );
-    assert!(rt; matches!(host.open_folder(&path, false), Ok(None)));
-    host.close_folder(&path, folder);
-    assert!(rt; host.take_folder(&other).is_none());
-
-    let Ok(Some(folder)) = host.open_folder(&path, false) else {
-        assert!(rt; false, "the folder");
-        return Ok(());
-    };
-    host.put_folder(
-        Text::of(alloc, b"other")?,
-        folder.after_crash(alloc, Outcome::Lost)?,
-    )?;
-    assert!(rt; host.take_folder(&path).is_none());
-    let folder = host.take_folder(&other);
-    let contents = folder
-        .as_ref()
-        .and_then(|folder| folder.contents(FileName::Current));
-    assert!(rt; contents == Some(b"abc".as_slice()));
-    assert_eq!(rt; host.starved(), 0);
     Ok(())
 }
 

@@ -1,4 +1,4 @@
-//! Merges of slices, walked up, down and back and forth, against the list of all.
+//! Merges of slices, walked up and down, against the list of all.
 ghost use Rattle.std.specs.Prelude.{◌≡◌, ◌≤◌, ◌<◌, length};
 ghost use Rattle.std.specs.Bool.{OnTrue};
 ghost use Rattle.ts_key.specs.Items.{items_of};
@@ -124,25 +124,6 @@ fn merges_walk_down(rt: HostRuntime) -> Result<(), Fail> {
         merge.prev();
         merge.next();
         assert_eq!(rt; row(&merge), rows(alloc, count, 4)?.first().copied());
-    }
-    Ok(())
-}
-
-#[test]
-fn merges_walk_back_and_forth(rt: HostRuntime) -> Result<(), Fail> {
-    let alloc = rt.alloc();
-    for count in [1, 2, 9] {
-        let runs = runs(alloc, count, 4)?;
-        let mut merge = merge(alloc, &runs)?;
-        for wanted in rows(alloc, count, 4)? {
-            merge.next();
-            merge.prev();
-            assert_eq!(rt; row(&merge), Some(wanted));
-            merge.prev();
-            merge.next();
-            assert_eq!(rt; row(&merge), Some(wanted));
-            merge.next();
-        }
     }
     Ok(())
 }
