@@ -1,8 +1,0 @@
-use Rattle.client_lang.proofs.Pushing.{cut, cut_keeps}
-use Rattle.client_lang.proofs.print.push_line.Goals as goal
-
-pub returns-clause-text : goal.returns-clause-text
-returns-clause-text c = cut c.len-before.ensures c.push_words-pushed.ensures c.cut_on_err.ensures.same c.cut_on_err.ensures.ok c.cut_on_err.ensures.err c.cut_on_err.ensures.capacity
-
-pub returns-clause-kept : goal.returns-clause-kept
-returns-clause-kept c = cut_keeps c.cut_on_err.new.out c.len-before.ensures c.push_words-pushed.ensures c.cut_on_err.ensures.same c.cut_on_err.ensures.err

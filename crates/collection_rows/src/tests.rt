@@ -1,5 +1,0 @@
-//! One module for each thing under test.
-
-mod collecting;
-mod collectors;
-mod every_list;

@@ -1,7 +1,0 @@
-pub mod Plans
-pub mod Closed
-pub mod Feeding
-pub mod Made
-pub mod Filling
-pub mod Making
-pub mod Drawing

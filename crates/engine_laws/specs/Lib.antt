@@ -1,9 +1,0 @@
-pub mod Logs
-pub mod Manifests
-pub mod Standing
-pub mod Engine
-pub mod Moves
-pub mod Installs
-pub mod Joints
-pub mod Laws
-pub mod JointLaws

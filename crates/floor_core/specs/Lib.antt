@@ -1,4 +1,0 @@
-pub mod Cores
-pub mod Machine
-pub mod Runs
-pub mod Steps

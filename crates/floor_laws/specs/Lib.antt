@@ -1,5 +1,0 @@
-pub mod Tables
-pub mod Sound
-pub mod Views
-pub mod Lists
-pub mod Laws

@@ -1,5 +1,0 @@
-pub mod Keeping
-pub mod Walking
-pub mod Stripping
-pub mod Pushes
-pub mod Collected

@@ -1,4 +1,0 @@
-pub mod Kept
-pub mod Spent
-pub mod Steps
-pub mod Queues

@@ -1,4 +1,0 @@
-pub mod Pushed
-pub mod Streaming
-pub mod States
-pub mod Collecting

@@ -1,5 +1,0 @@
-//! Tests of jobs, by their public calls.
-#![tactic(auto)]
-
-#[cfg(test)]
-mod tests;

@@ -1,4 +1,0 @@
-//! Flushes, and what the tests of jobs share.
-
-mod flushes;
-mod flushing;

@@ -1,5 +1,0 @@
-//! Tests of the public calls of edits of a manifest.
-#![tactic(auto)]
-
-#[cfg(test)]
-mod tests;

@@ -1,3 +1,0 @@
-pub mod Bests
-pub mod Doubling
-pub mod Sums

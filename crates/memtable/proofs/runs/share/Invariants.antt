@@ -1,6 +1,0 @@
-use Rattle.std.proofs.Common.{◌≡◌, ◌++◌, map, take}
-use Rattle.std.specs.Arc.{arc_value}
-use Rattle.memtable.proofs.runs.share.Given as goal
-
-abbrev pub invariant-loop-run : goal.invariant-loop-run
-invariant-loop-run l = map arc_value l.out.items ≡ map arc_value l.initial.out.items ++ map arc_value (take l.run-index l.runs)

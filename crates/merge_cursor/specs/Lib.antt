@@ -1,4 +1,0 @@
-pub mod Slices
-pub mod Sides
-pub mod Cuts
-pub mod Shows

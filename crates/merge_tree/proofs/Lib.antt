@@ -1,2 +1,0 @@
-pub mod Wins
-pub mod Walks

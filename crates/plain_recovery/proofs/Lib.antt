@@ -1,5 +1,0 @@
-pub mod SaidLemmas
-pub mod OpeningLemmas
-pub mod OneRefusal
-pub mod States
-pub mod MakeLemmas

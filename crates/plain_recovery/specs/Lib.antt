@@ -1,4 +1,0 @@
-pub mod Stores
-pub mod Fault
-pub mod Opening
-pub mod Making

@@ -1,3 +1,0 @@
-//! Stores that are made, opened and refused.
-
-mod stores;

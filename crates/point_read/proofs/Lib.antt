@@ -1,2 +1,0 @@
-pub mod Newer
-pub mod Whole

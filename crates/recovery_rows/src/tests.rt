@@ -1,4 +1,0 @@
-//! Tests, by what they look at.
-
-mod making;
-mod opening;

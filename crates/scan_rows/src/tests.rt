@@ -1,5 +1,0 @@
-//! Tests of scans.
-
-mod making;
-mod plain;
-mod small;

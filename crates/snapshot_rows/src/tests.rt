@@ -1,4 +1,0 @@
-//! One module for each thing under test.
-
-mod snapshots;
-mod stripping;

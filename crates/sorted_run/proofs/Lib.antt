@@ -1,4 +1,0 @@
-pub mod Finds
-pub mod Keys
-pub mod Lookups
-pub mod Sorting

@@ -1,9 +1,0 @@
-use Rattle.std.proofs.Common.{◌++◌, List, sym, subst}
-use Rattle.ts_key.specs.declared.version.Version.{Version}
-use Rattle.ts_key.specs.Items.{items_of}
-use Rattle.ts_key.specs.Lists.{IsOrdered}
-use Rattle.sorted_run.proofs.Sorting.{ordered-sorted}
-use Rattle.sorted_run.proofs.run.Run.merge.Goals as goal
-
-pub of-requires : goal.of-requires
-of-requires c = subst (λ (l : List Version). IsOrdered (items_of l)) (sym c.in_ok-merged.ensures) (ordered-sorted (c.deref.result.now ++ c.deref-2.result.now))

@@ -1,7 +1,0 @@
-pub mod Histories
-pub mod Knowledge
-pub mod Rule
-pub mod Steps
-pub mod Locks
-pub mod Seats
-pub mod Gates

@@ -1,6 +1,0 @@
-//! Tests of tables.
-
-mod altered;
-mod many;
-mod one_version;
-mod writing;

@@ -1,5 +1,0 @@
-pub mod Walks
-pub mod Sources
-pub mod Rows
-pub mod Rests
-pub mod Laws

@@ -1,4 +1,0 @@
-pub mod NumberBytes
-pub mod Writing
-pub mod Reading
-pub mod StoredKeys

@@ -1,5 +1,0 @@
-use Rattle.std.proofs.lemmas.Bool.{OnTrue_at, OnTrue_from}
-use Rattle.version_rows.proofs.tests.making.are_of_one_family.Goals as goal
-
-pub returns : goal.returns
-returns c = OnTrue_from c.are_of.result _ (λ same. (_, OnTrue_at same c.are_of.ensures))

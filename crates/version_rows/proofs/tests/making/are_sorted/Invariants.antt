@@ -1,7 +1,0 @@
-use Rattle.std.proofs.Common.{take}
-use Rattle.ts_key.specs.Items.{items_of}
-use Rattle.ts_key.specs.Lists.{IsSorted}
-use Rattle.version_rows.proofs.tests.making.are_sorted.Given as goal
-
-abbrev pub invariant-loop-i : goal.invariant-loop-i
-invariant-loop-i l = IsSorted (items_of (take l.i l.versions))

@@ -1,5 +1,0 @@
-//! Tests of super versions.
-
-mod changes;
-mod lists;
-mod making;
