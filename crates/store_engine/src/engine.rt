@@ -3,7 +3,7 @@
 ghost use Rattle.std.specs.Prelude.{◌≡◌, ◌≢◌, ◌⊎◌, ◌+◌, ◌<◌, ◌≤◌, ◌∷◌, [], ℕ, length, All, false, true, IfErr, IfOk, IsOk, OnOk, IsTrue};
 ghost use Rattle.std.specs.Arc.{arc_value};
 ghost use Rattle.udt_disk.specs.Joint.{LeavesNow};
-ghost use Rattle.udt_disk.specs.Moments.{IsClean, OnlyReads, alone, holding};
+ghost use Rattle.udt_disk.specs.Moments.{OnlyReads, alone, holding};
 ghost use Rattle.wal.specs.declared.wal.TheConstants.{PENDING_LIMIT};
 ghost use Rattle.ts_key.specs.declared.batch.WriteOp.{WriteOp as Operation};
 ghost use Rattle.ts_key.specs.declared.limits.TheConstants.{SEQUENCE_LIMIT};
@@ -18,6 +18,7 @@ ghost use Rattle.udt_model.specs.Steps.{after};
 ghost use Rattle.super_version.specs.declared.version.SuperVersion.{SuperVersion as Version};
 ghost use Rattle.engine_laws.specs.Laws.{after_write, course_after_write};
 ghost use Rattle.engine_laws.specs.Standing.{FolderStands, StandsForSome};
+ghost use Rattle.recovery.specs.Opening.{AreLiveClean};
 ghost use Rattle.recovery.specs.Tables.{ReadsAsTable};
 ghost use Rattle.store_engine.specs.Parts.{ArePartsOf, parts_of};
 ghost use Rattle.store_engine.specs.Replies.{is_disk_fault};
@@ -80,7 +81,7 @@ impl<D: Disk> Engine<D> {
         ensures current { (old : D) (version : Version) → ArePartsOf D.Disk D.File.DiskFile old (parts_of disk manifest wal version) → IsCurrent result version }
         // It and the version of the opening hold each state that the folder stands for.
         ensures holds { (old : D) (version : Version) (m : State) → ArePartsOf D.Disk D.File.DiskFile old (parts_of disk manifest wal version)
-            → IsTrue (D.is_told old) → IsClean D.Disk old → FolderStands ReadsAsTable (D.stands old) m → HoldsNow D.Disk D.File.DiskFile result version m (course_start m) }
+            → IsTrue (D.is_told old) → AreLiveClean D.Disk old (manifest_folded manifest) → FolderStands ReadsAsTable (D.stands old) m → HoldsNow D.Disk D.File.DiskFile result version m (course_start m) }
     {
         let next = manifest.fold().next_file;
         Engine {
