@@ -18,3 +18,4 @@ pub mod Taken
 pub mod Current
 pub mod Writing
 pub mod Raising
+pub mod NowFlushed

@@ -4,6 +4,7 @@
 mod admission;
 mod engine;
 mod fault;
+mod lab;
 mod latest;
 
 pub use engine::Engine;

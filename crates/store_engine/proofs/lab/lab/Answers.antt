@@ -1,0 +1,6 @@
+use Rattle.std.proofs.Common.{refl}
+use Rattle.store_engine.proofs.NowFlushed.{family_flushed}
+use Rattle.store_engine.proofs.lab.lab.Goals as goal
+
+pub returns : goal.returns
+returns c = refl
