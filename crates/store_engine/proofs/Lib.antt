@@ -20,3 +20,4 @@ pub mod Writing
 pub mod Raising
 pub mod Besides
 pub mod Leaving
+pub mod Covering

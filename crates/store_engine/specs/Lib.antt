@@ -7,3 +7,4 @@ pub mod Steps
 pub mod Now
 pub mod Admission
 pub mod Laws
+pub mod Older

@@ -28,6 +28,7 @@ pub record IsLogSynced {D F : Type 0} (f : Ghosts F) (old new : Engine D F f) (r
   pub disk : new.disk ≡ old.disk
   pub manifest : new.manifest ≡ old.manifest
   pub next : new.next ≡ old.next
+  pub older : new.older ≡ old.older
   pub holds : (batches waiting : List Numbered) → Holds f old.wal batches waiting → OnOk result (Holds f new.wal (batches ++ waiting) [])
   pub goes_on : (first : ℕ) → MayGoOn f old.wal first → OnOk result (MayGoOn f new.wal first)
   pub moments : (batches waiting : List Numbered) → Holds f old.wal batches waiting → Leaves f (wal_file old.wal) (wal_file new.wal) (IsBeforeOrAfter (wal_sizes old.wal) batches waiting)
@@ -45,6 +46,7 @@ pub record IsAdded {D F : Type 0} (f : Ghosts F) (b : Numbered) (old new : Engin
   pub disk : new.disk ≡ old.disk
   pub manifest : new.manifest ≡ old.manifest
   pub next : new.next ≡ old.next
+  pub older : new.older ≡ old.older
   pub file : wal_file new.wal ≡ wal_file old.wal
   pub sizes : wal_sizes new.wal ≡ wal_sizes old.wal
   pub holds : (batches waiting : List Numbered) → Holds f old.wal batches waiting → OnOk result (Holds f new.wal batches (waiting ++ b ∷ []))
@@ -61,6 +63,7 @@ pub record ReservesEdit {D F : Type 0} (f : Ghosts F) (edit : Edit) (old new : E
   pub disk : new.disk ≡ old.disk
   pub wal : new.wal ≡ old.wal
   pub next : new.next ≡ old.next
+  pub older : new.older ≡ old.older
   pub file : manifest_file new.manifest ≡ manifest_file old.manifest
   pub fold : manifest_folded new.manifest ≡ manifest_folded old.manifest
   pub rests : FoldRests f old.manifest → FoldRests f new.manifest
@@ -73,6 +76,7 @@ pub record IsEdited {D F : Type 0} (f : Ghosts F) (edit : Edit) (old new : Engin
   pub disk : new.disk ≡ old.disk
   pub wal : new.wal ≡ old.wal
   pub next : new.next ≡ old.next
+  pub older : new.older ≡ old.older
   pub rests : FoldRests f old.manifest → OnOk result (FoldRests f new.manifest)
   pub fold : OnOk result (manifest_folded new.manifest ≡ fold_with (manifest_folded old.manifest) edit)
   pub moments : FoldRests f old.manifest → Leaves f (manifest_file old.manifest) (manifest_file new.manifest) (IsEditImage (manifest_folded old.manifest) edit)

@@ -27,6 +27,7 @@ ghost use Rattle.store_engine.specs.Replies.{is_disk_fault};
 
 use crate::EngineFault;
 use crate::admission::{admit, admit_raise};
+use crate::older::OlderLogs;
 use manifest::Manifest;
 use manifest_edit::{Edit, FamilyEdit};
 use std::alloc::Global;
@@ -47,6 +48,7 @@ pub struct Engine<D: Disk> {
     /// The number of the next file.
     next: u64,
     failed: bool,
+    older: OlderLogs,
 }
 
 /// The edit that gives a family another floor.
@@ -74,17 +76,23 @@ impl<D: Disk> Engine<D> {
     ghost use Rattle.store_engine.specs.Engines.{HoldsAsBefore, HoldsNow, IsCurrent, IsEngineOf, IsOneFolder, IsRunning, engine_faults, has_failed, held};
     ghost use Rattle.store_engine.specs.Steps.{IsAdded, IsBatchWritten, IsCalled, IsEdited, IsLogSynced, ReservesEdit};
 
-    /// The engine of an opened store, whose folder, manifest and newest log these are. It takes no memory.
-    pub fn from_parts(disk: D, manifest: Manifest<D::File>, wal: Wal<D::File>) -> Engine<D>
-        requires { (old : D) × (version : Version) × ArePartsOf D.Disk D.File.DiskFile old (parts_of disk manifest wal version) }
+    /// The engine of an opened store, whose folder, manifest, newest log and super version these are. It takes no memory.
+    pub fn from_parts(
+        alloc: Global,
+        disk: D,
+        manifest: Manifest<D::File>,
+        wal: Wal<D::File>,
+        version: &SuperVersion,
+    ) -> Engine<D>
+        requires { (old : D) × ArePartsOf D.Disk D.File.DiskFile old (parts_of disk manifest wal version.now) }
         ensures held { held result ≡ holding disk (wal_file wal ∷ manifest_file manifest ∷ []) }
         ensures next { result.next ≡ (manifest_folded manifest).next_file }
         ensures running { IsRunning result }
         ensures one { IsOneFolder D.Disk D.File.DiskFile result }
-        ensures current { (old : D) (version : Version) → ArePartsOf D.Disk D.File.DiskFile old (parts_of disk manifest wal version) → IsCurrent result version }
+        ensures current { IsCurrent result version.now }
         // It and the version of the opening hold each state that the folder stands for.
-        ensures holds { (old : D) (version : Version) (m : State) → ArePartsOf D.Disk D.File.DiskFile old (parts_of disk manifest wal version)
-            → IsTrue (D.is_told old) → AreLiveClean D.Disk old (manifest_folded manifest) → FolderStands ReadsAsTable (D.stands old) m → HoldsNow D.Disk D.File.DiskFile result version m (course_start m) }
+        ensures holds { (old : D) (m : State) → ArePartsOf D.Disk D.File.DiskFile old (parts_of disk manifest wal version.now)
+            → IsTrue (D.is_told old) → AreLiveClean D.Disk old (manifest_folded manifest) → FolderStands ReadsAsTable (D.stands old) m → HoldsNow D.Disk D.File.DiskFile result version.now m (course_start m) }
     {
         let next = manifest.fold().next_file;
         Engine {
@@ -93,6 +101,7 @@ impl<D: Disk> Engine<D> {
             wal,
             next,
             failed: false,
+            older: OlderLogs::new(alloc, version.last),
         }
     }
 
@@ -298,6 +307,7 @@ impl<D: Disk> Engine<D> {
             wal,
             next: _,
             failed: _,
+            older: _,
         } = self;
         disk.retire(wal.into_file());
         disk.retire(manifest.into_file());

@@ -6,6 +6,7 @@ mod engine;
 mod fault;
 mod latest;
 mod laws;
+mod older;
 
 pub use engine::Engine;
 pub use fault::EngineFault;
