@@ -19,3 +19,6 @@ pub mod Current
 pub mod Writing
 pub mod Raising
 pub mod NowFlushed
+pub mod Besides
+pub mod Leaving
+pub mod Covering

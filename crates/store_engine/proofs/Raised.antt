@@ -29,6 +29,7 @@ use Rattle.engine_laws.proofs.Moving.{edit_ready}
 use Rattle.floor_laws.proofs.Members.{contains_In}
 use Rattle.recovery.specs.Tables.{ReadsAsTable}
 use Rattle.store_engine.specs.Engines.{HoldsNow, IsEngineOf, held}
+use Rattle.store_engine.specs.Older.{CoversOlder}
 use Rattle.store_engine.specs.Steps.{IsEdited, ReservesEdit}
 use Rattle.store_engine.specs.declared.engine.Engine.{Engine}
 use Rattle.store_engine.specs.declared.fault.EngineFault.{EngineFault}
@@ -67,6 +68,7 @@ module _ {D F : Type 0} (d : disk.Ghosts D F) (f : file.Ghosts F) (now_last : Is
       holds = h.holds;
       shows = h.shows;
       used = subst (λ k. All (λ n. n < k) m.used) (sym kept.next) h.used;
+      covers = subst (λ o. CoversOlder o h.says) (sym kept.older) h.covers;
       runs = h.runs;
       unfailed = h.unfailed;
     }

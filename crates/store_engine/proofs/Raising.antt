@@ -42,6 +42,7 @@ use Rattle.store_engine.specs.declared.engine.Engine.{Engine}
 use Rattle.store_engine.specs.declared.fault.EngineFault.{EngineFault}
 use Rattle.store_engine.proofs.Answering.{folder_on, on_ok}
 use Rattle.store_engine.proofs.Counts.{cause_third}
+use Rattle.store_engine.proofs.Covering.{covers_same_logs, covers_synced}
 use Rattle.store_engine.proofs.Raised.{edited_of, edited_ran, reserved_held, reserved_now, reserved_of}
 use Rattle.store_engine.proofs.Synced.{synced_cause, synced_folder, synced_of, synced_ran}
 use Rattle.store_engine.proofs.Together.{newest_stays}
@@ -161,6 +162,7 @@ module _ {D F : Type 0} (d : disk.Ghosts D F) (f : file.Ghosts F) (now_last : Is
                 holds = act_holds m c h.says h.waiting number (raise family floor) Done edit h.holds told refl refl may;
                 shows = shows;
                 used = subst (λ k. All (λ n. n < k) m.used) (sym (edited.next ∙ synced.next ∙ kept.next)) h.used;
+                covers = covers_same_logs two.older new.older s1 edit edited.older no_logs (ap (λ (e : Edit). e.drop_logs) is) (covers_synced old.older two.older h.says h.waiting (synced.older ∙ kept.older) h.covers);
                 runs = h.runs;
                 unfailed = h.unfailed;
               })

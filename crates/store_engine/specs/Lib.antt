@@ -6,3 +6,5 @@ pub mod Calls
 pub mod Steps
 pub mod Now
 pub mod Admission
+pub mod Laws
+pub mod Older

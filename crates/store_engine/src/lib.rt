@@ -6,9 +6,12 @@ mod engine;
 mod fault;
 mod lab;
 mod latest;
+mod laws;
+mod older;
 
 pub use engine::Engine;
 pub use fault::EngineFault;
+pub use laws::{engines_hold_besides, engines_leave_outcomes};
 
 /// Memory ran out.
 pub type NoMemory = std::alloc::AllocError;
