@@ -16,6 +16,7 @@ pub(crate) struct RolledLog {
 
 /// Up to which sequence a live log that takes no more batches may have versions: one that the engine has rolled up to the last one
 /// then, and any other, which was live at the opening, up to the last one of that.
+#[derive(Drop)]
 pub(crate) struct OlderLogs {
     opened: Seq,
     rolled: Vec<RolledLog>,
@@ -37,12 +38,10 @@ impl OlderLogs {
     pub(crate) fn last_in(&self, number: u64) -> Seq
         ensures { result.0 ≡ last_in self.now number }
     {
-        for log in &self.rolled {
-            if log.number == number {
-                return log.last;
-            }
+        match self.rolled.iter().find(|log| log.number == number) {
+            Some(log) => log.last,
+            None => self.opened,
         }
-        self.opened
     }
 
     /// The same, and a log that is rolled.
