@@ -14,9 +14,11 @@ use Rattle.ts_key.specs.Items.{Item}
 use Rattle.memtable.specs.Memtables.{versions_of_memtable}
 use Rattle.block_table.specs.Contents.{greatest_of}
 use Rattle.udt_model.specs.State as model
-use Rattle.udt_model.specs.State.{LiveTable, State, family_at, with_table}
+use Rattle.udt_model.specs.State.{Flush, LiveTable, State, family_at, form_at, seqs_of, through_at, through_of, with_table}
 use Rattle.udt_model.specs.State.{FamilyState as ModelFamily}
-use Rattle.udt_model.specs.Steps.{flushed}
+use Rattle.udt_model.specs.Jobs.{flush_kept, flush_taken}
+use Rattle.udt_model.specs.Running.{IsFlushRight}
+use Rattle.udt_model.specs.Steps.{flushed, with_flush}
 use Rattle.udt_model.specs.Versions.{between}
 use Rattle.super_version.specs.Changes.{ChangesFamily, family_with_flush, in_front, with_level}
 use Rattle.super_version.specs.Contents.{items_of_table, version_of_item}
@@ -29,14 +31,20 @@ use Rattle.super_version.specs.declared.version.SuperVersion.{SuperVersion}
 use Rattle.super_version.proofs.Numbered.{after_flush}
 use Rattle.super_version.proofs.Orders.{front_order}
 use Rattle.floor_laws.proofs.Counts.{count}
-use Rattle.floor_laws.proofs.Families.{In-between, between-In}
+use Rattle.floor_laws.specs.Sound.{IsSoundState}
+use Rattle.floor_laws.proofs.Families.{In-between, between-In, flushed_from, tables_below}
+use Rattle.floor_laws.proofs.Kept.{same_number}
 use Rattle.floor_laws.proofs.Members.{In, In-append, In-contains, In-left, In-map, In-right, contains_In, filter_within, map-In}
-use Rattle.store_engine.specs.Now.{FitsFamily, IsFamilyNow, table_shown, tables_shown, versions_held}
+use Rattle.floor_laws.proofs.States.{at_changed, holds_of, length-changed, some_same, written_of}
+use Rattle.floor_laws.proofs.Tables.{contents-from}
+use Rattle.store_engine.specs.Now.{FitsFamily, IsFamilyNow, IsNow, table_shown, tables_shown, versions_held}
+use Rattle.store_engine.proofs.Current.{get_changed, length_changed}
 use Rattle.store_engine.proofs.OneForOne.{Once, same_once, times, times-append, times-filter, times-moved}
+use Rattle.store_engine.proofs.Shown.{shown-In}
 
 -- ---- what is left in memory
 
-seq_of : Version → ℕ
+abbrev pub seq_of : Version → ℕ
 seq_of v = v.seq.0
 
 module _ (i : Family) (low through last : ℕ) (w : List Version) (rises : low ≤ through) where
@@ -153,3 +161,113 @@ family_flushed i w last f g through floor added rises high once takes newest s =
           (all_weaker (AllByRecursion (FitsFamily g.form g.floor)) (AllByRecursion (FitsFamily g.form floor)) g.levels
           (λ tables k. all_weaker (FitsFamily g.form g.floor) (FitsFamily g.form floor) tables (λ t fits. let c = fits.collected in record { form_is = fits.form_is; collected = omega (arith, c, high) }) k) s.fit);
     }
+
+-- ---- what the flush keeps is newer than all that is in tables
+
+greatest_within : (xs : List Item) (n : ℕ) → ((x : Item) → In x xs → x.sort_key.seq ≤ n) → greatest_of (λ v. v.sort_key.seq) xs ≤ n
+greatest_within [] n h = omega arith
+greatest_within (x ∷ xs) n h = let a = h x (inl refl) in let b = greatest_within xs n (λ y j. h y (inr j)) in omega (arith, a, b)
+
+greatest_over : (x : Item) (xs : List Item) → x.sort_key.seq ≤ greatest_of (λ v. v.sort_key.seq) (x ∷ xs)
+greatest_over x xs = omega arith
+
+all_from : {X : Type 0} (P : X → Type 0) (xs : List X) → ((x : X) → In x xs → P x) → AllByRecursion P xs
+all_from P [] h = tt
+all_from P (x ∷ xs) h = (h x (inl refl), all_from P xs (λ y j. h y (inr j)))
+
+get-In : {X : Type 0} (xs : List X) (n : ℕ) (x : X) → slice_get xs n ≡ Some x → In x xs
+get-In [] n x e = absurd cc
+get-In (y ∷ ys) zero x e = inl (some_same y x e)
+get-In (y ∷ ys) (suc n) x e = inr (get-In ys n x e)
+
+module _ (m : State) (job : Flush) (sound : IsSoundState m) where
+  kept_above : (f : ModelFamily) → family_at m job.family ≡ Some f → (v : Version) → In v (flush_kept m job) → f.through.0 < v.seq.0
+  kept_above f at v j =
+      let r = (flushed_from (form_at m job.family) (flush_taken m job) job.floor job.seqs v j).0 in
+      let k = between-In job.family (through_at m job.family).0 job.through.0 m.versions r.0 r.1 in
+      let l = k.2 in
+      let e = r.2 in
+      let t : (through_at m job.family).0 ≡ f.through.0 = ap (λ z. (through_of z).0) at in
+      omega (arith, l, e, t)
+
+  module _ (f : ModelFamily) (g : FamilyState) (at : family_at m job.family ≡ Some f) (s : IsFamilyNow job.family (between job.family f.through.0 m.last.0 m.versions) f g) where
+    table_within : (tables : List Live) (o : Live) → In tables g.levels → In o tables → (table_properties o).greatest_seq.0 ≤ f.through.0
+    table_within tables o i j =
+        let r = shown-In job.family 0 g.levels tables o i j in
+        let u = table_shown job.family r.0 o in
+        let live = contains_In f.tables u (Contains-permutation (tables_shown job.family 0 g.levels) f.tables u (IsPermutation-sym f.tables (tables_shown job.family 0 g.levels) s.tables) (In-contains (tables_shown job.family 0 g.levels) u r.1)) in
+        let below = tables_below job.family f.head.form f.head.floor f.through.0 f.tables m.versions m.last.0 (seqs_of m) ((holds_of m sound).families job.family f at) in
+        greatest_within o.table.contents.items f.through.0 (λ x k. below (version_of_item job.family x) (contents-from f.tables u (version_of_item job.family x) live (In-map (version_of_item job.family) x o.table.contents.items k)))
+
+    pub kept_newest : (floor : Ts) (added : Live) → IsTableOf job.family.0 added → FitsFamily g.form floor added → 0 < length added.table.contents.items → map (version_of_item job.family) added.table.contents.items ≡ flush_kept m job → IsNewest job.family floor g added
+    kept_newest floor added own fits some is = record {
+      own = own;
+      fits = fits;
+      over = λ tables there. all_from (λ (o : Live). (table_properties o).greatest_seq.0 ≤ (table_properties added).greatest_seq.0) tables
+          (λ o j. let a = table_within tables o (get-In g.levels 0 tables there) j in let b = top added.table.contents.items some is in omega (arith, a, b));
+    } where
+      top : (items : List Item) → 0 < length items → map (version_of_item job.family) items ≡ flush_kept m job → f.through.0 < greatest_of (λ v. v.sort_key.seq) items
+      top [] none same = absurd (omega (arith, none))
+      top (x ∷ xs) more same =
+          let a = kept_above f at (version_of_item job.family x) (subst (In (version_of_item job.family x)) same (inl refl)) in
+          let b = greatest_over x xs in
+          omega (arith, a, b)
+
+-- ---- all families
+
+flush_right : (m : State) (job : Flush) → IsSoundState m → m.flush ≡ Some job → (f : ModelFamily) × (family_at m job.family ≡ Some f) × (f.through.0 ≤ job.through.0)
+flush_right m job sound runs = let k : IsFlushRight m (Some job) = subst (IsFlushRight m) runs sound.jobs.flush in (k.0, k.1, k.2.from)
+
+module _ (m : State) (old new : SuperVersion) (job : Flush) (table gone : ℕ) (floor : Ts) (added : Live) (sound : IsSoundState m) (shows : IsNow old m) (runs : m.flush ≡ Some job)
+    (changes : ChangesFamily job.family.0 (family_with_flush gone job.through floor added) old new)
+    (all_gone : (g : FamilyState) → slice_get old.families job.family.0 ≡ Some g → gone ≡ length g.sealed)
+    (high : (g : FamilyState) → slice_get old.families job.family.0 ≡ Some g → g.floor.0 ≤ floor.0)
+    (own : IsTableOf job.family.0 added) (fits : (g : FamilyState) → slice_get old.families job.family.0 ≡ Some g → FitsFamily g.form floor added)
+    (some : 0 < length added.table.contents.items) (is : map (version_of_item job.family) added.table.contents.items ≡ flush_kept m job) (number : added.number ≡ table) where
+  abbrev flushed_table : LiveTable
+  flushed_table = record { number = table; level = 0; versions = flush_kept m job }
+
+  table_is : table_shown job.family 0 added ≡ flushed_table
+  table_is = ap (λ vs. let t : LiveTable = record { number = added.number; level = 0; versions = vs } in t) is ∙ ap (λ n. let t : LiveTable = record { number = n; level = 0; versions = flush_kept m job } in t) number
+
+  once : Once seq_of m.versions
+  once = once_distinct m.versions (written_of (length m.families) m.last.0 m.versions (holds_of m sound).written).distinct
+
+  same_flushed : (i : Family) (f : ModelFamily) (g : FamilyState) → i ≡ job.family → family_at m i ≡ Some f → slice_get old.families i.0 ≡ Some g
+      → IsFamilyNow i (between i job.through.0 m.last.0 m.versions) (flushed flushed_table job.through floor f) (family_with_flush gone job.through floor added g)
+  same_flushed i f g e at there =
+      let at2 : family_at m job.family ≡ Some f = subst (λ z. family_at m z ≡ Some f) e at in
+      let there2 : slice_get old.families job.family.0 ≡ Some g = subst (λ (z : Family). slice_get old.families z.0 ≡ Some g) e there in
+      let s = shows.families job.family f g at2 there2 in
+      let k = flush_right m job sound runs in
+      let same : k.0 ≡ f = some_same k.0 f (sym k.1 ∙ at2) in
+      let rises : f.through.0 ≤ job.through.0 = subst (λ (z : ModelFamily). z.through.0 ≤ job.through.0) same k.2 in
+      let split = shows.flush job g runs there2 in
+      let takes : TakesSealed job.through.0 g = record {
+        taken = λ v j. split.taken v (In-contains (flat_map versions_of_memtable g.sealed) v j);
+        later = λ v j. split.later v (In-contains (versions_of_memtable g.active) v j);
+      } in
+      let result = family_flushed job.family m.versions m.last.0 f g job.through floor added rises (high g there2) once takes (kept_newest m job sound f g at2 s floor added own (fits g there2) some is) s in
+      subst (λ i. IsFamilyNow i (between i job.through.0 m.last.0 m.versions) (flushed flushed_table job.through floor f) (family_with_flush gone job.through floor added g)) (sym e)
+      (subst (λ n. IsFamilyNow job.family (between job.family job.through.0 m.last.0 m.versions) (flushed flushed_table job.through floor f) (family_with_flush n job.through floor added g)) (sym (all_gone g there2))
+      (subst (λ t. IsFamilyNow job.family (between job.family job.through.0 m.last.0 m.versions) (flushed t job.through floor f) (family_with_flush (length g.sealed) job.through floor added g)) table_is result))
+
+  each : (i : Family) (f : ModelFamily) (g : FamilyState) → slice_get (model.changed_at job.family.0 (flushed flushed_table job.through floor) m.families) i.0 ≡ Some f → slice_get new.families i.0 ≡ Some g
+      → IsFamilyNow i (between i f.through.0 m.last.0 m.versions) f g
+  each i f g at there =
+      let r = get_changed job.family.0 i.0 (family_with_flush gone job.through floor added) old.families g (subst (λ l. slice_get l i.0 ≡ Some g) changes.families there) in
+      elim (at_changed m.families job.family.0 (flushed flushed_table job.through floor) i.0 f at) [
+        | inl a ↦
+            let s = same_flushed i a.1.0 r.0 (same_number i job.family a.0) a.1.1 r.1 in
+            subst (λ (z : ModelFamily). IsFamilyNow i (between i z.through.0 m.last.0 m.versions) z g) a.1.2
+            (subst (IsFamilyNow i (between i job.through.0 m.last.0 m.versions) (flushed flushed_table job.through floor a.1.0)) (sym (r.2.0 a.0)) s)
+        | inr a ↦ subst (IsFamilyNow i (between i f.through.0 m.last.0 m.versions) f) (sym (r.2.1 a.0)) (shows.families i f r.0 a.1 r.1)
+      ]
+
+  pub now_flushed : IsNow new (with_flush m m.flush table floor)
+  now_flushed = subst (λ z. IsNow new (with_flush m z table floor)) (sym runs) (record {
+    last = changes.last ∙ shows.last;
+    count = ap length changes.families ∙ length_changed job.family.0 (family_with_flush gone job.through floor added) old.families ∙ shows.count ∙ sym (length-changed m.families job.family.0 (flushed flushed_table job.through floor));
+    families = each;
+    flush = λ other g none there. absurd (cc);
+  })

@@ -8,3 +8,4 @@ pub mod Now
 pub mod Admission
 pub mod Laws
 pub mod Older
+pub mod Dropping

@@ -16,6 +16,7 @@ pub(crate) struct RolledLog {
 
 /// Up to which sequence a live log that takes no more batches may have versions: one that the engine has rolled up to the last one
 /// then, and any other, which was live at the opening, up to the last one of that.
+#[derive(Drop)]
 pub(crate) struct OlderLogs {
     opened: Seq,
     rolled: Vec<RolledLog>,
