@@ -38,12 +38,10 @@ impl OlderLogs {
     pub(crate) fn last_in(&self, number: u64) -> Seq
         ensures { result.0 ≡ last_in self.now number }
     {
-        for log in &self.rolled {
-            if log.number == number {
-                return log.last;
-            }
+        match self.rolled.iter().find(|log| log.number == number) {
+            Some(log) => log.last,
+            None => self.opened,
         }
-        self.opened
     }
 
     /// The same, and a log that is rolled.
