@@ -8,4 +8,6 @@ pub mod Now
 pub mod Admission
 pub mod Laws
 pub mod Older
+pub mod Jobs
 pub mod Dropping
+pub mod Installing

@@ -42,13 +42,13 @@ use wal::{PENDING_LIMIT, Wal};
 /// call takes is the one that the last call gave, and at first that of the opening. Where the disk failed in a call, only `failed`
 /// and `close` may be called.
 pub struct Engine<D: Disk> {
-    disk: D,
-    manifest: Manifest<D::File>,
-    wal: Wal<D::File>,
+    pub(crate) disk: D,
+    pub(crate) manifest: Manifest<D::File>,
+    pub(crate) wal: Wal<D::File>,
     /// The number of the next file.
-    next: u64,
-    failed: bool,
-    older: OlderLogs,
+    pub(crate) next: u64,
+    pub(crate) failed: bool,
+    pub(crate) older: OlderLogs,
 }
 
 /// The edit that gives a family another floor.
@@ -129,7 +129,7 @@ impl<D: Disk> Engine<D> {
     }
 
     /// Puts all that waits in the log on the disk. It takes no memory.
-    fn sync_log(&mut self) -> Result<(), EngineFault>
+    pub(crate) fn sync_log(&mut self) -> Result<(), EngineFault>
         requires { IsRunning self.old }
         ensures { IsLogSynced D.File.DiskFile self.old self.new result }
     {
@@ -156,7 +156,7 @@ impl<D: Disk> Engine<D> {
     }
 
     /// Makes the manifest ready for an edit.
-    fn reserve_edit(&mut self, alloc: Global, edit: &Edit) -> Result<(), EngineFault>
+    pub(crate) fn reserve_edit(&mut self, alloc: Global, edit: &Edit) -> Result<(), EngineFault>
         requires { IsRunning self.old }
         ensures { ReservesEdit D.File.DiskFile edit.now self.old self.new result }
     {
@@ -167,7 +167,7 @@ impl<D: Disk> Engine<D> {
     }
 
     /// Adds a reserved edit of families to the manifest. It takes no memory.
-    fn append_edit(&mut self, edit: &Edit) -> Result<(), EngineFault>
+    pub(crate) fn append_edit(&mut self, edit: &Edit) -> Result<(), EngineFault>
         requires running { IsRunning self.old }
         requires accepted { IsAccepted (manifest_folded self.old.manifest) edit.now }
         requires reserved { IsEditReserved D.File.DiskFile self.old.manifest edit.now }

@@ -4,10 +4,12 @@
 mod admission;
 mod engine;
 mod fault;
+mod install;
 mod lab;
 mod latest;
 mod laws;
 mod older;
+mod unflushed;
 
 pub use engine::Engine;
 pub use fault::EngineFault;
