@@ -19,6 +19,9 @@ pub mod Current
 pub mod Writing
 pub mod Raising
 pub mod NowFlushed
+pub mod Aside
+pub mod FlushEdits
+pub mod DroppedLogs
 pub mod Besides
 pub mod Leaving
 pub mod Covering

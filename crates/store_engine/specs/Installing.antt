@@ -98,7 +98,7 @@ pub record MayInstall {D F : Type 0} (f : file.Ghosts F) (engine : Engine D F f)
   pub known : family.0 < length now.families
   pub from : (g : FamilyState) → slice_get now.families family.0 ≡ Some g → g.through.0 ≤ through.0
   pub to : through.0 ≤ now.last.0
-  pub number : IsJobNumber engine number
+  pub unused : IsJobNumber engine number
   pub name : f.name given ≡ Table number
 
 -- the file holds the table, and a crash leaves nothing else of it
@@ -112,9 +112,9 @@ pub record HoldsTable {F : Type 0} (f : file.Ghosts F) (given : F) (table : Held
 -- has what the flush keeps, with the floor that the flush leaves.
 pub record EndsFlushBy {F : Type 0} (f : file.Ghosts F) (m : State) (now : SuperVersion) (job : Flush) (family : Family) (gone : ℕ) (through : Seq) (number : ℕ) (given : F) (out : TableOut) : Type 0 where
   pub runs : m.flush ≡ Some job
-  pub family : job.family ≡ family
-  pub through : job.through ≡ through
-  pub gone : (g : FamilyState) → slice_get now.families family.0 ≡ Some g → gone ≡ length g.sealed
+  pub of_family : job.family ≡ family
+  pub up_to : job.through ≡ through
+  pub all_sealed : (g : FamilyState) → slice_get now.families family.0 ≡ Some g → gone ≡ length g.sealed
   pub fresh : IsTrue (are_new m.used (number ∷ []))
   pub file : HoldsTable f given out.table
   pub own : out.table.contents.family ≡ family.0
