@@ -69,6 +69,10 @@ syncs_beside act reply is = refl
 
 failing_beside : (m : State) (number : ℕ) (o : Option Failing) (act : Act) (reply : Reply) → IsTrue (is_beside act reply) → failing_after m number o act reply ≡ o
 failing_beside m number o act Fault is = absurd (false≢true is)
+failing_beside m number o (write ops sync) reply is = refl
+failing_beside m number o (raise i floor) reply is = refl
+failing_beside m number o (flush_end i start) reply is = refl
+failing_beside m number o (compact_end i start) reply is = refl
 failing_beside m number o act reply is = refl
 
 now_beside : (now : SuperVersion) (m next : State) → AreSameKept m next → IsNow now m → IsNow now next
