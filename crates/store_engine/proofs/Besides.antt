@@ -1,6 +1,6 @@
 -- Acts that an engine doesn't take: what they leave of the state that it holds.
-use Rattle.std.proofs.Common.{◌≡◌, ℕ, ◌+◌, ◌<◌, ◌≤◌, Bool, true, false, List, length, Option, refl, sym, ap, ◌∙◌, subst, inl, inr}
-use Rattle.std.specs.Prelude.{All, Contains, IsTrue, Some, if◌then◌else◌, slice_get}
+use Rattle.std.proofs.Common.{◌≡◌, ℕ, ◌<◌, ◌≤◌, Bool, false, List, length, Option, refl, sym, ap, ◌∙◌, subst, inl, inr}
+use Rattle.std.specs.Prelude.{All, Contains, IsTrue, if◌then◌else◌, slice_get}
 use Rattle.std.proofs.lemmas.Bool.{false≢true}
 use Rattle.ts_key.specs.declared.numbers.Seq.{Seq}
 use Rattle.ts_key.specs.declared.version.Version.{Version}
@@ -13,7 +13,7 @@ use Rattle.udt_model.specs.Versions.{between}
 use Rattle.udt_model.specs.Acts.{Act}
 use Rattle.udt_model.specs.Acts.Act.{compact_end, compact_start, flush_end, flush_start, make_snapshot, raise, release, sync_all, write}
 use Rattle.udt_model.specs.Steps.{IsReplyTo, after, without_job}
-use Rattle.udt_model.specs.Crashes.{Course, Failing, IsCut, IsFailed, IsOutcome, course_after, cut_at, ends_after, failing_after, syncs}
+use Rattle.udt_model.specs.Crashes.{Course, Failing, IsFailed, IsOutcome, course_after, ends_after, failing_after, syncs}
 use Rattle.super_version.specs.declared.version.SuperVersion.{SuperVersion}
 use Rattle.floor_laws.proofs.Courses.{course_sound}
 use Rattle.floor_laws.proofs.Told.{sound_after}
