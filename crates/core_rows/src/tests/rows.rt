@@ -32,7 +32,10 @@ const VIEW: [(Ask, Told); 10] = [
     (Raise(0, 9), Done),
     (CompactStart(0, &[1], 6), Done),
     (CompactEnd(&[(2, 1)]), Done),
-    (PinnedGet(5, 0, b'a', 5, None), Found(b'u', Stamp::At(Ts(5)))),
+    (
+        PinnedGet(5, 0, b'a', 5, None),
+        Found(b'u', Stamp::At(Ts(5))),
+    ),
     (Get(0, b'a', 5, None), Collapsed(9)),
 ];
 

@@ -50,7 +50,11 @@ struct Script {
 
 impl Floors {
     fn of(&self, family: u32) -> u64 {
-        if family == 0 { self.persist } else { self.strip }
+        if family == 0 {
+            self.persist
+        } else {
+            self.strip
+        }
     }
 
     fn set(&mut self, family: u32, floor: u64) {
@@ -119,7 +123,8 @@ impl Script {
     fn write(&mut self, alloc: Global) -> Result<(), Fail> {
         let family = self.pick_family();
         let key = self.pick_key();
-        let ts = self.pick_stamp(self.floors.of(family));
+        let floor = self.floors.of(family);
+        let ts = self.pick_stamp(floor);
         let byte = self.pick_byte(256);
         let value = if byte % 4 == 0 { None } else { Some(byte) };
         let Told::Written(last) = self.step(alloc, Ask::Write(family, key, ts, value))? else {
@@ -225,7 +230,8 @@ impl Script {
 
     fn raise(&mut self, alloc: Global) -> Result<(), Fail> {
         let family = self.pick_family();
-        let floor = self.pick_stamp(self.floors.of(family));
+        let old = self.floors.of(family);
+        let floor = self.pick_stamp(old);
         if self.step(alloc, Ask::Raise(family, floor))? == Told::Done {
             self.floors.set(family, floor);
         }
