@@ -4,20 +4,25 @@ use super::tables::{empty_store, put, table, two_keys, with_tables};
 use compaction::{Plan, pick, whole};
 use std::alloc::Global;
 use std::test::Fail;
-use super_version::SuperVersion;
+use super_version::{LiveTable, SuperVersion};
 use ts_key::Family;
 
-/// Four tables on level 0 from `a` to `f`, and on level 1 one that meets them and one that doesn't.
+/// Four tables from `a` to `f`.
+fn four_tables(alloc: Global) -> Result<Vec<LiveTable>, Fail> {
+    let mut four = Vec::new(alloc);
+    four.push(two_keys(alloc, 7, b"a", b"c")?)?;
+    four.push(two_keys(alloc, 8, b"e", b"f")?)?;
+    four.push(two_keys(alloc, 9, b"b", b"d")?)?;
+    four.push(two_keys(alloc, 10, b"a", b"b")?)?;
+    Ok(four)
+}
+
+/// These on level 0, and on level 1 one that meets them and one that doesn't.
 fn four_and_two(alloc: Global) -> Result<SuperVersion, Fail> {
-    let mut top = Vec::new(alloc);
-    top.push(two_keys(alloc, 7, b"a", b"c")?)?;
-    top.push(two_keys(alloc, 8, b"e", b"f")?)?;
-    top.push(two_keys(alloc, 9, b"b", b"d")?)?;
-    top.push(two_keys(alloc, 10, b"a", b"b")?)?;
     let mut below = Vec::new(alloc);
     below.push(two_keys(alloc, 3, b"b", b"c")?)?;
     below.push(two_keys(alloc, 4, b"x", b"z")?)?;
-    let now = with_tables(alloc, &empty_store(alloc)?, 0, top)?;
+    let now = with_tables(alloc, &empty_store(alloc)?, 0, four_tables(alloc)?)?;
     with_tables(alloc, &now, 1, below)
 }
 
@@ -81,6 +86,9 @@ fn a_level_over_its_size_is_due(rt: HostRuntime) -> Result<(), Fail> {
     let alloc = rt.alloc();
     let now = large(alloc, 160)?;
     assert!(rt; is_plan(&pick(alloc, &now, Family(0))?, &[5], 2, 0));
+    // Where level 0 is due too, it comes first.
+    let now = with_tables(alloc, &now, 0, four_tables(alloc)?)?;
+    assert!(rt; is_plan(&pick(alloc, &now, Family(0))?, &[7, 8, 9, 10], 1, 0));
     let now = large(alloc, 159)?;
     assert!(rt; pick(alloc, &now, Family(0))?.is_none());
     Ok(())
