@@ -516,9 +516,17 @@ fn push_found(out: &mut Vec<u8>, value: &Value, stamp: Stamp) -> Result<(), NoMe
 fn push_table(out: &mut Vec<u8>, table: u64, kept: u64, floor: Ts) -> Result<(), NoMemory>
     ensures { Pushes out.old out.new result (followed (printed.reply_words (Reply.Table table kept floor))) }
 {
-    push_told(out, b"table", table)?;
-    push_told(out, b"kept", kept)?;
-    push_told(out, b"floor", floor.0)
+    push_followed(
+        out,
+        &[
+            Word::Text(b"table"),
+            Word::Number(table),
+            Word::Text(b"kept"),
+            Word::Number(kept),
+            Word::Text(b"floor"),
+            Word::Number(floor.0),
+        ],
+    )
 }
 
 fn push_dropped_files(out: &mut Vec<u8>, next: u64) -> Result<(), NoMemory>

@@ -76,8 +76,16 @@ pub fn wrong_with(alloc: Global, line: &[u8]) -> Result<Wrong, AllocError> {
     let found = match words.as_slice() {
         [verb, behind @ ..] if *verb == b"get".as_slice() => check_get(alloc, behind),
         [verb, behind @ ..] if *verb == b"raise".as_slice() => check_raise(alloc, behind),
-        [verb, behind @ ..] if *verb == b"floor".as_slice() => check_lone(alloc, behind, Wrong::Floor),
-        [verb, behind @ ..] if *verb == b"flush".as_slice() => check_lone(alloc, behind, Wrong::Flush),
+        [verb, behind @ ..] if *verb == b"floor".as_slice() => check_lone(
+            alloc,
+            behind,
+            Wrong::Floor,
+        ),
+        [verb, behind @ ..] if *verb == b"flush".as_slice() => check_lone(
+            alloc,
+            behind,
+            Wrong::Flush,
+        ),
         [verb, ..] if *verb == b"sync".as_slice() => Err(Wrong::Sync),
         words => check_ops(alloc, words, BATCH_LIMIT),
     };

@@ -53,11 +53,7 @@ fn verb_of(word: &[u8]) -> Option<Verb>
 }
 
 /// The command of a verb and the words behind it.
-fn read_behind(
-    alloc: Global,
-    verb: Verb,
-    behind: &[&[u8]],
-) -> Result<Option<Command>, AllocError>
+fn read_behind(alloc: Global, verb: Verb, behind: &[&[u8]]) -> Result<Option<Command>, AllocError>
     ensures { IfOk result (Reads (IsPlainCommand (verb_word verb ∷ map (λ w. w.now) behind.now))) }
 {
     match verb {
