@@ -98,3 +98,61 @@ counted verbs.Sync ws = refl
 pub no_count : {W : Type 0} (now : W → List ℕ) (verb : Verb) (ws : List W) (command : Command) → (length ws ≡ count_behind verb → ⊥) → IsPlainCommand (verb_word verb ∷ map now ws) command → ⊥
 no_count now verb ws command other h =
     other (sym (length-now now ws) ∙ sym (AllZip-long IsSpelling (map now ws) (parts_behind verb (map now ws)) (are_behind verb (map now ws) command h)) ∙ counted verb (map now ws))
+
+-- ---- each verb's words
+
+pub by_one : {W : Type 0} (now : W → List ℕ) (P : List (List ℕ) → Type 0) (d : W) (ws : List W) → length ws ≡ 1 → P (now (get_or ws 0 d) ∷ []) → P (map now ws)
+by_one now P d [] e p = absurd (omega arith)
+by_one now P d (a ∷ []) e p = p
+by_one now P d (a ∷ b ∷ ws) e p = absurd (omega arith)
+
+pub by_two : {W : Type 0} (now : W → List ℕ) (P : List (List ℕ) → Type 0) (d : W) (ws : List W) → length ws ≡ 2 → P (now (get_or ws 0 d) ∷ now (get_or ws 1 d) ∷ []) → P (map now ws)
+by_two now P d [] e p = absurd (omega arith)
+by_two now P d (a ∷ []) e p = absurd (omega arith)
+by_two now P d (a ∷ b ∷ []) e p = p
+by_two now P d (a ∷ b ∷ x ∷ ws) e p = absurd (omega arith)
+
+pub by_three : {W : Type 0} (now : W → List ℕ) (P : List (List ℕ) → Type 0) (d : W) (ws : List W) → length ws ≡ 3 → P (now (get_or ws 0 d) ∷ now (get_or ws 1 d) ∷ now (get_or ws 2 d) ∷ []) → P (map now ws)
+by_three now P d [] e p = absurd (omega arith)
+by_three now P d (a ∷ []) e p = absurd (omega arith)
+by_three now P d (a ∷ b ∷ []) e p = absurd (omega arith)
+by_three now P d (a ∷ b ∷ x ∷ []) e p = p
+by_three now P d (a ∷ b ∷ x ∷ y ∷ ws) e p = absurd (omega arith)
+
+-- no command begins with this verb and these words
+abbrev pub IsNone : Verb → List (List ℕ) → Type 0
+IsNone verb ws = (command : Command) → IsPlainCommand (verb_word verb ∷ ws) command → ⊥
+
+-- the first word behind the verb is no name
+pub no_raise_family : (family number : List ℕ) → ((name : List ℕ) → IsName family name → ⊥) → IsNone verbs.Raise (family ∷ number ∷ [])
+no_raise_family family number none command h = none family (are_behind verbs.Raise (family ∷ number ∷ []) command h).0
+
+pub no_raise_number : (family number : List ℕ) → ((n : ℕ) → IsNumber number n → ⊥) → IsNone verbs.Raise (family ∷ number ∷ [])
+no_raise_number family number none command h = none (num number) (are_behind verbs.Raise (family ∷ number ∷ []) command h).1.0
+
+pub no_floor_family : (family : List ℕ) → ((name : List ℕ) → IsName family name → ⊥) → IsNone verbs.Floor (family ∷ [])
+no_floor_family family none command h = none family (are_behind verbs.Floor (family ∷ []) command h).0
+
+pub no_flush_family : (family : List ℕ) → ((name : List ℕ) → IsName family name → ⊥) → IsNone verbs.Flush (family ∷ [])
+no_flush_family family none command h = none family (are_behind verbs.Flush (family ∷ []) command h).0
+
+pub no_get_target : (family key number : List ℕ) → ((p : Target) → IsTarget family key number p → ⊥) → IsNone verbs.Get (family ∷ key ∷ number ∷ [])
+no_get_target family key number none command h =
+    let p = are_behind verbs.Get (family ∷ key ∷ number ∷ []) command h in
+    none (record { family = family; key = unspell key; ts = record { 0 = num number } }) (record { family_is = p.0; key_is = p.1.0; number_is = p.1.1.0 })
+
+pub raises : (family number name : List ℕ) (t : ℕ) → IsName family name → IsNumber number t → IsPlainCommand (codes "raise" ∷ family ∷ number ∷ []) (commands.Line (events.Raise name (record { 0 = t })))
+raises family number name t p q = (refl, p, q, tt)
+
+pub asks_floor : (family name : List ℕ) → IsName family name → IsPlainCommand (codes "floor" ∷ family ∷ []) (commands.Line (events.Floor name))
+asks_floor family name p = (refl, p, tt)
+
+pub flushes : (family name : List ℕ) → IsName family name → IsPlainCommand (codes "flush" ∷ family ∷ []) (commands.Flush name)
+flushes family name p = (refl, p, tt)
+
+pub gets : (family key number : List ℕ) (p : Target) → IsTarget family key number p → IsPlainCommand (codes "get" ∷ family ∷ key ∷ number ∷ []) (commands.Line (events.Get p.family p.key p.ts None))
+gets family key number p is = (refl, is.family_is, is.key_is, is.number_is, tt)
+
+pub syncs : (ws : List (List ℕ)) → length ws ≡ 0 → IsPlainCommand (codes "sync" ∷ ws) (commands.Line events.Sync)
+syncs [] e = (refl, tt)
+syncs (w ∷ ws) e = absurd (omega arith)

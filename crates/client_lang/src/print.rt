@@ -342,7 +342,7 @@ fn push_asked(out: &mut Vec<u8>, event: &Event) -> Result<(), NoMemory>
 }
 
 /// Adds the words of the start of a job.
-fn push_start(out: &mut Vec<u8>, job: &[u8], family: &Name) -> Result<(), NoMemory>
+fn push_start<'a>(out: &mut Vec<u8>, job: &'a [u8], family: &'a Name) -> Result<(), NoMemory>
     ensures { Pushes out.old out.new result (followed (job.now ∷ family.now ∷ codes "start" ∷ [])) }
 {
     push_followed(
@@ -356,7 +356,7 @@ fn push_start(out: &mut Vec<u8>, job: &[u8], family: &Name) -> Result<(), NoMemo
 }
 
 /// Adds the words of the end of a job that the event `start` started.
-fn push_end(out: &mut Vec<u8>, job: &[u8], family: &Name, start: u64) -> Result<(), NoMemory>
+fn push_end<'a>(out: &mut Vec<u8>, job: &'a [u8], family: &'a Name, start: u64) -> Result<(), NoMemory>
     ensures { Pushes out.old out.new result (followed (job.now ∷ family.now ∷ codes "end" ∷ decimal start ∷ [])) }
 {
     push_followed(
@@ -479,7 +479,7 @@ fn push_told(out: &mut Vec<u8>, text: &[u8], number: u64) -> Result<(), NoMemory
 }
 
 /// Adds two words.
-fn push_pair(out: &mut Vec<u8>, first: &[u8], second: &[u8]) -> Result<(), NoMemory>
+fn push_pair<'a>(out: &mut Vec<u8>, first: &'a [u8], second: &'a [u8]) -> Result<(), NoMemory>
     ensures { Pushes out.old out.new result (followed (first.now ∷ second.now ∷ [])) }
 {
     push_followed(out, &[Word::Text(first), Word::Text(second)])
