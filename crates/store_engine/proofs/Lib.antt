@@ -21,3 +21,4 @@ pub mod Raising
 pub mod Besides
 pub mod Leaving
 pub mod Covering
+pub mod SealedVersion

@@ -29,6 +29,7 @@ use Rattle.store_engine.specs.Calls.{is_disk_failure}
 use Rattle.store_engine.specs.Engines.{IsOneFolder, IsRunning, engine_faults, has_failed, held}
 use Rattle.store_engine.specs.Now.{versions_held}
 use Rattle.store_engine.specs.Replies.{is_disk_fault, reply_of_fault}
+use Rattle.store_engine.specs.Steps.{IsEdited, IsLogSynced}
 use Rattle.store_engine.specs.declared.engine.Engine.{Engine}
 use Rattle.store_engine.specs.declared.fault.EngineFault.{EngineFault}
 use Rattle.store_engine.specs.declared.fault.EngineFault.TheVariants.{DiskFault, FilesFull, NoMemory, UnknownFamily}
@@ -112,3 +113,9 @@ pub record IsLogRolled {D F : Type 0} (d : disk.Ghosts D F) (f : file.Ghosts F) 
       → Ran d f (IsWhileMade d f (holding old.disk (wal_file old.wal ∷ others)) (Log old.next)) (holding old.disk (wal_file old.wal ∷ others)) (holding new.disk (wal_file new.wal ∷ others))
   pub failed : has_failed new ≡ is_disk_failure result
   pub fault : IfErr result (λ fault. fault ≡ DiskFault)
+
+-- What waited was synced, the log went on with a new file, and the edit was added to the manifest, up to where the disk failed.
+pub data IsRolled {D F : Type 0} (d : disk.Ghosts D F) (f : file.Ghosts F) (edit : Edit) (older : OlderLogs) (old new : Engine D F f) : Result (Unit {0}) EngineFault → Type 0 where
+  unsynced : (fault : EngineFault) → IsLogSynced f old new (Err fault) → IsRolled d f edit older old new (Err fault)
+  unrolled : (synced : Engine D F f) (fault : EngineFault) → IsLogSynced f old synced (Ok tt) → IsLogRolled d f older synced new (Err fault) → IsRolled d f edit older old new (Err fault)
+  edited : (synced rolled : Engine D F f) (result : Result (Unit {0}) EngineFault) → IsLogSynced f old synced (Ok tt) → IsLogRolled d f older synced rolled (Ok tt) → IsEdited f edit rolled new result → IsRolled d f edit older old new result

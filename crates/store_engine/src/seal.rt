@@ -1,12 +1,15 @@
 //! Seals: what a family has in memory is made ready for a flush, and the log goes on with a new file.
 
-ghost use Rattle.std.specs.Prelude.{◌≡◌, ◌<◌, length, IfOk, false, map, reverse};
+ghost use Rattle.std.specs.Prelude.{◌≡◌, ◌+◌, ◌<◌, [], ◌∷◌, length, IfOk, false, map, reverse};
 ghost use Rattle.std.specs.Arc.{arc_value};
 ghost use Rattle.wal.specs.Wals.{wal_pending};
 ghost use Rattle.manifest_fold.specs.declared.limits.TheConstants.{FILE_NUMBER_LIMIT};
-ghost use Rattle.manifest_fold.specs.Folds.{newest_log};
+ghost use Rattle.manifest_fold.specs.Folds.{IsAccepted, newest_log};
+ghost use Rattle.manifest.specs.Manifest.{IsEditReserved, manifest_folded};
 ghost use Rattle.engine_laws.specs.Installs.{roll_edit as edit_of_roll};
-ghost use Rattle.store_engine.specs.Sealing.{IsLogRolled, ShowsSeal};
+ghost use Rattle.store_engine.specs.Sealing.{IsLogRolled, IsRolled, ShowsSeal};
+ghost use Rattle.store_engine.specs.Steps.{IsEdited};
+ghost use Rattle.store_engine.specs.Together.{IsReadyFor};
 
 use crate::engine::Engine;
 use crate::fault::EngineFault;
@@ -63,14 +66,22 @@ fn roll_edit(alloc: Global, number: u64, last: Seq) -> Result<Edit, NoMemory>
     })
 }
 
-/// The memtables of a list whose newest is the first, from the oldest on.
-fn oldest_first(alloc: Global, mems: &SharedList<Mem>) -> Result<Vec<Arc<Mem>>, NoMemory>
-    ensures { IfOk result (λ out. map arc_value out.items ≡ reverse mems.now) }
+/// The items of a list, shared.
+fn shared<T: Drop>(alloc: Global, items: &SharedList<T>) -> Result<Vec<Arc<T>>, NoMemory>
+    ensures { IfOk result (λ out. map arc_value out.items ≡ items.now) }
 {
-    let mut out = Vec::with_capacity(alloc, mems.len())?;
-    for mem in mems.as_slice() {
-        out.push(Arc::try_clone(mem)?)?;
+    let mut out = Vec::with_capacity(alloc, items.len())?;
+    for item in items.as_slice() {
+        out.push(Arc::try_clone(item)?)?;
     }
+    Ok(out)
+}
+
+/// The items of a list from the last on, shared.
+fn from_last<T: Drop>(alloc: Global, items: &SharedList<T>) -> Result<Vec<Arc<T>>, NoMemory>
+    ensures { IfOk result (λ out. map arc_value out.items ≡ reverse items.now) }
+{
+    let mut out = shared(alloc, items)?;
     out.reverse();
     Ok(out)
 }
@@ -88,7 +99,7 @@ fn version_with_seal(
     let Some(state) = version.family(family) else {
         unreachable!()
     };
-    let mems = oldest_first(alloc, &state.sealed)?;
+    let mems = from_last(alloc, &state.sealed)?;
     Ok((Arc::new(alloc, version)?, mems))
 }
 
@@ -115,5 +126,43 @@ impl<D: Disk> Engine<D> {
                 Err(EngineFault::DiskFault)
             }
         }
+    }
+
+    /// Adds the log to which it has gone on to the manifest, by an edit that was reserved. It takes no memory.
+    fn append_roll(&mut self, edit: &Edit) -> Result<(), EngineFault>
+        requires runs { has_failed self.old ≡ false }
+        requires ready { IsReadyFor self.old.manifest self.old.wal self.old.next edit.now }
+        requires accepted { IsAccepted (manifest_folded self.old.manifest) edit.now }
+        requires reserved { IsEditReserved D.File.DiskFile self.old.manifest edit.now }
+        ensures { IsEdited D.File.DiskFile edit.now self.old self.new result }
+    {
+        match self.manifest.append(edit) {
+            Ok(()) => Ok(()),
+            Err(Failed) => {
+                self.failed = true;
+                Err(EngineFault::DiskFault)
+            }
+        }
+    }
+
+    /// Puts all that waits on the disk, goes on with a log of a new file, and adds that to the manifest. The edit, of the log whose number
+    /// is that of the next file, was reserved. It takes no memory.
+    fn roll(&mut self, edit: &Edit, older: OlderLogs) -> Result<(), EngineFault>
+        requires running { IsRunning self.old }
+        requires next { self.old.next < FILE_NUMBER_LIMIT }
+        requires accepted { IsAccepted (manifest_folded self.old.manifest) edit.now }
+        requires adds { (edit.now.add_logs ≡ self.old.next ∷ []) × (edit.now.next_file ≡ self.old.next + 1) }
+        requires reserved { IsEditReserved D.File.DiskFile self.old.manifest edit.now }
+        ensures { IsRolled D.Disk D.File.DiskFile edit.now older self.old self.new result }
+    {
+        match self.sync_log() {
+            Ok(()) => {}
+            Err(fault) => return Err(fault),
+        }
+        match self.roll_log(older) {
+            Ok(()) => {}
+            Err(fault) => return Err(fault),
+        }
+        self.append_roll(edit)
     }
 }

@@ -1,0 +1,10 @@
+-- A super version with a family sealed.
+use Rattle.std.proofs.Common.{◌≡◌, ℕ, zero, suc, ◌<◌, List, [], ◌∷◌, length, None, arith}
+use Rattle.std.specs.Prelude.{slice_get}
+use Rattle.super_version.specs.Levels.{item_changed_at}
+
+-- the place of a change is one of the list's
+pub changed_there : {X : Type 0} (n : ℕ) (change : X → X) (xs : List X) → n < length xs → slice_get (item_changed_at n change xs) n ≡ None → ⊥
+changed_there n change [] low none = absurd (omega (arith, low))
+changed_there zero change (x ∷ xs) low none = cc
+changed_there (suc n) change (x ∷ xs) low none = changed_there n change xs (omega (arith, low)) none
