@@ -22,3 +22,4 @@ pub mod Besides
 pub mod Leaving
 pub mod Covering
 pub mod SealedVersion
+pub mod Rolling

@@ -106,6 +106,7 @@ pub record IsLogRolled {D F : Type 0} (d : disk.Ghosts D F) (f : file.Ghosts F) 
   pub counted : OnOk result (d.faults new.disk ≡ plus_faults (d.faults old.disk) (f.faults (wal_file old.wal)))
   pub still : OnErr result (new.wal ≡ old.wal)
   pub cause : OnErr result (Rose (d.faults old.disk) (d.faults new.disk))
+  pub later : d.faults old.disk ≤ d.faults new.disk
   pub sizes : wal_sizes new.wal ≡ wal_sizes old.wal
   pub pending : wal_pending new.wal ≡ 0
   pub touches : Touches d (IsRolledName (f.name (wal_file old.wal)) old.next) old.disk new.disk
