@@ -22,6 +22,8 @@ pub mod NowFlushed
 pub mod Aside
 pub mod FlushEdits
 pub mod DroppedLogs
+pub mod GivenBack
+pub mod Installed
 pub mod Besides
 pub mod Leaving
 pub mod Covering
