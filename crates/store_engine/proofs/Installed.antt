@@ -1,6 +1,6 @@
 -- The install of a flush: what the engine holds behind its steps.
-use Rattle.std.proofs.Common.{◌≡◌, ◌⊎◌, ℕ, ◌+◌, ◌<◌, ◌≤◌, ◌==◌, ◌&&◌, max, true, false, List, [], ◌∷◌, length, map, take, Result, Ok, Err, Some, None, refl, sym, ap, ◌∙◌, subst, arith, inl, inr}
-use Rattle.std.specs.Prelude.{All, Contains, IsTrue, option_map, slice_get}
+use Rattle.std.proofs.Common.{◌≡◌, ◌⊎◌, ℕ, ◌+◌, ◌<◌, ◌≤◌, ◌==◌, ◌&&◌, max, true, false, List, [], ◌∷◌, ◌++◌, length, map, take, Result, Ok, Err, Some, None, refl, sym, ap, ◌∙◌, subst, arith, inl, inr}
+use Rattle.std.specs.Prelude.{All, Contains, IsTrue, OnOk, option_map, slice_get}
 use Rattle.std.specs.List.{AllByRecursion}
 use Rattle.std.proofs.lemmas.Bool.{eq-eqb}
 use Rattle.ts_key.specs.declared.numbers.Family.{Family}
@@ -11,11 +11,12 @@ use Rattle.ts_key.specs.declared.version.Form.TheVariants.{Persist, Strip}
 use Rattle.ts_key.specs.declared.version.Version.{Version}
 use Rattle.ts_key.specs.Items.{Item}
 use Rattle.ts_key.specs.Lists.{joined_lists}
-use Rattle.udt_disk.specs.Joint.{Ran}
+use Rattle.udt_disk.specs.Joint.{Folder, Ran}
 use Rattle.udt_disk.specs.Moments.{MayLeave}
 use Rattle.udt_disk.specs.declared.file.DiskFile as file
 use Rattle.udt_disk.specs.declared.disk.Disk as disk
-use Rattle.udt_disk.specs.declared.name.FileName.TheVariants.{Table}
+use Rattle.udt_disk.specs.declared.name.FileName.{FileName}
+use Rattle.udt_disk.specs.declared.name.FileName.TheVariants.{Log, Table}
 use Rattle.udt_disk.proofs.Joints.{ran_more, ran_on}
 use Rattle.data_block.specs.Grammar.{IsBlock}
 use Rattle.block_table.specs.Contents.{Contents}
@@ -36,7 +37,7 @@ use Rattle.udt_model.specs.Crashes.{Course, IsOutcome, IsOutcomeUnder, course_af
 use Rattle.manifest_edit.specs.declared.edit.Edit.{Edit}
 use Rattle.manifest_edit.specs.declared.edit.TableAt.{TableAt}
 use Rattle.manifest_fold.specs.declared.fold.FamilyFold.{FamilyFold}
-use Rattle.manifest_fold.specs.Folds.{IsAccepted, fold_with, is_live}
+use Rattle.manifest_fold.specs.Folds.{IsAccepted, fold_with, is_live, newest_log}
 use Rattle.manifest.specs.Manifest.{manifest_file, manifest_folded}
 use Rattle.super_version.specs.Changes.{ChangesFamily, family_with_flush}
 use Rattle.super_version.specs.Contents.{version_of_item}
@@ -45,16 +46,17 @@ use Rattle.super_version.specs.declared.family.FamilyState.{FamilyState}
 use Rattle.super_version.specs.declared.jobs.TableOut.{TableOut}
 use Rattle.super_version.specs.declared.version.SuperVersion.{SuperVersion}
 use Rattle.floor_laws.proofs.Kept.{same_number}
-use Rattle.floor_laws.proofs.Members.{In, All-In, contains_In}
+use Rattle.floor_laws.proofs.Members.{In, All-In, All-from, In-append, In-contains, contains_In}
 use Rattle.floor_laws.proofs.States.{holds_of, some_same, written_of}
 use Rattle.engine_laws.specs.Installs.{EndsFlush, IsNextFile, LogsMayGo, flush_edit}
 use Rattle.engine_laws.specs.Joints.{IsNowLast}
-use Rattle.engine_laws.specs.Moves.{added_tables}
+use Rattle.engine_laws.specs.Moves.{AreDead, TableRests, added_tables}
 use Rattle.engine_laws.specs.Standing.{Fits, FolderSays, Says, StandsForSome, TableSays, TableReads}
 use Rattle.engine_laws.specs.Engine.{HoldsState, IsOutcomeOr, MayEdit, SameLive, newest_log_of, with_batches, with_edit, with_new_table}
 use Rattle.engine_laws.proofs.Acting.{act_holds}
 use Rattle.engine_laws.proofs.Calls.{changed, under_act}
 use Rattle.engine_laws.proofs.Editing.{edit_stands}
+use Rattle.engine_laws.proofs.Folding.{logs_In}
 use Rattle.engine_laws.proofs.Installing.{flush_may}
 use Rattle.engine_laws.proofs.Keeping.{fixed_table, same_holds}
 use Rattle.engine_laws.proofs.Moving.{same_rests}
@@ -64,16 +66,22 @@ use Rattle.recovery.specs.Versions.{FitsFold, IsOfFold}
 use Rattle.store_engine.specs.Calls.{RanOn, RanUnder}
 use Rattle.store_engine.specs.Dropping.{AreGone}
 use Rattle.store_engine.specs.Engines.{HoldsNow, IsCurrent, IsEngineOf, IsRunning, held}
-use Rattle.store_engine.specs.Installing.{EndsFlushBy, floor_over_now, floor_with, live_with}
+use Rattle.store_engine.specs.Installing.{AreRemoved, EndsFlushBy, IsGivenBack, floor_over_now, floor_with, live_with}
 use Rattle.store_engine.specs.Jobs.{IsJobNumber}
 use Rattle.store_engine.specs.Now.{FitsFamily, IsNow}
 use Rattle.store_engine.specs.Older.{CoversOlder}
+use Rattle.store_engine.specs.Steps.{IsEdited, IsLogSynced, ReservesEdit}
 use Rattle.store_engine.specs.declared.engine.Engine.{Engine}
-use Rattle.store_engine.proofs.Aside.{table_free}
-use Rattle.store_engine.proofs.Covering.{covers_synced}
+use Rattle.store_engine.specs.declared.fault.EngineFault.{EngineFault}
+use Rattle.store_engine.proofs.Aside.{aside_of, aside_ran, dropped_names, table_free}
+use Rattle.store_engine.proofs.Covering.{covers_edited, covers_synced}
 use Rattle.store_engine.proofs.Current.{there_too}
 use Rattle.store_engine.proofs.DroppedLogs.{logs_may_go}
+use Rattle.store_engine.proofs.GivenBack.{back_of, back_ran, back_running, table_rests}
 use Rattle.store_engine.proofs.NowFlushed.{now_flushed}
+use Rattle.store_engine.proofs.Raised.{edited_of, edited_ran}
+use Rattle.store_engine.proofs.Synced.{synced_of, synced_ran}
+use Rattle.store_engine.proofs.Together.{newest_stays}
 
 -- ---- the table has a version
 
@@ -299,3 +307,93 @@ module _ {D F : Type 0} (d : disk.Ghosts D F) (f : file.Ghosts F) (old : Engine 
           | inl q ↦ subst P (ap (λ (u : TableAt). u.number) q) p
           | inr none ↦ absurd none
         ]
+
+    -- ---- the steps
+
+    module _ (now_last : IsNowLast d f) (mid back : Engine D F f) (kept : ReservesEdit f edit old mid (Ok tt)) (given_back : IsGivenBack d f given mid back) (named : f.name given ≡ Table number) where
+      abbrev Under : Folder → Type 0
+      Under folder = StandsForSome ReadsAsTable folder (IsOutcomeUnder m c event end_act)
+
+      before : (folder : Folder) → StandsForSome ReadsAsTable folder (IsOutcome m c) → Under folder
+      before folder o = (o.0, o.1, inl o.2)
+
+      of_back : IsEngineOf d f back says_now h.waiting
+      of_back = says_of_engine back (back_of d f now_last old mid back edit (Ok tt) given kept given_back number named unused h.says h.waiting h.engine_of)
+
+      back_runs : IsRunning back
+      back_runs = back_running d f now_last old mid back edit (Ok tt) given kept given_back
+
+      pub back_under : RanUnder d f m c event end_act old back
+      back_under = ran_more d f (λ folder. StandsForSome ReadsAsTable folder (IsOutcome m c)) Under before (held old) (held back) (back_ran d f now_last old mid back edit (Ok tt) given kept given_back number named unused m c h.says h.waiting h.holds h.engine_of)
+
+      pub synced_under : (two : Engine D F f) (first : Result (Unit {0}) EngineFault) → IsLogSynced f back two first → RanUnder d f m c event end_act old two
+      synced_under two first synced =
+          ran_on d f Under (held old) (held back) (held two) back_under
+          (ran_more d f (λ folder. StandsForSome ReadsAsTable folder (IsOutcome m c)) Under before (held back) (held two) (synced_ran d f now_last back two first synced m c says_now h.waiting says_holds of_back back_runs.together))
+
+      module _ (two three : Engine D F f) (synced : IsLogSynced f back two (Ok tt)) (second : Result (Unit {0}) EngineFault) (edited : IsEdited f edit two three second) where
+        of_two : IsEngineOf d f two s1 []
+        of_two = synced_of d f now_last back two (Ok tt) synced m c says_now h.waiting says_holds of_back back_runs.together
+
+        new_table : (t : TableAt) → Contains (added_tables edit.family) t → TableRests ReadsAsTable (MayLeave d f (held two)) s1 t.number
+        new_table = adds_one (λ n. TableRests ReadsAsTable (MayLeave d f (held two)) s1 n)
+            (λ image left. subst (TableReads ReadsAsTable image) (sym said) (table_rests d f now_last old mid back edit (Ok tt) given kept given_back number named unused two out.table synced.disk of_two.one.named by.file image left))
+
+        pub edited_under : RanUnder d f m c event end_act old three
+        edited_under =
+            ran_on d f Under (held old) (held two) (held three) (synced_under two (Ok tt) synced)
+            (ran_more d f (λ folder. StandsForSome ReadsAsTable folder (IsOutcomeOr m c next_state)) Under (λ folder o. (o.0, o.1, under_act m c event end_act end_reply o.0 is_told refl end_runs o.2)) (held two) (held three)
+            (edited_ran d f now_last edit two three second edited m next_state c s1 h1 of_two may no_logs new_table))
+
+        newest : newest_log (fold_with s1.fold edit).logs ≡ newest_log_of s1
+        newest = newest_stays s1.fold edit no_logs may.leads.accepted.logs.one
+
+        of_three : OnOk second (IsEngineOf d f three (with_edit s1 edit) [])
+        of_three = edited_of d f now_last edit two three second edited m next_state c s1 h1 of_two may no_logs new_table newest
+
+      module _ (two three new : Engine D F f) (synced : IsLogSynced f back two (Ok tt)) (edited : IsEdited f edit two three (Ok tt)) (names : List FileName) (names_are : names ≡ map Log edit.drop_logs) (removed : AreRemoved d names three new) where
+        three_of : IsEngineOf d f three (with_edit s1 edit) []
+        three_of = of_three two three synced (Ok tt) edited
+
+        three_dead : AreDead (f.name (manifest_file three.manifest)) (manifest_folded three.manifest) (Contains names)
+        three_dead = subst (λ fold. AreDead (f.name (manifest_file three.manifest)) fold (Contains names)) (sym three_of.fold)
+            (subst (λ ns. AreDead (f.name (manifest_file three.manifest)) (fold_with s1.fold edit) (Contains ns)) (sym names_are) (dropped_names (f.name (manifest_file three.manifest)) s1.fold edit may.leads.accepted h1.well))
+
+        pub removed_under : RanUnder d f m c event end_act old new
+        removed_under =
+            ran_on d f Under (held old) (held three) (held new) (edited_under two three synced (Ok tt) edited)
+            (ran_more d f (λ folder. FolderSays ReadsAsTable folder (with_edit s1 edit)) Under
+            (λ folder r. (settled next_state, record { says = with_edit s1 edit; reads = r; stands = edit_stands m c s1 edit next_state h1 may }, inr (changed m event end_act end_reply is_told refl end_runs)))
+            (held three) (held new) (aside_ran d f now_last names three new removed.aside three_dead (with_edit s1 edit) [] three_of))
+
+        older_same : new.older ≡ old.older
+        older_same = removed.aside.older ∙ edited.older ∙ synced.older ∙ given_back.aside.older ∙ kept.older
+
+        next_same : new.next ≡ old.next
+        next_same = removed.aside.next ∙ edited.next ∙ synced.next ∙ given_back.aside.next ∙ kept.next
+
+        used_now : All (λ n. n < new.next) next_state.used
+        used_now =
+            let is_used : next_state.used ≡ m.used ++ number ∷ [] = ap (λ o. (with_flush m o number floor).used) by.runs in
+            let below : All (λ n. n < old.next) (m.used ++ number ∷ []) = All-from (λ n. n < old.next) (m.used ++ number ∷ []) (λ n i. elim (In-append n m.used (number ∷ []) i) [
+              | inl j ↦ All-In (λ k. k < old.next) m.used n h.used j
+              | inr j ↦ elim j [ inl q ↦ subst (λ k. k < old.next) q unused.given | inr none ↦ absurd none ]
+            ]) in
+            subst (λ k. All (λ n. n < k) next_state.used) (sym next_same) (subst (All (λ n. n < old.next)) (sym is_used) below)
+
+        pub installed_now : HoldsNow d f new next next_state (course_after m event c end_act end_reply)
+        installed_now = record {
+          says = with_edit s1 edit;
+          waiting = [];
+          engine_of = aside_of d f now_last names three new removed.aside three_dead (with_edit s1 edit) [] three_of;
+          holds = act_holds m c says_now h.waiting event end_act end_reply edit says_holds end_told refl refl may;
+          shows = next_shows;
+          used = used_now;
+          covers = covers_edited old.older new.older s1 edit older_same (newest two three synced (Ok tt) edited)
+              (λ n i. let j = contains_In (fold_with s1.fold edit).logs n i in elim (logs_In s1.fold edit n j) [
+                | inl k ↦ In-contains s1.fold.logs n k
+                | inr k ↦ absurd (subst (In n) no_logs k)
+              ]) covers1;
+          runs = ap (λ o. (with_flush m o number floor).halted) by.runs ∙ h.runs;
+          unfailed = h.unfailed;
+        }

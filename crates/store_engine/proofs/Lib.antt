@@ -24,6 +24,7 @@ pub mod FlushEdits
 pub mod DroppedLogs
 pub mod GivenBack
 pub mod Installed
+pub mod InstallCalls
 pub mod Besides
 pub mod Leaving
 pub mod Covering
