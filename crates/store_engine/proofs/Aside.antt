@@ -28,7 +28,7 @@ use Rattle.floor_laws.proofs.Members.{any-In, contains_In, map-In}
 use Rattle.engine_laws.specs.Joints.{IsNowLast}
 use Rattle.engine_laws.specs.JointLaws.{RestIn}
 use Rattle.engine_laws.specs.Manifests.{IsLive, IsWell}
-use Rattle.engine_laws.specs.Moves.{AreDead, IsLiveName}
+use Rattle.engine_laws.specs.Moves.{AreDead, IsLiveName, IsLiveTable}
 use Rattle.engine_laws.specs.Standing.{FolderSays, Says}
 use Rattle.engine_laws.specs.Engine.{newest_log_of}
 use Rattle.engine_laws.proofs.Folding.{dropped_dead, live_In}
@@ -56,15 +56,15 @@ pub table_free : (fold : Folded) (n : ℕ) → is_live fold.families n ≡ false
 table_free fold n free i f t live is = false≢true (sym free ∙ ap (is_live fold.families) (sym is) ∙ live_true fold i f t live)
 
 pub table_dead : (manifest : FileName) (fold : Folded) (n : ℕ) → is_live fold.families n ≡ false → AreDead manifest fold (Contains (Table n ∷ []))
-table_dead manifest fold n free name held live = elim (contains_In (Table n ∷ []) name held) [
-  | inl q ↦ let l = subst (IsLiveName manifest fold) (sym q) live in table_free fold n free l.0 l.1 l.2.0 l.2.1 l.2.2
+table_dead manifest fold n free name there live = elim (contains_In (Table n ∷ []) name there) [
+  | inl q ↦ let l : IsLiveTable fold n = subst (IsLiveName manifest fold) (sym q) live in table_free fold n free l.0 l.1 l.2 l.3 l.4
   | inr none ↦ absurd none
 ]
 
 -- the logs that an edit drops
 pub dropped_names : (manifest : FileName) (fold : Folded) (edit : Edit) → IsAccepted fold edit → IsWell fold → AreDead manifest (fold_with fold edit) (Contains (map Log edit.drop_logs))
-dropped_names manifest fold edit accepted well name held live =
-    let r = map-In Log name edit.drop_logs (contains_In (map Log edit.drop_logs) name held) in
+dropped_names manifest fold edit accepted well name there live =
+    let r = map-In Log name edit.drop_logs (contains_In (map Log edit.drop_logs) name there) in
     let l = subst (IsLiveName manifest (fold_with fold edit)) (sym r.2) live in
     dropped_dead fold edit r.0 accepted well r.1 (contains_In (fold_with fold edit).logs r.0 l)
 

@@ -2,7 +2,7 @@
 use Rattle.std.proofs.Common.{◌≡◌, ◌⊎◌, ℕ, zero, suc, ◌+◌, ◌-◌, ◌<◌, ◌≤◌, ◌==◌, ◌&&◌, Bool, true, false, List, [], ◌∷◌, ◌++◌, drop, length, take, Some, refl, sym, ap, ◌∙◌, subst, arith, inl, inr}
 use Rattle.std.specs.Prelude.{Contains, if◌then◌else◌, nat_lt, not, slice_get}
 use Rattle.std.specs.List.Sorted.{IsPermutation}
-use Rattle.std.proofs.lemmas.Bool.{cases_Bool, eqb-true, false≢true, ltb-false, ltb-true}
+use Rattle.std.proofs.lemmas.Bool.{cases_Bool, false≢true, ltb-false, ne_eqb}
 use Rattle.std.proofs.lemmas.List.{length-drop, take-append-drop}
 use Rattle.std.proofs.lemmas.List.Sorted.{Contains-permutation}
 use Rattle.ts_key.specs.declared.numbers.Family.{Family}
@@ -83,14 +83,13 @@ needs_none last g e = elim (cases_Bool (nat_lt g.through.0 last)) [
 ] where
   empty : (vs : List Version) → not (length vs == 0) ≡ false → vs ≡ []
   empty [] z = refl
-  empty (v ∷ vs) z = absurd (cc)
+  empty (v ∷ vs) z = let e : (length (v ∷ vs) == 0) ≡ false = ne_eqb (length (v ∷ vs)) 0 (λ q. omega (arith, q)) in let w : true ≡ false = rw e at z in absurd (false≢true (sym w))
 
 none_above : (family : Family) (through last : ℕ) (w : List Version) → ((v : Version) → In v w → v.seq.0 ≤ last) → between family through last w ≡ [] → above family through w ≡ []
 none_above family through last w bounded none = nothing (above family through w) (λ v i.
     let a = filter-In (is_above_through family through) v w i in
     let t = above_true family through v a.1 in
-    subst (In v) none (In-between family through last w v a.0 t.0 t.1 (bounded v a.0)))
-where
+    subst (In v) none (In-between family through last w v a.0 t.0 t.1 (bounded v a.0))) where
   nothing : (vs : List Version) → ((v : Version) → In v vs → ⊥) → vs ≡ []
   nothing [] h = refl
   nothing (v ∷ vs) h = absurd (h v (inl refl))
@@ -111,8 +110,7 @@ module _ (next : State) (s : Says) (older : OlderLogs) (version : SuperVersion) 
         | inr none ↦
             let left = between family f.through.0 next.last.0 next.versions in
             inr (none_above family f.through.0 next.last.0 next.versions bounded (nothing left (λ v j. contains_In [] v (subst (λ (vs : List Version). Contains vs v) none (Contains-permutation left (versions_held g) v shown.holds (In-contains left v j))))))
-      ]
-  where
+      ] where
     nothing : (vs : List Version) → ((v : Version) → In v vs → ⊥) → vs ≡ []
     nothing [] h = refl
     nothing (v ∷ vs) h = absurd (h v (inl refl))

@@ -3,7 +3,7 @@ use Rattle.std.proofs.Common.{◌≡◌, ℕ, ◌+◌, ◌-◌, ◌^◌, ◌≤�
 use Rattle.std.specs.Prelude.{Contains}
 use Rattle.udt_disk.specs.Causes.{plus_faults}
 use Rattle.udt_disk.specs.Crash.{Image}
-use Rattle.udt_disk.specs.Joint.{IsFree, Ran}
+use Rattle.udt_disk.specs.Joint.{Folder, IsFree, Ran}
 use Rattle.udt_disk.specs.Moments.{MayLeave}
 use Rattle.udt_disk.specs.declared.file.DiskFile as file
 use Rattle.udt_disk.specs.declared.disk.Disk as disk
@@ -62,7 +62,7 @@ module _ {D F : Type 0} (d : disk.Ghosts D F) (f : file.Ghosts F) (now_last : Is
   ]
 
   module _ (old mid new : Engine D F f) (edit : Edit) (ended : Result (Unit {0}) EngineFault) (given : F) (kept : ReservesEdit f edit old mid ended) (back : IsGivenBack d f given mid new) where
-    names : List FileName
+    abbrev names : List FileName
     names = f.name given ∷ []
 
     pub back_running : IsRunning new
@@ -98,7 +98,7 @@ module _ {D F : Type 0} (d : disk.Ghosts D F) (f : file.Ghosts F) (now_last : Is
 
       pub back_ran : (m : State) (c : Course) (s : Says) (waiting : List Numbered) → HoldsState m c s waiting → IsEngineOf d f old s waiting → RanOn d f m c old new
       back_ran m c s waiting h of =
-          let P = λ folder. StandsForSome ReadsAsTable folder (IsOutcome m c) in
+          let P : Folder → Type 0 = λ folder. StandsForSome ReadsAsTable folder (IsOutcome m c) in
           subst (λ j. Ran d f P j (held new)) (reserved_held d f now_last old mid edit ended kept)
           (ran_more d f (λ folder. FolderSays ReadsAsTable folder s) P (λ folder r. stands_rest ReadsAsTable folder m c s waiting h r) (held mid) (held new)
           (aside_ran d f now_last names mid new back.aside given_dead s waiting (reserved_of d f now_last old mid edit ended kept s waiting of)))

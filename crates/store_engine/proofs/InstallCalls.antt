@@ -57,7 +57,7 @@ module _ {D F : Type 0} (d : disk.Ghosts D F) (f : file.Ghosts F) (now_last : Is
     wal = record { name = same.wal.name ∙ led.wal.name; told = same.wal.told ∙ led.wal.told; model = same.wal.model ∙ led.wal.model };
     manifest = record { name = same.manifest.name ∙ led.manifest.name; told = same.manifest.told ∙ led.manifest.told; model = same.manifest.model ∙ led.manifest.model };
     touches = subst (Touches d (λ name. name ≡ f.name given) old.disk) (sym same.disk) led.touches;
-    one = λ one. one_stays d f now_last mid new same (led.one one);
+    one = λ one. one_stays d f mid new same (led.one one);
     next = next ∙ led.next;
   }
 
@@ -71,7 +71,7 @@ module _ {D F : Type 0} (d : disk.Ghosts D F) (f : file.Ghosts F) (now_last : Is
       manifest = record { name = ap (λ k. f.name (manifest_file k)) given_back.aside.manifest ∙ same_mid.manifest.name; told = ap (λ k. f.is_told (manifest_file k)) given_back.aside.manifest ∙ same_mid.manifest.told; model = ap (λ k. f.keeps_model (manifest_file k)) given_back.aside.manifest ∙ same_mid.manifest.model };
       touches = subst (λ x. Touches d (λ name. name ≡ f.name given) x back.disk) same_mid.disk
           (touches_more d (Contains (f.name given ∷ [])) (λ name. name ≡ f.name given) mid.disk back.disk (λ name i. only_given (f.name given) name i) given_back.aside.touches);
-      one = λ one. aside_one d f now_last (f.name given ∷ []) mid back given_back.aside (one_stays d f now_last old mid same_mid one);
+      one = λ one. aside_one d f now_last (f.name given ∷ []) mid back given_back.aside (one_stays d f old mid same_mid one);
       next = given_back.aside.next ∙ kept.next;
     }
 
