@@ -1,6 +1,7 @@
 //! The families of a store by their names.
 
 ghost use Rattle.std.specs.Prelude.{◌≡◌, ◌^◌, ◌<◌, length, map, IfOk};
+ghost use Rattle.manifest_fold.specs.declared.fold.FamilyFold.{FamilyFold as Fold};
 ghost use Rattle.solo_store.specs.Names.{family_named as number_named, is_any_unnamed};
 
 use crate::NoMemory;
@@ -11,7 +12,7 @@ use udt_model::NamedOp;
 
 /// The names of families, in order.
 pub(crate) fn names_of(alloc: Global, families: &[FamilyFold]) -> Result<Vec<Name>, NoMemory>
-    ensures { IfOk result (λ names. names.items ≡ map (λ family. family.name) families.now) }
+    ensures { IfOk result (λ names. names.items ≡ map (λ (f : Fold). f.name) families.now) }
 {
     let mut names = Vec::with_capacity(alloc, families.len())?;
     for family in families {
