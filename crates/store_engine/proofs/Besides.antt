@@ -1,6 +1,6 @@
 -- Acts that an engine doesn't take: what they leave of the state that it holds.
-use Rattle.std.proofs.Common.{◌≡◌, ℕ, ◌+◌, ◌<◌, ◌≤◌, Bool, true, false, List, length, Option, refl, sym, ap, ◌∙◌, subst, inl, inr}
-use Rattle.std.specs.Prelude.{All, Contains, IsTrue, Some, if◌then◌else◌, slice_get}
+use Rattle.std.proofs.Common.{◌≡◌, ℕ, ◌<◌, ◌≤◌, Bool, false, List, length, Option, refl, sym, ap, ◌∙◌, subst, inl, inr}
+use Rattle.std.specs.Prelude.{All, Contains, IsTrue, if◌then◌else◌, slice_get}
 use Rattle.std.proofs.lemmas.Bool.{false≢true}
 use Rattle.ts_key.specs.declared.numbers.Seq.{Seq}
 use Rattle.ts_key.specs.declared.version.Version.{Version}
@@ -13,7 +13,7 @@ use Rattle.udt_model.specs.Versions.{between}
 use Rattle.udt_model.specs.Acts.{Act}
 use Rattle.udt_model.specs.Acts.Act.{compact_end, compact_start, flush_end, flush_start, make_snapshot, raise, release, sync_all, write}
 use Rattle.udt_model.specs.Steps.{IsReplyTo, after, without_job}
-use Rattle.udt_model.specs.Crashes.{Course, Failing, IsCut, IsFailed, IsOutcome, course_after, cut_at, ends_after, failing_after, syncs}
+use Rattle.udt_model.specs.Crashes.{Course, Failing, IsFailed, IsOutcome, course_after, ends_after, failing_after, syncs}
 use Rattle.super_version.specs.declared.version.SuperVersion.{SuperVersion}
 use Rattle.floor_laws.proofs.Courses.{course_sound}
 use Rattle.floor_laws.proofs.Told.{sound_after}
@@ -70,6 +70,10 @@ syncs_beside act reply is = refl
 
 failing_beside : (m : State) (number : ℕ) (o : Option Failing) (act : Act) (reply : Reply) → IsTrue (is_beside act reply) → failing_after m number o act reply ≡ o
 failing_beside m number o act Fault is = absurd (false≢true is)
+failing_beside m number o (write ops sync) reply is = refl
+failing_beside m number o (raise i floor) reply is = refl
+failing_beside m number o (flush_end i start) reply is = refl
+failing_beside m number o (compact_end i start) reply is = refl
 failing_beside m number o act reply is = refl
 
 now_beside : (now : SuperVersion) (m next : State) → AreSameKept m next → ((job : Flush) → next.flush ≡ Some job → m.flush ≡ Some job) → IsNow now m → IsNow now next

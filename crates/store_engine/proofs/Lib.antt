@@ -28,3 +28,5 @@ pub mod InstallCalls
 pub mod Besides
 pub mod Leaving
 pub mod Covering
+pub mod SealedVersion
+pub mod Rolling

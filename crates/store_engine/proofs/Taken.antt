@@ -9,7 +9,7 @@ use Rattle.udt_disk.specs.Moments.{MayLeave, holding}
 use Rattle.udt_disk.specs.declared.file.DiskFile as file
 use Rattle.udt_disk.specs.declared.disk.Disk as disk
 use Rattle.udt_disk.specs.declared.name.FileName.{FileName}
-use Rattle.udt_disk.specs.declared.name.FileName.TheVariants.{Current, Log, Made, Manifest0, Manifest1, Table}
+use Rattle.udt_disk.specs.declared.name.FileName.TheVariants.{Current, Log, Made, Table}
 use Rattle.wal.specs.declared.numbered.Numbered.{Numbered}
 use Rattle.wal.specs.Records.{IsLoggedBatch}
 use Rattle.wal.specs.Replays.{ReadsAs}

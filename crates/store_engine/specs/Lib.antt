@@ -11,3 +11,4 @@ pub mod Older
 pub mod Jobs
 pub mod Dropping
 pub mod Installing
+pub mod Sealing

@@ -9,11 +9,13 @@ mod lab;
 mod latest;
 mod laws;
 mod older;
+mod seal;
 mod unflushed;
 
 pub use engine::Engine;
 pub use fault::EngineFault;
 pub use laws::{engines_hold_besides, engines_leave_outcomes};
+pub use seal::Sealed;
 
 /// Memory ran out.
 pub type NoMemory = std::alloc::AllocError;

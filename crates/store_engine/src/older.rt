@@ -1,6 +1,7 @@
 //! What an engine knows of the live logs that take no more batches.
 
-ghost use Rattle.std.specs.Prelude.{◌≡◌, ◌++◌, [], ◌∷◌, IfOk};
+ghost use Rattle.std.specs.Prelude.{◌≡◌, ◌++◌, ◌==◌, [], ◌∷◌, find, IfOk};
+ghost use Rattle.std.specs.Option.{option_copied};
 ghost use Rattle.store_engine.specs.Older.{last_in};
 
 use crate::NoMemory;
@@ -34,11 +35,18 @@ impl OlderLogs {
         }
     }
 
+    /// The log of this number, where the engine has rolled it.
+    fn log(&self, number: u64) -> Option<&RolledLog>
+        ensures { option_copied result ≡ find (λ log. log.number == number) self.now.rolled.items }
+    {
+        self.rolled.iter().find(|log| log.number == number)
+    }
+
     /// The sequence up to which the log may have versions.
     pub(crate) fn last_in(&self, number: u64) -> Seq
         ensures { result.0 ≡ last_in self.now number }
     {
-        match self.rolled.iter().find(|log| log.number == number) {
+        match self.log(number) {
             Some(log) => log.last,
             None => self.opened,
         }

@@ -10,7 +10,7 @@ use std::sync::Arc;
 use super_version::FamilyState;
 
 /// The memtable has a version.
-fn has_versions(mem: &Mem) -> bool
+pub(crate) fn has_versions(mem: &Mem) -> bool
     ensures { result ≡ not (length (versions_of_memtable mem.now) == 0) }
 {
     mem.runs() > 0
