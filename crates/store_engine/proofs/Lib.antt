@@ -19,6 +19,7 @@ pub mod Current
 pub mod Writing
 pub mod Raising
 pub mod NowFlushed
+pub mod Loops
 pub mod Aside
 pub mod FlushEdits
 pub mod DroppedLogs
