@@ -23,3 +23,4 @@ pub mod Leaving
 pub mod Covering
 pub mod SealedVersion
 pub mod Rolling
+pub mod NowSealed

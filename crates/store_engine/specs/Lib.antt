@@ -9,3 +9,4 @@ pub mod Admission
 pub mod Laws
 pub mod Older
 pub mod Sealing
+pub mod Jobs
