@@ -24,3 +24,5 @@ pub mod Covering
 pub mod SealedVersion
 pub mod Rolling
 pub mod NowSealed
+pub mod Sealing
+pub mod RollSteps
