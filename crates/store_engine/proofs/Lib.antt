@@ -26,3 +26,4 @@ pub mod Rolling
 pub mod NowSealed
 pub mod Sealing
 pub mod RollSteps
+pub mod SealCalls
