@@ -7,6 +7,7 @@ pub mod NowRaised
 pub mod OneForOne
 pub mod NowOpened
 pub mod Answering
+pub mod JobNumbers
 pub mod Counts
 pub mod Files
 pub mod Together

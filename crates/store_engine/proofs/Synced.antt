@@ -34,6 +34,7 @@ use Rattle.engine_laws.proofs.Syncing.{sync_holds}
 use Rattle.recovery.specs.Tables.{ReadsAsTable}
 use Rattle.recovery.specs.Versions.{FitsFold}
 use Rattle.store_engine.specs.Engines.{HoldsNow, IsCurrent, IsEngineOf, IsOneFolder, IsRunning, engine_faults, has_failed, held}
+use Rattle.store_engine.specs.Jobs.{IsJobNumber}
 use Rattle.store_engine.specs.Now.{IsNow}
 use Rattle.store_engine.specs.Older.{CoversOlder}
 use Rattle.store_engine.specs.Steps.{IsCalled, IsLogSynced, IsSameFolder}
@@ -46,6 +47,7 @@ use Rattle.store_engine.specs.Replies.{is_disk_fault}
 use Rattle.store_engine.proofs.Answering.{disk_cause, on_ok, one_stays}
 use Rattle.store_engine.proofs.Counts.{cause_second}
 use Rattle.store_engine.proofs.Covering.{covers_synced}
+use Rattle.store_engine.proofs.JobNumbers.{jobs_kept}
 use Rattle.store_engine.proofs.Files.{first_ran, same_joint}
 
 module _ {D F : Type 0} (d : disk.Ghosts D F) (f : file.Ghosts F) (now_last : IsNowLast d f) where
@@ -149,13 +151,17 @@ module _ {D F : Type 0} (d : disk.Ghosts D F) (f : file.Ghosts F) (now_last : Is
         (subst (λ k. HasCause (engine_faults d f old) (plus_faults (plus_faults a y) (f.faults (manifest_file k))) result) (sym synced.manifest)
         (cause_second a (f.faults (wal_file old.wal)) y b result synced.cause))
 
+    synced_jobs : (n : ℕ) → IsJobNumber old n → IsJobNumber new n
+    synced_jobs = jobs_kept f old new synced.next (ap manifest_folded synced.manifest)
+
     pub synced_called : IsCalled d f old new result
     synced_called = elim result as (λ r. HasCause (engine_faults d f old) (engine_faults d f new) r → OnOk r (IsRunning new) → has_failed new ≡ is_disk_failure r → IfErr r (λ fault. fault ≡ DiskFault) → IsCalled d f old new r) [
-      | Ok u ↦ λ cause running failed fault. record { same = synced_folder; one = synced_one; next = synced.next; untouched = tt; running = λ not. running; failed = failed; counted = cause.kept }
+      | Ok u ↦ λ cause running failed fault. record { same = synced_folder; one = synced_one; next = synced.next; jobs = synced_jobs; untouched = tt; running = λ not. running; failed = failed; counted = cause.kept }
       | Err e ↦ λ cause running failed fault. record {
         same = synced_folder;
         one = synced_one;
         next = synced.next;
+        jobs = synced_jobs;
         untouched = λ not. absurd (false≢true (sym not ∙ ap is_disk_fault fault));
         running = λ not. absurd (false≢true (sym not ∙ ap is_disk_fault fault));
         failed = failed;

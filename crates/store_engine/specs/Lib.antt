@@ -8,4 +8,5 @@ pub mod Now
 pub mod Admission
 pub mod Laws
 pub mod Older
+pub mod Jobs
 pub mod Sealing
