@@ -50,7 +50,7 @@ get_changed (suc n) (suc k) change (x ∷ xs) y there =
     let r = get_changed n k change xs y there in
     (r.0, r.1, ((λ e. r.2.0 (omega (arith, e))), λ ne. r.2.1 (λ e. ne (ap suc e))))
 
-length_changed : {X : Type 0} (n : ℕ) (change : X → X) (xs : List X) → length (item_changed_at n change xs) ≡ length xs
+pub length_changed : {X : Type 0} (n : ℕ) (change : X → X) (xs : List X) → length (item_changed_at n change xs) ≡ length xs
 length_changed n change [] = refl
 length_changed zero change (x ∷ xs) = refl
 length_changed (suc n) change (x ∷ xs) = ap suc (length_changed n change xs)

@@ -24,3 +24,7 @@ pub mod Leaving
 pub mod Covering
 pub mod SealedVersion
 pub mod Rolling
+pub mod NowSealed
+pub mod Sealing
+pub mod RollSteps
+pub mod SealCalls

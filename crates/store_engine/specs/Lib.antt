@@ -10,3 +10,4 @@ pub mod Laws
 pub mod Older
 pub mod Jobs
 pub mod Sealing
+pub mod Jobs

@@ -1,13 +1,16 @@
 //! Seals: what a family has in memory is made ready for a flush, and the log goes on with a new file.
 
-ghost use Rattle.std.specs.Prelude.{◌≡◌, ◌+◌, ◌<◌, [], ◌∷◌, length, IfOk, false, map, reverse};
+ghost use Rattle.std.specs.Prelude.{◌≡◌, ℕ, ◌+◌, ◌<◌, [], ◌∷◌, length, slice_get, IfErr, IfOk, None, false, map, reverse};
 ghost use Rattle.std.specs.Arc.{arc_value};
 ghost use Rattle.wal.specs.Wals.{wal_pending};
+ghost use Rattle.udt_model.specs.Crashes.{Course};
+ghost use Rattle.udt_model.specs.State.{State};
 ghost use Rattle.manifest_fold.specs.declared.limits.TheConstants.{FILE_NUMBER_LIMIT};
 ghost use Rattle.manifest_fold.specs.Folds.{IsAccepted, newest_log};
 ghost use Rattle.manifest.specs.Manifest.{IsEditReserved, manifest_folded};
 ghost use Rattle.engine_laws.specs.Installs.{roll_edit as edit_of_roll};
-ghost use Rattle.store_engine.specs.Sealing.{IsLogRolled, IsRolled, ShowsSeal};
+ghost use Rattle.store_engine.specs.Replies.{is_disk_fault};
+ghost use Rattle.store_engine.specs.Sealing.{AnswersSeal, IsLogRolled, IsRolled, IsSealed, SealsActive, ShowsSeal, ShowsSealed, TellsSeal, after_seal, course_after_seal, rolled_count, version_after};
 ghost use Rattle.store_engine.specs.Steps.{IsEdited};
 ghost use Rattle.store_engine.specs.Together.{IsReadyFor};
 
@@ -164,5 +167,82 @@ impl<D: Disk> Engine<D> {
             Err(fault) => return Err(fault),
         }
         self.append_roll(edit)
+    }
+
+    /// Seals the active memtable of a family, which there is, and rolls the log. Memory is taken before the first call on the disk.
+    fn seal_active(
+        &mut self,
+        alloc: Global,
+        now: &SuperVersion,
+        family: Family,
+    ) -> Result<Sealed, EngineFault>
+        requires running { IsRunning self.old }
+        requires current { IsCurrent self.old now.now }
+        requires known { family.0 < length now.now.families }
+        requires next { self.old.next < FILE_NUMBER_LIMIT }
+        ensures { SealsActive D.Disk D.File.DiskFile now.now family self.old self.new result }
+    {
+        let newest = newest_of(self.manifest.fold().logs.as_slice());
+        let (version, mems) = match version_with_seal(alloc, now, family) {
+            Ok(made) => made,
+            Err(_) => return Err(EngineFault::NoMemory),
+        };
+        let older = match self.older.with(alloc, newest, now.last) {
+            Ok(older) => older,
+            Err(_) => return Err(EngineFault::NoMemory),
+        };
+        let edit = match roll_edit(alloc, self.next, now.last) {
+            Ok(edit) => edit,
+            Err(_) => return Err(EngineFault::NoMemory),
+        };
+        match self.reserve_edit(alloc, &edit) {
+            Ok(()) => {}
+            Err(fault) => return Err(fault),
+        }
+        match self.roll(&edit, older) {
+            Ok(()) => Ok(Sealed::Rolled { version, mems }),
+            Err(fault) => Err(fault),
+        }
+    }
+
+    /// Makes ready for a flush what a family has in memory: its active memtable is sealed, and the log goes on with a new file, which
+    /// the manifest names then; nothing waits any more. `Nothing` comes exactly where no version of the family is unflushed, then `FilesFull`
+    /// where the next file number is 2^63, and `Waiting` where the active memtable is empty. A crash at any moment loses nothing that was
+    /// synced. Memory is taken before the first call on the disk.
+    pub fn seal(
+        &mut self,
+        alloc: Global,
+        now: &SuperVersion,
+        family: Family,
+    ) -> Result<Sealed, EngineFault>
+        requires running { IsRunning self.old }
+        requires current { IsCurrent self.old now.now }
+
+        // While no flush runs.
+        ensures tells { (m : State) (c : Course) → HoldsNow D.Disk D.File.DiskFile self.old now.now m c → m.flush ≡ None → TellsSeal m family result }
+        ensures holds { (m : State) (c : Course) (number : ℕ) → HoldsNow D.Disk D.File.DiskFile self.old now.now m c → m.flush ≡ None → IfOk result (λ done. HoldsNow D.Disk D.File.DiskFile self.new (version_after now.now done) (after_seal m number family done) (course_after_seal m number c family done)) }
+        ensures moments { (m : State) (c : Course) → HoldsNow D.Disk D.File.DiskFile self.old now.now m c → RanOn D.Disk D.File.DiskFile m c self.old self.new }
+        ensures refused { IfErr result (λ fault. is_disk_fault fault ≡ false → HoldsAsBefore D.Disk D.File.DiskFile self.old self.new) }
+        ensures current { IfOk result (λ done. IsCurrent self.new (version_after now.now done)) }
+
+        // Whether or not the disk tells what it holds.
+        ensures answers { AnswersSeal (slice_get now.now.families family.0) self.old.next result }
+        ensures shown { IfOk result (ShowsSealed family now.now) }
+        ensures still { IfOk result (λ done. rolled_count result ≡ 0 → self.new ≡ self.old) }
+        ensures called { IsSealed D.Disk D.File.DiskFile self.old self.new result }
+    {
+        let Some(state) = now.family(family) else {
+            return Err(EngineFault::UnknownFamily);
+        };
+        if !has_unflushed(state) {
+            return Ok(Sealed::Nothing);
+        }
+        if self.next == FILE_NUMBER_LIMIT {
+            return Err(EngineFault::FilesFull { next: self.next });
+        }
+        if !has_versions(&state.active) {
+            return Ok(Sealed::Waiting);
+        }
+        self.seal_active(alloc, now, family)
     }
 }
