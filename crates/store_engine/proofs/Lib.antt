@@ -19,6 +19,14 @@ pub mod Taken
 pub mod Current
 pub mod Writing
 pub mod Raising
+pub mod NowFlushed
+pub mod Loops
+pub mod Aside
+pub mod FlushEdits
+pub mod DroppedLogs
+pub mod GivenBack
+pub mod Installed
+pub mod InstallCalls
 pub mod Besides
 pub mod Leaving
 pub mod Covering

@@ -9,5 +9,6 @@ pub mod Admission
 pub mod Laws
 pub mod Older
 pub mod Jobs
+pub mod Dropping
+pub mod Installing
 pub mod Sealing
-pub mod Jobs

@@ -166,12 +166,12 @@ impl<D: Disk> Engine<D> {
         }
     }
 
-    /// Adds a reserved edit of families to the manifest. It takes no memory.
+    /// Adds a reserved edit that adds no log to the manifest. It takes no memory.
     pub(crate) fn append_edit(&mut self, edit: &Edit) -> Result<(), EngineFault>
         requires running { IsRunning self.old }
         requires accepted { IsAccepted (manifest_folded self.old.manifest) edit.now }
         requires reserved { IsEditReserved D.File.DiskFile self.old.manifest edit.now }
-        requires logs { (edit.now.add_logs ≡ []) × (edit.now.drop_logs ≡ []) }
+        requires logs { edit.now.add_logs ≡ [] }
         requires next { edit.now.next_file ≤ self.old.next }
         ensures { IsEdited D.File.DiskFile edit.now self.old self.new result }
     {

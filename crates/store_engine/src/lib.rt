@@ -4,6 +4,8 @@
 mod admission;
 mod engine;
 mod fault;
+mod install;
+mod lab;
 mod latest;
 mod laws;
 mod older;

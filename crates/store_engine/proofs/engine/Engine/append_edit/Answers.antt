@@ -20,7 +20,7 @@ returns-in-Ok g c =
       unchanged = tt;
       cause = record { later = e.cause.later; failed = tt; kept = e.cause.kept };
       same = e.same;
-      running = record { together = together_edited g.D.File.DiskFile c.args.self.now.manifest c.append.new.self c.args.self.now.wal c.args.self.now.next c.args.edit.now c.requires.running.together c.requires.accepted c.requires.logs.0 c.requires.logs.1 c.requires.next e.fold e.still_ready; runs = c.requires.running.runs };
+      running = record { together = together_edited g.D.File.DiskFile c.args.self.now.manifest c.append.new.self c.args.self.now.wal c.args.self.now.next c.args.edit.now c.requires.running.together c.requires.accepted c.requires.logs c.requires.next e.fold e.still_ready; runs = c.requires.running.runs };
       failed = c.requires.running.runs;
       fault = tt;
     }

@@ -636,7 +636,7 @@ append_edit-requires-clause-logs g c =
     let two = c.sync_log.new.self in
     let kept = c.in-Ok-reserve_edit.ensures in
     let synced = c.in-Ok-sync_log.ensures in
-    λ κs outlived. (ap (λ (x : Edit). x.add_logs) is, ap (λ (x : Edit). x.drop_logs) is)
+    λ κs outlived. ap (λ (x : Edit). x.add_logs) is
 
 pub returns-in-Err-reserve_edit-clause-answers : goal.returns-in-Err-reserve_edit-clause-answers
 returns-in-Err-reserve_edit-clause-answers g c =
