@@ -169,18 +169,46 @@ const CALLS: [(FileName, u64); 4] = [
     (LOG, 18),
 ];
 
-/// What the run prints where this call fails.
-fn told(name: FileName, call: u64) -> &'static str {
-    if name != LOG || call < 3 {
-        return "disk fault\n";
+/// Each call of the run, failing once and for good, and of each file the call behind its last, which isn't made.
+fn troubles(alloc: Global) -> Result<Vec<Trouble>, Fail> {
+    let mut troubles = Vec::new(alloc);
+    for (name, calls) in CALLS {
+        for call in 1..=calls.saturating_add(1) {
+            for lasting in [false, true] {
+                troubles.push(Trouble {
+                    name,
+                    call,
+                    lasting,
+                })?;
+            }
+        }
     }
-    match (call - 3) / 4 {
-        0 => TOLD[0],
-        1 => TOLD[1],
-        2 => TOLD[2],
-        3 => TOLD[3],
-        _ => TOLD[4],
+    Ok(troubles)
+}
+
+/// Is the call behind the last one on its file?
+fn is_behind(trouble: Trouble) -> bool {
+    CALLS
+        .iter()
+        .any(|(name, calls)| *name == trouble.name && trouble.call > *calls)
+}
+
+/// The status and the text of the run where this call fails.
+fn told(trouble: Trouble) -> (Status, &'static str) {
+    if is_behind(trouble) {
+        return (Status::Done, TOLD[4]);
     }
+    if trouble.name != LOG {
+        return (Status::DiskFault, "disk fault\n");
+    }
+    let text = match trouble.call {
+        0..=2 => "disk fault\n",
+        3..=6 => TOLD[0],
+        7..=10 => TOLD[1],
+        11..=14 => TOLD[2],
+        _ => TOLD[3],
+    };
+    (Status::DiskFault, text)
 }
 
 /// Does a line or the message tell that the disk failed?
@@ -207,50 +235,17 @@ fn run_with(alloc: Global, trouble: Trouble) -> Result<(Ended, MemHost), Fail> {
 #[test]
 fn accepted_syncs_are_found_after_each_failing_call(rt: HostRuntime) -> Result<(), Fail> {
     let alloc = rt.alloc();
-    for (name, calls) in CALLS {
-        for call in 1..calls.saturating_add(1) {
-            for outcome in OUTCOMES {
-                for lasting in [false, true] {
-                    let trouble = Trouble {
-                        name,
-                        call,
-                        lasting,
-                    };
-                    let (ran, host) = run_with(alloc, trouble)?;
-                    let wanted = told(name, call);
-                    assert!(rt; ran.is(Status::DiskFault, wanted), "{trouble:?}: {ran:?}");
-                    assert!(rt; tells_fault(&ran), "{trouble:?}: {ran:?}");
-                    let mut host = crashed(alloc, host, outcome)?;
-                    let found = run(alloc, &mut host, READS)?;
-                    assert!(rt;
-                        are_found(&ran, &found),
-                        "{trouble:?} {outcome:?}: {found:?}"
-                    );
-                }
-            }
-        }
-    }
-    Ok(())
-}
-
-#[test]
-fn all_is_found_where_no_call_fails(rt: HostRuntime) -> Result<(), Fail> {
-    let alloc = rt.alloc();
-    for (name, calls) in CALLS {
+    for trouble in troubles(alloc)? {
         for outcome in OUTCOMES {
-            let trouble = Trouble {
-                name,
-                call: calls.saturating_add(1),
-                lasting: true,
-            };
             let (ran, host) = run_with(alloc, trouble)?;
-            assert!(rt; ran.is(Status::Done, TOLD[4]), "{name:?}: {ran:?}");
-            assert!(rt; !tells_fault(&ran));
+            let (status, wanted) = told(trouble);
+            assert!(rt; ran.is(status, wanted), "{trouble:?}: {ran:?}");
+            assert!(rt; tells_fault(&ran) == (status == Status::DiskFault), "{ran:?}");
             let mut host = crashed(alloc, host, outcome)?;
             let found = run(alloc, &mut host, READS)?;
             assert!(rt;
-                found.is(Status::Done, FOUND[4]),
-                "{name:?} {outcome:?}: {found:?}"
+                are_found(&ran, &found),
+                "{trouble:?} {outcome:?}: {found:?}"
             );
         }
     }

@@ -111,65 +111,31 @@ fn an_init_that_failed_is_made_again(rt: HostRuntime) -> Result<(), Fail> {
     Ok(())
 }
 
-/// A host after an init in an empty folder in which this call fails, or in which none does, and the init's status.
-fn init_with(alloc: Global, trouble: Trouble) -> Result<(Status, MemHost), Fail> {
-    let mut host = empty_folder(alloc, trouble)?;
-    let ended = init(alloc, &mut host)?;
-    Ok((ended.status, host))
-}
-
 #[test]
 fn a_crash_leaves_no_store_or_the_empty_one(rt: HostRuntime) -> Result<(), Fail> {
     let alloc = rt.alloc();
     for (name, calls) in CALLS {
-        for call in 1..calls.saturating_add(1) {
+        // The call behind the last one isn't made.
+        for call in 1..=calls.saturating_add(1) {
             for outcome in OUTCOMES {
                 let trouble = Trouble {
                     name,
                     call,
                     lasting: true,
                 };
-                let (status, host) = init_with(alloc, trouble)?;
-                assert_eq!(rt; status, Status::DiskFault, "{trouble:?}");
+                let mut host = empty_folder(alloc, trouble)?;
+                let first = init(alloc, &mut host)?;
+                let is_made = call > calls;
+                assert!(rt; (first.status == Status::Done) == is_made, "{trouble:?}");
                 let mut host = crashed(alloc, host, outcome)?;
                 let ran = run(alloc, &mut host, "")?;
-                if !ran.is(Status::Done, EMPTY) {
-                    assert!(rt;
-                        ran.is(Status::Folder, "no store\n"),
-                        "{trouble:?}: {ran:?}"
-                    );
+                if !is_made && ran.is(Status::Folder, "no store\n") {
                     let second = init(alloc, &mut host)?;
-                    assert!(rt;
-                        second.is(Status::Done, "made 2\n"),
-                        "{trouble:?}: {second:?}"
-                    );
-                    let ran = run(alloc, &mut host, "")?;
+                    assert!(rt; second.status == Status::Done, "{trouble:?}: {second:?}");
+                } else {
                     assert!(rt; ran.is(Status::Done, EMPTY), "{trouble:?}: {ran:?}");
                 }
             }
-        }
-    }
-    Ok(())
-}
-
-#[test]
-fn a_crash_leaves_a_store_that_was_made(rt: HostRuntime) -> Result<(), Fail> {
-    let alloc = rt.alloc();
-    for (name, calls) in CALLS {
-        for outcome in OUTCOMES {
-            let trouble = Trouble {
-                name,
-                call: calls.saturating_add(1),
-                lasting: true,
-            };
-            let (status, host) = init_with(alloc, trouble)?;
-            assert_eq!(rt; status, Status::Done, "{name:?}");
-            let mut host = crashed(alloc, host, outcome)?;
-            let ran = run(alloc, &mut host, "")?;
-            assert!(rt;
-                ran.is(Status::Done, EMPTY),
-                "{name:?} {outcome:?}: {ran:?}"
-            );
         }
     }
     Ok(())

@@ -16,19 +16,13 @@ fn tries(
 }
 
 #[test]
-fn a_read_that_fails(rt: HostRuntime) -> Result<(), Fail> {
-    let first = tries(&rt, b"get d a 5\n", Some(1), None)?;
-    assert_eq!(rt; first.status, Status::SourceFault);
-    assert_eq!(rt; first.text.as_slice(), b"source fault\n".as_slice());
-    Ok(())
-}
-
-#[test]
-fn a_later_read_that_fails(rt: HostRuntime) -> Result<(), Fail> {
+fn the_first_or_a_later_read_fails(rt: HostRuntime) -> Result<(), Fail> {
     let long = repeated(&rt, b"", b"\n", 20_000, b"")?;
-    let second = tries(&rt, &long, Some(2), None)?;
-    assert_eq!(rt; second.status, Status::SourceFault);
-    assert_eq!(rt; second.text.as_slice(), b"source fault\n".as_slice());
+    for read in [1, 2] {
+        let cut = tries(&rt, &long, Some(read), None)?;
+        assert_eq!(rt; cut.status, Status::SourceFault);
+        assert_eq!(rt; cut.text.as_slice(), b"source fault\n".as_slice());
+    }
     Ok(())
 }
 
