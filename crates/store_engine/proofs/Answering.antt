@@ -26,13 +26,14 @@ use Rattle.engine_laws.proofs.Joined.{now_leaves}
 use Rattle.recovery.specs.Tables.{ReadsAsTable}
 use Rattle.store_engine.specs.Calls.{RanUnder, Tells}
 use Rattle.store_engine.specs.Admission.{IsInMemory, RefusesRaise, RefusesWrite}
-use Rattle.store_engine.specs.Engines.{HoldsAsBefore, HoldsNow, held}
+use Rattle.store_engine.specs.Engines.{HoldsAsBefore, HoldsNow, IsOneFolder, held}
 use Rattle.store_engine.specs.Replies.{is_disk_fault, reply_of_fault}
 use Rattle.store_engine.specs.Steps.{IsSameFolder}
 use Rattle.store_engine.specs.declared.engine.Engine.{Engine}
 use Rattle.store_engine.specs.declared.fault.EngineFault.{EngineFault}
 use Rattle.store_engine.specs.declared.fault.EngineFault.TheVariants.{DiskFault}
 use Rattle.store_engine.specs.declared.fault.EngineFault.TheVariants as faults
+use Rattle.store_engine.proofs.Together.{named_on}
 
 some_is : {X : Type 0} {x y : X} → Some x ≡ Some y → x ≡ y
 some_is e = cc
@@ -135,6 +136,20 @@ module _ {D F : Type 0} (f : file.Ghosts F) where
     wal = record { name = two.wal.name ∙ one.wal.name; told = two.wal.told ∙ one.wal.told; model = two.wal.model ∙ one.wal.model };
     manifest = record { name = two.manifest.name ∙ one.manifest.name; told = two.manifest.told ∙ one.manifest.told; model = two.manifest.model ∙ one.manifest.model };
   }
+
+module _ {D F : Type 0} (d : disk.Ghosts D F) (f : file.Ghosts F) where
+  -- the same folder is still one
+  pub one_stays : (old new : Engine D F f) → IsSameFolder f old new → IsOneFolder d f old → IsOneFolder d f new
+  one_stays old new same one =
+      let told : d.is_told new.disk ≡ d.is_told old.disk = ap d.is_told same.disk in
+      let model : d.keeps_model new.disk ≡ d.keeps_model old.disk = ap d.keeps_model same.disk in
+      record {
+        named = named_on f old.manifest new.manifest old.wal new.wal same.manifest.name same.wal.name one.named;
+        wal_told = same.wal.told ∙ one.wal_told ∙ sym told;
+        wal_model = same.wal.model ∙ one.wal_model ∙ sym model;
+        manifest_told = same.manifest.told ∙ one.manifest_told ∙ sym told;
+        manifest_model = same.manifest.model ∙ one.manifest_model ∙ sym model;
+      }
 
 module _ {D F : Type 0} (d : disk.Ghosts D F) (f : file.Ghosts F) (now_last : IsNowLast d f) where
   pub same_folder : (engine : Engine D F f) → IsSameFolder f engine engine

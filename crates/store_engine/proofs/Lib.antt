@@ -18,3 +18,5 @@ pub mod Taken
 pub mod Current
 pub mod Writing
 pub mod Raising
+pub mod Besides
+pub mod Leaving

@@ -42,10 +42,9 @@ use Rattle.store_engine.specs.declared.fault.EngineFault.{EngineFault}
 use Rattle.store_engine.specs.declared.fault.EngineFault.TheVariants.{DiskFault}
 use Rattle.store_engine.specs.Calls.{is_disk_failure}
 use Rattle.store_engine.specs.Replies.{is_disk_fault}
-use Rattle.store_engine.proofs.Answering.{disk_cause, on_ok}
+use Rattle.store_engine.proofs.Answering.{disk_cause, on_ok, one_stays}
 use Rattle.store_engine.proofs.Counts.{cause_second}
 use Rattle.store_engine.proofs.Files.{first_ran, same_joint}
-use Rattle.store_engine.proofs.Together.{named_on}
 
 module _ {D F : Type 0} (d : disk.Ghosts D F) (f : file.Ghosts F) (now_last : IsNowLast d f) where
   -- the sizes are those of the fold
@@ -61,17 +60,15 @@ module _ {D F : Type 0} (d : disk.Ghosts D F) (f : file.Ghosts F) (now_last : Is
     pub synced_held : held new ≡ holding old.disk (wal_file new.wal ∷ manifest_file old.manifest ∷ [])
     synced_held = same_joint new.disk old.disk (wal_file new.wal) (wal_file new.wal) (manifest_file new.manifest) (manifest_file old.manifest) synced.disk refl (ap (λ m. manifest_file m) synced.manifest)
 
+    pub synced_folder : IsSameFolder f old new
+    synced_folder = record {
+      disk = synced.disk;
+      wal = synced.same;
+      manifest = record { name = ap (λ m. f.name (manifest_file m)) synced.manifest; told = ap (λ m. f.is_told (manifest_file m)) synced.manifest; model = ap (λ m. f.keeps_model (manifest_file m)) synced.manifest };
+    }
+
     pub synced_one : IsOneFolder d f old → IsOneFolder d f new
-    synced_one one =
-        let told : d.is_told new.disk ≡ d.is_told old.disk = ap d.is_told synced.disk in
-        let model : d.keeps_model new.disk ≡ d.keeps_model old.disk = ap d.keeps_model synced.disk in
-        record {
-          named = named_on f old.manifest new.manifest old.wal new.wal (ap (λ m. f.name (manifest_file m)) synced.manifest) synced.same.name one.named;
-          wal_told = synced.same.told ∙ one.wal_told ∙ sym told;
-          wal_model = synced.same.model ∙ one.wal_model ∙ sym model;
-          manifest_told = ap (λ m. f.is_told (manifest_file m)) synced.manifest ∙ one.manifest_told ∙ sym told;
-          manifest_model = ap (λ m. f.keeps_model (manifest_file m)) synced.manifest ∙ one.manifest_model ∙ sym model;
-        }
+    synced_one = one_stays d f old new synced_folder
 
     module _ (m : State) (c : Course) (s : Says) (waiting : List Numbered) (h : HoldsState m c s waiting) (of : IsEngineOf d f old s waiting) (together : AreTogether old.manifest old.wal old.next) where
       abbrev name : FileName
@@ -140,13 +137,6 @@ module _ {D F : Type 0} (d : disk.Ghosts D F) (f : file.Ghosts F) (now_last : Is
       | Err e ↦ λ goes_on none. tt
     ] (synced.goes_on (next.last.0 + 1) goes) synced.pending
 
-    pub synced_folder : IsSameFolder f old new
-    synced_folder = record {
-      disk = synced.disk;
-      wal = synced.same;
-      manifest = record { name = ap (λ m. f.name (manifest_file m)) synced.manifest; told = ap (λ m. f.is_told (manifest_file m)) synced.manifest; model = ap (λ m. f.keeps_model (manifest_file m)) synced.manifest };
-    }
-
     pub synced_cause : HasCause (engine_faults d f old) (engine_faults d f new) result
     synced_cause =
         let a = d.faults old.disk in
@@ -158,9 +148,10 @@ module _ {D F : Type 0} (d : disk.Ghosts D F) (f : file.Ghosts F) (now_last : Is
 
     pub synced_called : IsCalled d f old new result
     synced_called = elim result as (λ r. HasCause (engine_faults d f old) (engine_faults d f new) r → OnOk r (IsRunning new) → has_failed new ≡ is_disk_failure r → IfErr r (λ fault. fault ≡ DiskFault) → IsCalled d f old new r) [
-      | Ok u ↦ λ cause running failed fault. record { same = synced_folder; next = synced.next; untouched = tt; running = λ not. running; failed = failed; counted = cause.kept }
+      | Ok u ↦ λ cause running failed fault. record { same = synced_folder; one = synced_one; next = synced.next; untouched = tt; running = λ not. running; failed = failed; counted = cause.kept }
       | Err e ↦ λ cause running failed fault. record {
         same = synced_folder;
+        one = synced_one;
         next = synced.next;
         untouched = λ not. absurd (false≢true (sym not ∙ ap is_disk_fault fault));
         running = λ not. absurd (false≢true (sym not ∙ ap is_disk_fault fault));

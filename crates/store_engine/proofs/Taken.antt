@@ -5,7 +5,7 @@ use Rattle.std.proofs.lemmas.List.{append-nil, length-map}
 use Rattle.std.proofs.lemmas.List.Elements.{All-head, All-tail}
 use Rattle.ts_key.specs.declared.numbers.Seq.{Seq}
 use Rattle.udt_disk.specs.Crash.{Image}
-use Rattle.udt_disk.specs.Moments.{IsClean, MayLeave, holding}
+use Rattle.udt_disk.specs.Moments.{MayLeave, holding}
 use Rattle.udt_disk.specs.declared.file.DiskFile as file
 use Rattle.udt_disk.specs.declared.disk.Disk as disk
 use Rattle.udt_disk.specs.declared.name.FileName.{FileName}
@@ -23,12 +23,13 @@ use Rattle.manifest_edit.specs.declared.edit.TableAt.{TableAt}
 use Rattle.manifest_fold.specs.declared.fold.Folded.{Folded}
 use Rattle.manifest_fold.specs.Folds.{newest_log}
 use Rattle.manifest.specs.Files.{HasFold}
-use Rattle.manifest.specs.Folders.{chosen_by}
+use Rattle.manifest.specs.Folders.{IsManifestName, chosen, chosen_by}
 use Rattle.manifest.specs.Folds.{sizes_of}
 use Rattle.manifest.specs.Manifest.{FoldRests, manifest_file, manifest_folded}
 use Rattle.engine_laws.specs.JointLaws.{RestIn}
 use Rattle.engine_laws.specs.Logs.{batches_of, last_of}
 use Rattle.engine_laws.specs.Manifests.{IsWell}
+use Rattle.engine_laws.specs.Moves.{IsLiveName}
 use Rattle.engine_laws.specs.Standing.{FolderStands, Says, TableReads, TableSays, family_said, families_said, table_of}
 use Rattle.engine_laws.specs.Engine.{HoldsState, newest_log_of}
 use Rattle.engine_laws.proofs.Ascending.{newest_of as newest_in, rising_sorted}
@@ -38,6 +39,7 @@ use Rattle.engine_laws.proofs.Opened.{manifest_well, reads_logged}
 use Rattle.engine_laws.proofs.Places.{In-get}
 use Rattle.floor_laws.proofs.Members.{All-from, In, In-append, In-contains, map-In}
 use Rattle.recovery.specs.Laws.{account_of}
+use Rattle.recovery.specs.Opening.{AreLiveClean}
 use Rattle.recovery.specs.Tables.{ReadsAsTable}
 use Rattle.recovery.specs.declared.opening.Parts.{Parts}
 use Rattle.recovery.proofs.Accounts.{opened_reads, opened_states}
@@ -103,6 +105,15 @@ said_low tables fold well k held = numbers_low fold.next_file (families_said tab
     let t = numbers_said tables k of.0.tables same in
     subst (λ j. j < fold.next_file) t.2 (well.tables (record { 0 = at.0 }) of.0 t.0 (record { family = at.1; table = In-contains of.0.tables t.0 t.1 }))) k held
 
+-- ---- names
+
+-- a manifest's name is live under itself
+own_live : (n : FileName) (fold : Folded) → IsManifestName n → IsLiveName n fold n
+own_live n fold either = elim either [
+  | inl is ↦ subst (λ k. IsLiveName k fold k) (sym is) refl
+  | inr is ↦ subst (λ k. IsLiveName k fold k) (sym is) refl
+]
+
 module _ {D F : Type 0} (d : disk.Ghosts D F) (f : file.Ghosts F) (old : D) (parts : Parts D F f) (are : ArePartsOf d f old parts) where
   abbrev fold : Folded
   fold = manifest_folded parts.manifest
@@ -161,17 +172,21 @@ module _ {D F : Type 0} (d : disk.Ghosts D F) (f : file.Ghosts F) (old : D) (par
         manifest_model = ap (λ m. f.keeps_model (manifest_file m)) manifest ∙ are.manifest_model ∙ sym model;
       }
 
-  -- ---- what it holds, where the disk tells and a crash left nothing else
+  -- ---- what it holds, where the disk tells and a crash left nothing else under live names
 
-  module _ (told : IsTrue (d.is_told old)) (clean : IsClean d old) where
+  module _ (told : IsTrue (d.is_told old)) (clean : AreLiveClean d old fold) where
     abbrev says : Says
     says = account_of fold (are.opened told).shown
 
     abbrev files : List F
     files = wal_file parts.wal ∷ manifest_file parts.manifest ∷ []
 
-    stands_there : (n : FileName) (c : Image) → MayLeave d f (holding parts.disk files) n c → c ≡ d.stands old n
-    stands_there n c left = clean n c ((are.reads.no_more n c (λ none. none) left).free (λ x none. absurd none))
+    stands_there : (n : FileName) (c : Image) → IsLiveName (chosen (d.stands old)) fold n → MayLeave d f (holding parts.disk files) n c → c ≡ d.stands old n
+    stands_there n c live left = clean n c live ((are.reads.no_more n c (λ none. none) left).free (λ x none. absurd none))
+
+    -- the name of the manifest is live
+    manifest_live : IsLiveName (chosen (d.stands old)) fold (f.name (manifest_file parts.manifest))
+    manifest_live = subst (λ k. IsLiveName k fold (f.name (manifest_file parts.manifest))) (are.opened told).manifest_name (own_live (f.name (manifest_file parts.manifest)) fold are.manifest_name)
 
     parts_rest : RestIn d f ReadsAsTable (holding parts.disk files) (f.name (manifest_file parts.manifest)) says
     parts_rest =
@@ -179,18 +194,18 @@ module _ {D F : Type 0} (d : disk.Ghosts D F) (f : file.Ghosts F) (old : D) (par
         let r = opened_reads (d.stands old) fold parts.version o.means o.shown in
         record {
           chosen = record {
-            made = λ c left none. o.means.0 (sym (stands_there Made c left) ∙ none);
-            chooses = λ c left. ap chosen_by (stands_there Current c left) ∙ sym o.manifest_name;
+            made = λ c left none. o.means.0 (sym (stands_there Made c tt left) ∙ none);
+            chooses = λ c left. ap chosen_by (stands_there Current c tt left) ∙ sym o.manifest_name;
           };
-          manifests = λ c left. subst (λ i. HasFold i fold) (sym (stands_there (f.name (manifest_file parts.manifest)) c left)) (subst (λ n. HasFold (d.stands old n) fold) (sym o.manifest_name) o.means.1);
-          logs = λ n i c left. subst (λ z. ReadsAs (sizes_of fold) (says.logs n) z) (sym (stands_there (Log n) c left)) (r.logs n i);
-          tables = λ i g t live c left. subst (λ z. TableReads ReadsAsTable z (says.tables t.number)) (sym (stands_there (Table t.number) c left)) (r.tables i g t live);
+          manifests = λ c left. subst (λ i. HasFold i fold) (sym (stands_there (f.name (manifest_file parts.manifest)) c manifest_live left)) (subst (λ n. HasFold (d.stands old n) fold) (sym o.manifest_name) o.means.1);
+          logs = λ n i c left. subst (λ z. ReadsAs (sizes_of fold) (says.logs n) z) (sym (stands_there (Log n) c i left)) (r.logs n i);
+          tables = λ i g t live c left. subst (λ z. TableReads ReadsAsTable z (says.tables t.number)) (sym (stands_there (Table t.number) c (i, g, t, live, refl) left)) (r.tables i g t live);
         }
 
     parts_log : log.Holds f parts.wal (says.logs (newest_log fold.logs)) []
     parts_log =
         let o = are.opened told in
-        subst (λ bs. log.Holds f parts.wal bs []) (newest_same told) (o.wal.replayed.rests (λ c left. clean (Log (newest_log fold.logs)) c left))
+        subst (λ bs. log.Holds f parts.wal bs []) (newest_same told) (o.wal.replayed.rests (λ c left. clean (Log (newest_log fold.logs)) c (newest_live fold well) left))
 
     pub parts_now : (engine : Engine D F f) → engine.disk ≡ parts.disk → engine.manifest ≡ parts.manifest → engine.wal ≡ parts.wal → fold.next_file ≤ engine.next → (m : State) → FolderStands ReadsAsTable (d.stands old) m → HoldsNow d f engine parts.version m (course_start m)
     parts_now engine disk manifest wal more m stands =

@@ -10,7 +10,7 @@ use Rattle.udt_disk.specs.declared.disk.Disk as disk
 use Rattle.wal.specs.declared.numbered.Numbered.{Numbered}
 use Rattle.wal.specs.declared.wal.TheConstants.{PENDING_LIMIT}
 use Rattle.wal.specs.Sequences.{sequence_after}
-use Rattle.wal.specs.Wals.{MayGoOn, waiting_with, wal_pending}
+use Rattle.wal.specs.Wals.{MayGoOn, waiting_with, wal_pending, wal_waiting}
 use Rattle.udt_model.specs.declared.reply.Reply.TheVariants.{OkAt}
 use Rattle.udt_model.specs.State.{State}
 use Rattle.udt_model.specs.Acts.Act.{write}
@@ -109,6 +109,13 @@ module _ {D F : Type 0} (d : disk.Ghosts D F) (f : file.Ghosts F) (now_last : Is
         let pending : wal_pending mid.wal < PENDING_LIMIT = let e = ap length bytes in omega (arith, e, low) in
         let w = waits not pending in
         ap (λ e. held e) w.1 ∙ appended_held d f now_last old mid b (Ok tt) added
+
+    pub end_bytes : sync ≡ false → length (waiting_with old.wal b) < PENDING_LIMIT → wal_waiting new.wal ≡ waiting_with old.wal b
+    end_bytes not low =
+        let bytes = added.bytes in
+        let pending : wal_pending mid.wal < PENDING_LIMIT = let e = ap length bytes in omega (arith, e, low) in
+        let w = waits not pending in
+        ap (λ (e : Engine D F f). wal_waiting e.wal) w.1 ∙ added.bytes
 
     pub end_synced : (sync ≡ true) ⊎ (PENDING_LIMIT ≤ length (waiting_with old.wal b)) → OnOk result (wal_pending new.wal ≡ 0)
     end_synced is =

@@ -20,6 +20,17 @@ use Rattle.store_engine.specs.Replies.{reply_of_fault}
 use Rattle.store_engine.specs.declared.fault.EngineFault.{EngineFault}
 use Rattle.store_engine.specs.declared.fault.EngineFault.TheVariants.{UnknownFamily, BelowFloor, Fell, SequenceFull, FloorFell, NoMemory, DiskFault}
 
+-- the refusal that a fault is: want of memory and a fault of the disk are none
+abbrev pub as_refusal : EngineFault → Option EngineFault
+as_refusal NoMemory = None
+as_refusal DiskFault = None
+as_refusal fault = Some fault
+
+-- the refusal that an answer tells, where it tells one
+abbrev pub told_refusal : {A : Type 0} → Result A EngineFault → Option EngineFault
+told_refusal (Ok a) = None
+told_refusal (Err fault) = as_refusal fault
+
 -- the fault of an answer, where it is one
 abbrev pub fault_of : {A : Type 0} → Result A EngineFault → Option EngineFault
 fault_of (Ok a) = None

@@ -6,3 +6,4 @@ pub mod Calls
 pub mod Steps
 pub mod Now
 pub mod Admission
+pub mod Laws

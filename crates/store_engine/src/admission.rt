@@ -12,7 +12,7 @@ ghost use Rattle.super_version.specs.Changes.{ChangesFamily, family_with_floor};
 ghost use Rattle.super_version.specs.Contents.{items_of_family};
 ghost use Rattle.super_version.specs.Writes.{AddsBatch};
 ghost use Rattle.super_version.specs.declared.family.FamilyState.{FamilyState as StateOf};
-ghost use Rattle.store_engine.specs.Admission.{IsInMemory, RefusesRaise, RefusesWrite, fault_of, full_fault, is_on_key, latest_at as latest_of_key, op_fault, ops_fault, raise_fault, unknown_in, where_above, write_fault};
+ghost use Rattle.store_engine.specs.Admission.{IsInMemory, RefusesRaise, RefusesWrite, fault_of, full_fault, is_on_key, latest_at as latest_of_key, op_fault, ops_fault, raise_fault, told_refusal, unknown_in, where_above, write_fault};
 ghost use Rattle.store_engine.specs.Now.{IsNow};
 
 use crate::fault::EngineFault;
@@ -150,6 +150,7 @@ pub(crate) fn admit(
     batch: &Batch,
 ) -> Result<Arc<SuperVersion>, EngineFault>
     ensures shown { IfOk result (λ next. AddsBatch batch.now now.now (arc_value next)) }
+    ensures answers { told_refusal result ≡ write_fault now.now batch.now }
     ensures room { OnOk result (now.now.last.0 + length batch.now ≤ SEQUENCE_LIMIT) }
     ensures known { OnOk result (All (λ op. op.family.0 < length now.now.families) batch.now) }
     ensures admitted { (m : State) → IsSoundState m → m.halted ≡ None → IsNow now.now m → OnOk result (admitted m batch.now ≡ OkAt (m.last.0 + length batch.now)) }
@@ -184,6 +185,7 @@ pub(crate) fn admit_raise(
     floor: Ts,
 ) -> Result<Arc<SuperVersion>, EngineFault>
     ensures shown { IfOk result (λ next. ChangesFamily family.0 (family_with_floor floor) now.now (arc_value next)) }
+    ensures answers { told_refusal result ≡ raise_fault (slice_get now.now.families family.0) floor }
     ensures known { OnOk result (family.0 < length now.now.families) }
     ensures higher { OnOk result ((f : StateOf) → slice_get now.now.families family.0 ≡ Some f → f.floor.0 ≤ floor.0) }
     ensures admitted { (m : State) → m.halted ≡ None → IsNow now.now m → OnOk result (raised m family floor ≡ Done) }

@@ -5,9 +5,11 @@ mod admission;
 mod engine;
 mod fault;
 mod latest;
+mod laws;
 
 pub use engine::Engine;
 pub use fault::EngineFault;
+pub use laws::{engines_hold_besides, engines_leave_outcomes};
 
 /// Memory ran out.
 pub type NoMemory = std::alloc::AllocError;
