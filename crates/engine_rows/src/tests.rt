@@ -104,28 +104,47 @@ fn a_synced_write_is_there_or_not(rt: HostRuntime) -> Result<(), Fail> {
     Ok(())
 }
 
+/// The calls by which an unsynced put and a raise behind it are made, the first of a new store: the put's sync on log 1, and then
+/// the edit. With each the call that follows the last, which isn't made.
+const RAISE_CALLS: &[(FileName, u64, u64)] = &[
+    (FileName::Log(1), 6, 10),
+    (FileName::Manifest0, 11, 15),
+];
+
 #[test]
 fn a_raise_that_stops_is_made_or_not(rt: HostRuntime) -> Result<(), Fail> {
-    for name in [FileName::Log(1), FileName::Manifest0] {
-        for call in 1..=16 {
+    for (name, first, behind) in RAISE_CALLS {
+        for call in *first..=*behind {
             for outcome in OUTCOMES {
                 let trouble = Trouble {
-                    name,
+                    name: *name,
                     call,
                     lasting: true,
                 };
-                if let Some((last, floor, done)) = left(
-                    rt.alloc(),
-                    trouble,
-                    PUT_AND_RAISE,
-                    *outcome,
-                )? {
-                    let is_made = floor == 5 && last == 1;
-                    assert!(rt; is_made || (floor == 0 && !done), "{name:?} {call}");
-                }
+                let (last, floor, done) = left(rt.alloc(), trouble, PUT_AND_RAISE, *outcome)?.ok_or(
+                    "not opened",
+                )?;
+                let is_made = floor == 5 && last == 1;
+                assert_eq!(rt; done, call == *behind);
+                assert!(rt; is_made || (floor == 0 && !done), "{name:?} {call}");
             }
         }
     }
+    Ok(())
+}
+
+#[test]
+fn what_waits_is_lost_by_a_close(rt: HostRuntime) -> Result<(), Fail> {
+    let put = Step::Write {
+        family: 0,
+        ts: 1,
+        count: 1,
+        sync: false,
+    };
+    let disk = made(rt.alloc(), Vec::new(rt.alloc()))?.ok_or("no store")?;
+    let (disk, _) = history(rt.alloc(), disk, &[put, Step::Sync, put])?;
+    let version = version_of(rt.alloc(), disk)?;
+    assert_eq!(rt; version.last, Seq(1));
     Ok(())
 }
 

@@ -89,7 +89,7 @@ none_after (Some r) = refl
 
 fell_told : (k : ℕ) (ts : Ts) (o : Option Version) → fell k ts o ≡ told (fell_fault k ts (stamp_of o))
 fell_told k ts None = refl
-fell_told k ts (Some v) = elim (cases_Bool (nat_lt ts.0 v.ts.0)) [ inl y ↦ rw y refl | inr y ↦ rw y tt ]
+fell_told k ts (Some v) = elim (cases_Bool (nat_lt ts.0 v.ts.0)) [ inl y ↦ rw y refl | inr y ↦ rw y refl ]
 
 floor_told : (k : ℕ) (o : WriteOp) (floor : Ts) (a : Option Version) (b : Option ℕ) → (floor.0 ≤ o.ts.0 → fell k o.ts a ≡ told (fell_fault k o.ts b))
     → (if nat_lt o.ts.0 floor.0 then Some (replies.Below k floor) else fell k o.ts a) ≡ told (if nat_lt o.ts.0 floor.0 then Some (BelowFloor k floor) else fell_fault k o.ts b)
@@ -204,7 +204,7 @@ unknown_told m now shows (o ∷ ops) =
     ]
 
 full_told : (m : State) (last : Seq) (ops : List WriteOp) → last ≡ m.last → full m ops ≡ told (full_fault last (length ops))
-full_told m last ops e = subst (λ (s : Seq). full m ops ≡ told (full_fault s (length ops))) (sym e) (elim (cases_Bool (nat_lt SEQUENCE_LIMIT (m.last.0 + length ops))) [ inl y ↦ rw y refl | inr y ↦ rw y tt ])
+full_told m last ops e = subst (λ (s : Seq). full m ops ≡ told (full_fault s (length ops))) (sym e) (elim (cases_Bool (nat_lt SEQUENCE_LIMIT (m.last.0 + length ops))) [ inl y ↦ rw y refl | inr y ↦ rw y refl ])
 
 pub write_told : (m : State) (now : SuperVersion) (ops : List WriteOp) → IsSoundState m → IsNow now m → m.halted ≡ None → refusal m (write ops false) ≡ told (write_fault now ops)
 write_told m now ops sound shows up =
@@ -256,7 +256,7 @@ raise_told m now family floor shows up =
           let of : family_at m family ≡ Some f = some.1.1.0 in
           let there : slice_get now.families family.0 ≡ Some g = some.1.1.1 in
           let same : g.floor ≡ f.head.floor = (shows.families family f g of there).floor in
-          let one : (if nat_lt floor.0 f.head.floor.0 then Some (replies.Floor f.head.floor) else None) ≡ told (if nat_lt floor.0 f.head.floor.0 then Some (FloorFell f.head.floor) else None) = elim (cases_Bool (nat_lt floor.0 f.head.floor.0)) [ inl y ↦ rw y refl | inr y ↦ rw y tt ] in
+          let one : (if nat_lt floor.0 f.head.floor.0 then Some (replies.Floor f.head.floor) else None) ≡ told (if nat_lt floor.0 f.head.floor.0 then Some (FloorFell f.head.floor) else None) = elim (cases_Bool (nat_lt floor.0 f.head.floor.0)) [ inl y ↦ rw y refl | inr y ↦ rw y refl ] in
           let two = subst (λ (z : Ts). (if nat_lt floor.0 f.head.floor.0 then Some (replies.Floor f.head.floor) else None) ≡ told (if nat_lt floor.0 z.0 then Some (FloorFell z) else None)) (sym same) one in
           rw (of, there) two
     ]
