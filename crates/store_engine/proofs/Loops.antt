@@ -2,6 +2,7 @@
 use Rattle.std.proofs.Common.{◌≡◌, ◌⊎◌, ℕ, zero, suc, ◌+◌, ◌*◌, ◌^◌, ◌<◌, ◌≤◌, ◌==◌, Bool, cond, true, false, List, [], ◌∷◌, ◌++◌, drop, get_or, length, map, take, Option, Some, None, refl, sym, ap, ◌∙◌, subst, arith, inl, inr}
 use Rattle.std.specs.Prelude.{find, if◌then◌else◌, nat_lt, not, slice_get}
 use Rattle.std.specs.List.{flat_map}
+use Rattle.std.proofs.Math.Nat.{pow-suc}
 use Rattle.std.proofs.lemmas.Bool.{cases_Bool, ne_eqb}
 use Rattle.std.proofs.lemmas.List.{drop_all, drop_more, length-append}
 use Rattle.ts_key.specs.declared.version.Version.{Version}
@@ -75,9 +76,9 @@ pub runs_some : (m : Memtable) (count : ℕ) → count ≡ length m.runs → 2 ^
 runs_some m zero is few = let n = none_run m (sym is) in let q : (length (versions_of_memtable m) == 0) ≡ true = ap (λ k. k == 0) n in rw q refl
 runs_some m (suc count) is few =
     let up : 1 ≤ 2 ^ count = pow_some count in
-    let double : 2 ^ suc count ≡ 2 * 2 ^ count = refl in
+    let double : 2 ^ suc count ≡ 2 ^ count * 2 = pow-suc 2 count in
     let q : (length (versions_of_memtable m) == 0) ≡ false = ne_eqb (length (versions_of_memtable m)) 0 (λ z. omega (arith, few, up, double, z)) in
     rw q refl where
   pow_some : (k : ℕ) → 1 ≤ 2 ^ k
   pow_some zero = omega arith
-  pow_some (suc k) = let r = pow_some k in let d : 2 ^ suc k ≡ 2 * 2 ^ k = refl in omega (arith, r, d)
+  pow_some (suc k) = let r = pow_some k in let d : 2 ^ suc k ≡ 2 ^ k * 2 = pow-suc 2 k in omega (arith, r, d)
