@@ -142,16 +142,16 @@ no_get_target family key number none command h =
     none (record { family = family; key = unspell key; ts = record { 0 = num number } }) (record { family_is = p.0; key_is = p.1.0; number_is = p.1.1.0 })
 
 pub raises : (family number name : List ℕ) (t : ℕ) → IsName family name → IsNumber number t → IsPlainCommand (codes "raise" ∷ family ∷ number ∷ []) (commands.Line (events.Raise name (record { 0 = t })))
-raises family number name t p q = (refl, p, q, tt)
+raises family number name t p q = (refl, (p, (q, tt)))
 
 pub asks_floor : (family name : List ℕ) → IsName family name → IsPlainCommand (codes "floor" ∷ family ∷ []) (commands.Line (events.Floor name))
-asks_floor family name p = (refl, p, tt)
+asks_floor family name p = (refl, (p, tt))
 
 pub flushes : (family name : List ℕ) → IsName family name → IsPlainCommand (codes "flush" ∷ family ∷ []) (commands.Flush name)
-flushes family name p = (refl, p, tt)
+flushes family name p = (refl, (p, tt))
 
 pub gets : (family key number : List ℕ) (p : Target) → IsTarget family key number p → IsPlainCommand (codes "get" ∷ family ∷ key ∷ number ∷ []) (commands.Line (events.Get p.family p.key p.ts None))
-gets family key number p is = (refl, is.family_is, is.key_is, is.number_is, tt)
+gets family key number p is = (refl, (is.family_is, (is.key_is, (is.number_is, tt))))
 
 pub syncs : (ws : List (List ℕ)) → length ws ≡ 0 → IsPlainCommand (codes "sync" ∷ ws) (commands.Line events.Sync)
 syncs [] e = (refl, tt)
