@@ -1,24 +1,24 @@
 -- An event is known by its words.
-use Rattle.std.proofs.Common.{◌≡◌, ℕ, suc, ◌<◌, ◌≤◌, Bool, List, [], ◌∷◌, ◌++◌, length, map, get_or, Some, None, refl, sym, ap, subst, ◌∙◌, inl, inr, arith, append_assoc}
-use Rattle.std.specs.Prelude.{◌⊎◌, All, codes, IsTrue}
+use Rattle.std.proofs.Common.{◌≡◌, ℕ, suc, ◌<◌, ◌≤◌, Bool, List, [], ◌∷◌, ◌++◌, length, map, get_or, Option, Some, None, refl, sym, ap, subst, ◌∙◌, inl, inr, arith, append_assoc}
+use Rattle.std.specs.Prelude.{◌⊎◌, All, codes, if◌then◌else◌}
+use Rattle.std.specs.Str.{bytes_eq}
 use Rattle.std.specs.Fmt.{decimal}
 use Rattle.std.specs.List.{AllZip, flat_map}
-use Rattle.hex.specs.Hex.{IsBytes}
-use Rattle.ts_key.specs.Names.{is_name}
 use Rattle.ts_key.specs.declared.numbers.Ts.{Ts}
 use Rattle.ts_key.specs.declared.version.Op.{Op}
 use Rattle.ts_key.specs.declared.version.Op.TheVariants as ops
 use Rattle.udt_model.specs.declared.event.Event.{Event}
-use Rattle.udt_model.specs.declared.event.Event.TheVariants.{Write, Get, Sync}
+use Rattle.udt_model.specs.declared.event.Event.TheVariants as events
 use Rattle.udt_model.specs.declared.event.NamedOp.{NamedOp}
 use Rattle.client_lang.specs.Print.{IsBuilt, event_words, op_words, op_words_of, ops_words, sync_words, write_words}
 use Rattle.client_lang.specs.Grammar.{with_semicolons}
 use Rattle.client_lang.specs.Readers.{op_length}
 use Rattle.client_lang.specs.Typed.{IsNat64, IsTypedEvent, IsTypedOp}
 use Rattle.client_lang.proofs.Operations.{Ops, IsClear, ops_once}
-use Rattle.client_lang.proofs.Spelling.{number_back, spell_back}
+use Rattle.client_lang.proofs.Spelling.{number_back, spell_back, unspell, unspell-spell}
+use Rattle.client_lang.proofs.Values.{none_isn't, num, num-decimal, some_back}
 use Rattle.client_lang.proofs.OneOperation.{at_ts, named, same_named, word_at}
-use Rattle.client_lang.proofs.OneEvent.{same_got, same_written}
+use Rattle.client_lang.proofs.OneCommand.{same_written}
 
 -- ---- operations
 
@@ -72,78 +72,70 @@ ops_printed os sync some h = record { parts = map op_words os; words_are = ap (�
 
 -- ---- events
 
--- what an event that is built is
+-- the event of these words, where it is no write
+abbrev pub event_of : List (List ℕ) → Option Event
+event_of words =
+    if bytes_eq (get_or words 0 []) (codes "get") then Some (events.Get (get_or words 1 []) (unspell (get_or words 2 [])) (at_ts (num (get_or words 3 []))) None)
+    else if bytes_eq (get_or words 0 []) (codes "raise") then Some (events.Raise (get_or words 1 []) (at_ts (num (get_or words 2 []))))
+    else if bytes_eq (get_or words 0 []) (codes "floor") then Some (events.Floor (get_or words 1 []))
+    else if bytes_eq (get_or words 0 []) (codes "sync") then Some events.Sync
+    else if bytes_eq (get_or words 0 []) (codes "flush") then (if bytes_eq (get_or words 2 []) (codes "start") then Some (events.FlushStart (get_or words 1 [])) else Some (events.FlushEnd (get_or words 1 []) (num (get_or words 3 []))))
+    else None
+
+-- what a write that is built is
 pub record IsWriteOf (e : Event) : Type 0 where
   pub os : List NamedOp
   pub sync : Bool
-  pub is : e ≡ Write os sync
+  pub is : e ≡ events.Write os sync
   pub some : 0 < length os
   pub typed : All IsTypedOp os
 
-pub record IsGetOf (e : Event) : Type 0 where
-  pub family : List ℕ
-  pub key : List ℕ
-  pub t : Ts
-  pub is : e ≡ Get family key t None
-  pub name : IsTrue (is_name family)
-  pub bytes : IsBytes key
-  pub ts : IsNat64 t.0
+-- an event that is built is a write, or what its words tell
+abbrev IsKnown : Event → Type 0
+IsKnown e = IsWriteOf e ⊎ (event_of (event_words e) ≡ Some e)
 
-abbrev pub IsKnown : Event → Type 0
-IsKnown e = IsWriteOf e ⊎ (IsGetOf e ⊎ (e ≡ Sync))
-
-pub known : (e : Event) → IsBuilt e → IsTypedEvent e → IsKnown e
-known (Write os sync) b t = inl (record { os = os; sync = sync; is = refl; some = b.0; typed = t })
-known (Get family key t None) b h = inr (inl (record { family = family; key = key; t = t; is = refl; name = h.0; bytes = h.1; ts = h.2 }))
-known (Get family key t (Some snap)) b h = absurd b
-known Sync b h = inr (inr refl)
+known : (e : Event) → IsBuilt e → IsTypedEvent e → IsKnown e
+known (events.Write os sync) b t = inl (record { os = os; sync = sync; is = refl; some = b.0; typed = t })
+known (events.Get family key t None) b h = inr (rw (unspell-spell key h.1, num-decimal t.0 h.2) refl)
+known (events.Get family key t (Some snap)) b h = absurd b
+known (events.Raise family floor) b h = inr (rw (num-decimal floor.0 h.1) refl)
+known (events.Floor family) b h = inr refl
+known events.Sync b h = inr refl
+known (events.FlushStart family) b h = inr refl
+known (events.FlushEnd family start) b h = inr (rw (num-decimal start h.1) refl)
 known e b h = absurd b
 
-verb_of : (o : NamedOp) (x : Op) (rest : List (List ℕ)) → (get_or (op_words_of o x ++ rest) 0 [] ≡ codes "put") ⊎ (get_or (op_words_of o x ++ rest) 0 [] ≡ codes "del")
+abbrev IsVerb : List ℕ → Type 0
+IsVerb word = (word ≡ codes "put") ⊎ (word ≡ codes "del")
+
+verb_of : (o : NamedOp) (x : Op) (rest : List (List ℕ)) → IsVerb (get_or (op_words_of o x ++ rest) 0 [])
 verb_of o (ops.Put x) rest = inl refl
 verb_of o ops.Del rest = inr refl
 
-printed_verb : (os : List NamedOp) (sync : Bool) → 0 < length os → (get_or (write_words os sync) 0 [] ≡ codes "put") ⊎ (get_or (write_words os sync) 0 [] ≡ codes "del")
+printed_verb : (os : List NamedOp) (sync : Bool) → 0 < length os → IsVerb (get_or (write_words os sync) 0 [])
 printed_verb [] sync some = absurd (omega arith)
 printed_verb (o ∷ os) sync some =
     let rest : List (List ℕ) = flat_map (λ (p : NamedOp). codes ";" ∷ [] ++ op_words p) os in
-    subst (λ (ws : List (List ℕ)). (get_or ws 0 [] ≡ codes "put") ⊎ (get_or ws 0 [] ≡ codes "del")) (sym (append_assoc (op_words o) rest (sync_words sync))) (verb_of o o.op (rest ++ sync_words sync))
+    subst (λ (ws : List (List ℕ)). IsVerb (get_or ws 0 [])) (sym (append_assoc (op_words o) rest (sync_words sync))) (verb_of o o.op (rest ++ sync_words sync))
 
-other_verb : (word other : List ℕ) → (word ≡ codes "put") ⊎ (word ≡ codes "del") → word ≡ other → (other ≡ codes "get") ⊎ (other ≡ codes "sync") → ⊥
-other_verb word other (inl p) e (inl q) = let h = ap (λ (t : List ℕ). get_or t 0 0) (sym p ∙ e ∙ q) in omega arith
-other_verb word other (inl p) e (inr q) = let h = ap (λ (t : List ℕ). get_or t 0 0) (sym p ∙ e ∙ q) in omega arith
-other_verb word other (inr p) e (inl q) = let h = ap (λ (t : List ℕ). get_or t 0 0) (sym p ∙ e ∙ q) in omega arith
-other_verb word other (inr p) e (inr q) = let h = ap (λ (t : List ℕ). get_or t 0 0) (sym p ∙ e ∙ q) in omega arith
+none_told : (words : List (List ℕ)) → IsVerb (get_or words 0 []) → event_of words ≡ None
+none_told words (inl put) = rw put refl
+none_told words (inr del) = rw del refl
+
+-- a write isn't another event
+not_told : (a b : Event) → IsWriteOf a → event_of (event_words b) ≡ Some b → event_words a ≡ event_words b → ⊥
+not_told a b p q e =
+    let words : write_words p.os p.sync ≡ event_words b = rw p.is at e in
+    none_isn't b (sym (none_told (write_words p.os p.sync) (printed_verb p.os p.sync p.some)) ∙ ap event_of words ∙ q)
 
 known_once : (a b : Event) → IsKnown a → IsKnown b → event_words a ≡ event_words b → a ≡ b
 known_once a b (inl p) (inl q) e =
     let words : write_words p.os p.sync ≡ write_words q.os q.sync = rw (p.is, q.is) at e in
     let s = ops_once Prints prints_clear (write_words q.os q.sync) p.os q.os p.sync q.sync (subst (λ (ws : List (List ℕ)). Ops Prints ws p.os p.sync) words (ops_printed p.os p.sync p.some p.typed)) (ops_printed q.os q.sync q.some q.typed) in
     p.is ∙ same_written p.os q.os p.sync q.sync s.0 s.1 ∙ sym q.is
-known_once a b (inl p) (inr (inl q)) e =
-    let words : write_words p.os p.sync ≡ event_words (Get q.family q.key q.t None) = rw (p.is, q.is) at e in
-    absurd (other_verb _ _ (printed_verb p.os p.sync p.some) (word_at 0 _ _ words) (inl refl))
-known_once a b (inl p) (inr (inr q)) e =
-    let words : write_words p.os p.sync ≡ event_words Sync = rw (p.is, q) at e in
-    absurd (other_verb _ _ (printed_verb p.os p.sync p.some) (word_at 0 _ _ words) (inr refl))
-known_once a b (inr (inl p)) (inl q) e =
-    let words : write_words q.os q.sync ≡ event_words (Get p.family p.key p.t None) = sym (rw (p.is, q.is) at e) in
-    absurd (other_verb _ _ (printed_verb q.os q.sync q.some) (word_at 0 _ _ words) (inl refl))
-known_once a b (inr (inl p)) (inr (inl q)) e =
-    let words : event_words (Get p.family p.key p.t None) ≡ event_words (Get q.family q.key q.t None) = rw (p.is, q.is) at e in
-    p.is ∙ same_got p.family q.family p.key q.key p.t q.t (word_at 1 _ _ words) (spell_back p.key q.key p.bytes q.bytes (word_at 2 _ _ words)) (ts_back p.t q.t p.ts q.ts (word_at 3 _ _ words)) ∙ sym q.is
-known_once a b (inr (inl p)) (inr (inr q)) e =
-    let words : event_words (Get p.family p.key p.t None) ≡ event_words Sync = rw (p.is, q) at e in
-    let n = ap length words in
-    absurd (omega arith)
-known_once a b (inr (inr p)) (inl q) e =
-    let words : write_words q.os q.sync ≡ event_words Sync = sym (rw (p, q.is) at e) in
-    absurd (other_verb _ _ (printed_verb q.os q.sync q.some) (word_at 0 _ _ words) (inr refl))
-known_once a b (inr (inr p)) (inr (inl q)) e =
-    let words : event_words Sync ≡ event_words (Get q.family q.key q.t None) = rw (p, q.is) at e in
-    let n = ap length words in
-    absurd (omega arith)
-known_once a b (inr (inr p)) (inr (inr q)) e = p ∙ sym q
+known_once a b (inl p) (inr q) e = absurd (not_told a b p q e)
+known_once a b (inr p) (inl q) e = absurd (not_told b a q p (sym e))
+known_once a b (inr p) (inr q) e = some_back a b (sym p ∙ ap event_of e ∙ q)
 
 pub event_back : (a b : Event) → IsBuilt a → IsBuilt b → IsTypedEvent a → IsTypedEvent b → event_words a ≡ event_words b → a ≡ b
 event_back a b p q s t e = known_once a b (known a p s) (known b q t) e

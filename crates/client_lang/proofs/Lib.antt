@@ -3,7 +3,9 @@ pub mod Texts
 pub mod ReadWords
 pub mod Operations
 pub mod OneOperation
-pub mod OneEvent
+pub mod Values
+pub mod OneCommand
+pub mod Forms
 pub mod Tails
 pub mod ReadWrites
 pub mod ReadLines

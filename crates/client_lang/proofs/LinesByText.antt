@@ -7,18 +7,20 @@ use Rattle.std.proofs.lemmas.List.{append_cancel_left}
 use Rattle.ts_key.specs.declared.version.Op.{Op}
 use Rattle.ts_key.specs.declared.version.Op.TheVariants as ops
 use Rattle.udt_model.specs.declared.event.Event.{Event}
+use Rattle.udt_model.specs.declared.event.Event.TheVariants as events
 use Rattle.udt_model.specs.declared.event.NamedOp.{NamedOp}
 use Rattle.udt_model.specs.declared.reply.Reply.{Reply}
 use Rattle.udt_model.specs.declared.reply.Reply.TheVariants as replies
 use Rattle.udt_model.specs.declared.reply.Stamp.{Stamp}
 use Rattle.udt_model.specs.declared.reply.Stamp.TheVariants as stamps
 use Rattle.udt_model.specs.declared.line.Line.{Line}
-use Rattle.client_lang.specs.Print.{IsBuiltReply, event_words, line_words, mark_word, op_words, op_words_of, print_line, print_lines, reply_words, spaced, spell, stamp_word, sync_words, who_word, write_words}
-use Rattle.client_lang.specs.Typed.{IsTypedLine, IsTypedOp, IsTypedReply, IsTypedStamp, IsTypedValue}
+use Rattle.client_lang.specs.Print.{IsBuilt, IsBuiltReply, event_words, line_words, mark_word, op_words, op_words_of, print_line, print_lines, reply_words, spaced, sync_words, who_word, write_words}
+use Rattle.client_lang.specs.Spells.{stamp_word}
+use Rattle.client_lang.specs.Typed.{IsTypedEvent, IsTypedLine, IsTypedOp, IsTypedReply, IsTypedStamp, IsTypedValue}
 use Rattle.client_lang.specs.Words.{followed}
 use Rattle.client_lang.proofs.Spelling.{all_both, and_true, both_true, cut_once, inner-decimal, inner-mark, inner-name, inner-spell, inner-who, inner_clear, is_clear, is_clear_byte, is_inner, list_all-weaker, mark_back, who_back}
 use Rattle.client_lang.proofs.Texts.{spaced_cons}
-use Rattle.client_lang.proofs.EventsByWords.{IsKnown, event_back, known}
+use Rattle.client_lang.proofs.EventsByWords.{event_back}
 use Rattle.client_lang.proofs.OneOperation.{word_at}
 use Rattle.client_lang.proofs.RepliesByWords.{reply_back}
 
@@ -45,12 +47,16 @@ inner_write (o ∷ os) sync h =
     let rest : List (List ℕ) = flat_map (λ (p : NamedOp). codes ";" ∷ [] ++ op_words p) os in
     all_both is_inner (op_words o ++ rest) (sync_words sync) (all_both is_inner (op_words o) rest (inner_op o o.op here here.value) (inner_ops os (λ k d lt. h (suc k) d (omega arith)))) (inner_sync sync)
 
-inner_known : (e : Event) → IsKnown e → list_all is_inner (event_words e) ≡ true
-inner_known e (inl p) = subst (λ (x : Event). list_all is_inner (event_words x) ≡ true) (sym p.is) (inner_write p.os p.sync p.typed)
-inner_known e (inr (inl p)) =
-    let words : list_all is_inner (codes "get" ∷ p.family ∷ spell p.key ∷ decimal p.t.0 ∷ []) ≡ true = rw (inner-name p.family p.name, inner-spell p.key p.bytes, inner-decimal p.t.0 p.ts) refl in
-    subst (λ (x : Event). list_all is_inner (event_words x) ≡ true) (sym p.is) words
-inner_known e (inr (inr p)) = subst (λ (x : Event). list_all is_inner (event_words x) ≡ true) (sym p) refl
+inner_event : (e : Event) → IsBuilt e → IsTypedEvent e → list_all is_inner (event_words e) ≡ true
+inner_event (events.Write os sync) b h = inner_write os sync h
+inner_event (events.Get family key t None) b h = rw (inner-name family h.0, inner-spell key h.1, inner-decimal t.0 h.2) refl
+inner_event (events.Get family key t (Some snap)) b h = absurd b
+inner_event (events.Raise family floor) b h = rw (inner-name family h.0, inner-decimal floor.0 h.1) refl
+inner_event (events.Floor family) b h = rw (inner-name family h) refl
+inner_event events.Sync b h = refl
+inner_event (events.FlushStart family) b h = rw (inner-name family h) refl
+inner_event (events.FlushEnd family start) b h = rw (inner-name family h.0, inner-decimal start h.1) refl
+inner_event e b h = absurd b
 
 inner_stamp : (stamp : Stamp) → IsTypedStamp stamp → is_inner (stamp_word stamp) ≡ true
 inner_stamp (stamps.At ts) h = inner-decimal ts.0 h
@@ -65,10 +71,19 @@ inner_reply (replies.Full last) b h = rw (inner-decimal last.0 h) refl
 inner_reply (replies.Found value stamp) b h = rw (inner-spell value h.0, inner_stamp stamp h.1) refl
 inner_reply replies.Absent b h = refl
 inner_reply (replies.Collapsed floor) b h = rw (inner-decimal floor.0 h) refl
+inner_reply (replies.Floor floor) b h = rw (inner-decimal floor.0 h) refl
+inner_reply replies.Nothing b h = refl
+inner_reply (replies.Busy start) b h = rw (inner-decimal start h) refl
+inner_reply (replies.Files next) b h = rw (inner-decimal next h) refl
+inner_reply (replies.Table table kept floor) b h = rw (inner-decimal table h.0, inner-decimal kept h.1, inner-decimal floor.0 h.2) refl
+inner_reply replies.DroppedFault b h = refl
+inner_reply replies.DroppedMemory b h = refl
+inner_reply (replies.DroppedFiles next) b h = rw (inner-decimal next h) refl
 inner_reply replies.Unknown b h = refl
 inner_reply (replies.Halted since) b h = rw (inner-decimal since h) refl
 inner_reply replies.Fault b h = refl
 inner_reply replies.NoMemory b h = refl
+inner_reply replies.History b h = refl
 inner_reply r b h = absurd b
 
 -- ---- one line of these words
@@ -78,8 +93,8 @@ same_lines k l a b c d = rw (a, b, c, d) refl
 
 words_back : (k l : Line) → IsTypedLine k → IsTypedLine l → line_words k ≡ line_words l → k ≡ l
 words_back k l p q e =
-    let event : list_all is_inner (event_words k.event) ≡ true = inner_known k.event (known k.event p.built.event p.event) in
-    let other : list_all is_inner (event_words l.event) ≡ true = inner_known l.event (known l.event q.built.event q.event) in
+    let event : list_all is_inner (event_words k.event) ≡ true = inner_event k.event p.built.event p.event in
+    let other : list_all is_inner (event_words l.event) ≡ true = inner_event l.event q.built.event q.event in
     let cut = cut_once is_inner (event_words k.event) (event_words l.event) (reply_words k.reply) (reply_words l.reply) (codes "=") (codes "=") event other refl refl (ap (drop 2) e) in
     same_lines k l (mark_back k.mark l.mark p.number p.sub q.number q.sub (word_at 0 _ _ e)) (who_back k.who l.who p.who q.who (word_at 1 _ _ e))
     (event_back k.event l.event p.built.event q.built.event p.event q.event cut.0) (reply_back k.reply l.reply p.built.reply q.built.reply p.reply q.reply cut.1)
@@ -91,7 +106,7 @@ all_clear words = list_all is_clear words
 
 line_clear : (l : Line) → IsTypedLine l → all_clear (line_words l) ≡ true
 line_clear l h =
-    let event = list_all-weaker is_inner is_clear inner_clear (event_words l.event) (inner_known l.event (known l.event h.built.event h.event)) in
+    let event = list_all-weaker is_inner is_clear inner_clear (event_words l.event) (inner_event l.event h.built.event h.event) in
     let reply = list_all-weaker is_inner is_clear inner_clear (reply_words l.reply) (inner_reply l.reply h.built.reply h.reply) in
     let mark = inner_clear (mark_word l.mark) (inner-mark l.mark h.number h.sub) in
     let who = inner_clear (who_word l.who) (inner-who l.who h.who) in

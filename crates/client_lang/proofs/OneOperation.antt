@@ -18,15 +18,6 @@ use Rattle.client_lang.proofs.ReadWords.{number_once, bytes_once}
 pub word_at : (n : ℕ) (xs ys : List (List ℕ)) → xs ≡ ys → get_or xs n [] ≡ get_or ys n []
 word_at n xs ys e = ap (λ (ws : List (List ℕ)). get_or ws n []) e
 
-pub del_isn't_put : (verb : List ℕ) → verb ≡ codes "del" → verb ≡ codes "put" → ⊥
-del_isn't_put verb p q = let e = ap (λ (t : List ℕ). get_or t 0 0) (sym p ∙ q) in omega arith
-
-pub get_isn't_put : (verb : List ℕ) → verb ≡ codes "get" → verb ≡ codes "put" → ⊥
-get_isn't_put verb p q = let e = ap (λ (t : List ℕ). get_or t 0 0) (sym p ∙ q) in omega arith
-
-pub get_isn't_del : (verb : List ℕ) → verb ≡ codes "get" → verb ≡ codes "del" → ⊥
-get_isn't_del verb p q = let e = ap (λ (t : List ℕ). get_or t 0 0) (sym p ∙ q) in omega arith
-
 -- ---- one operation
 
 abbrev pub named : List ℕ → List ℕ → Ts → Op → NamedOp

@@ -7,13 +7,11 @@ use Rattle.std.proofs.lemmas.Bool.Decides.{nat_tests}
 use Rattle.std.proofs.lemmas.List.{take_more, take_all, get_or_default, length_push}
 use Rattle.std.proofs.lemmas.List.FromFn.{length-enumerate_from, get_or-enumerate_from}
 use Rattle.std.proofs.lemmas.List.Elements.{All-nil, All-cons}
-use Rattle.udt_model.specs.declared.event.Event.{Event}
 use Rattle.client_lang.specs.declared.command.Command.{Command}
-use Rattle.client_lang.specs.declared.command.Command.TheVariants.{Line}
 use Rattle.client_lang.specs.Print.{IsBuiltCommand}
-use Rattle.client_lang.specs.Grammar.{IsEvent, IsLine, AreLines, AreCommands, IsFile, IsBadLine, IsTooMany, wants_command, words_of, lines_of, without_empty_end}
+use Rattle.client_lang.specs.Grammar.{IsLine, AreLines, AreCommands, IsFile, IsBadLine, IsTooMany, wants_command, words_of, lines_of, without_empty_end}
 use Rattle.client_lang.specs.declared.grammar.lines.TheConstants.{COMMAND_LIMIT}
-use Rattle.client_lang.proofs.OneEvent.{is_built, same_command}
+use Rattle.client_lang.proofs.OneCommand.{is_built, same_command}
 use Rattle.client_lang.specs.declared.grammar.lines.TheConstants.{FILE_LIMIT}
 
 -- the parts of a file between line feeds
@@ -139,10 +137,6 @@ is_bad_line bytes line i commands lt at h wanted bad =
       wanted = rw (e, here) wanted;
       bad = rw (e, here) bad;
     }
-
--- a line that asks for no event is no command
-pub no_line : (line : List ℕ) → ((event : Event) → IsEvent (words_of line) event → ⊥) → (command : Command) → IsLine line command → ⊥
-no_line line none (Line event) p = none event p
 
 pub is_too_many : (bytes line : List ℕ) (i : ℕ) (commands : List Command) (command : Command) → i < length (parts_of bytes) → line ≡ get_or (parts_of bytes) i [] → ReadSoFar (parts_of bytes) i commands → wants_command line ≡ true
     → IsLine line command → length commands ≡ COMMAND_LIMIT → IsTooMany (lines_of bytes) (i + 1)

@@ -7,7 +7,7 @@ use Rattle.std.specs.Prelude.{◌||◌, ◌==◌, cond, IfOk, IfSome, IfNone, Is
 use Rattle.std.proofs.lemmas.Fmt.{decimal_injective}
 use Rattle.hex.specs.Hex.{decode_of, encode_lower, lower_digits}
 use Rattle.hex.proofs.HexLemmas.{decode_of-encode_lower, decode_of-same, length-encode_with}
-use Rattle.client_lang.specs.Print.{is_plain, is_plain_byte, hex_word}
+use Rattle.client_lang.specs.Spells.{is_plain, is_plain_byte, hex_word}
 use Rattle.std.specs.List.{list_all}
 use Rattle.client_lang.specs.Grammar.{Reads, IsNumber, IsHexWord, IsByteWord}
 

@@ -14,7 +14,8 @@ use Rattle.ts_key.specs.Names.{is_between, is_name, is_name_byte}
 use Rattle.udt_model.specs.declared.line.Mark.{Mark}
 use Rattle.udt_model.specs.declared.line.Who.{Who}
 use Rattle.udt_model.specs.declared.line.Who.TheVariants.{Client, Flusher, Compactor, Runner}
-use Rattle.client_lang.specs.Print.{begins_hex, is_plain, is_plain_byte, mark_word, spell, who_word}
+use Rattle.client_lang.specs.Print.{mark_word, who_word}
+use Rattle.client_lang.specs.Spells.{begins_hex, is_plain, is_plain_byte, spell}
 use Rattle.client_lang.specs.Typed.{IsNat64, IsTypedWho}
 
 -- ---- lists that are cut at an element
@@ -159,11 +160,14 @@ or_false : (a b : Bool) → (a || b) ≡ false → b ≡ false
 or_false true b h = absurd (cc h)
 or_false false b h = h
 
+pub plain_begins : (bytes : List ℕ) → IsTrue (is_plain bytes) → begins_hex bytes ≡ false
+plain_begins bytes h = or_false (length bytes == 0) (begins_hex bytes) (if_true _ (list_all is_plain_byte bytes) h).0
+
 pub unspell-spell : (bytes : List ℕ) → IsBytes bytes → unspell (spell bytes) ≡ bytes
 unfolding spell
 unspell-spell bytes h =
     elim (cases_Bool (is_plain bytes)) [
-      | inl e ↦ (let none : begins_hex bytes ≡ false = or_false (length bytes == 0) (begins_hex bytes) (if_true _ (list_all is_plain_byte bytes) e).0 in rw (e, none) refl)
+      | inl e ↦ (let none = plain_begins bytes e in rw (e, none) refl)
       | inr e ↦ rw (e, decode_of-encode_lower bytes h) refl
     ]
 

@@ -8,12 +8,16 @@ use Rattle.ts_key.specs.Names.{is_name}
 use Rattle.ts_key.specs.declared.version.Op.{Op}
 use Rattle.ts_key.specs.declared.version.Op.TheVariants as ops
 use Rattle.udt_model.specs.declared.event.NamedOp.{NamedOp}
-use Rattle.udt_model.specs.declared.event.Event.{Event}
-use Rattle.udt_model.specs.declared.event.Event.TheVariants.{Write, Get, Sync}
+use Rattle.udt_model.specs.declared.event.Event.TheVariants as events
+use Rattle.udt_model.specs.declared.reply.Stamp.{Stamp}
+use Rattle.udt_model.specs.declared.reply.Stamp.TheVariants as stamps
 use Rattle.client_lang.specs.declared.command.Command.{Command}
 use Rattle.client_lang.specs.declared.command.Command.TheVariants as commands
 use Rattle.client_lang.specs.declared.grammar.lines.TheConstants.{COMMAND_LIMIT, FILE_LIMIT}
-use Rattle.client_lang.specs.Print.{is_plain, hex_word, sync_words}
+use Rattle.client_lang.specs.Parts.{Part}
+use Rattle.client_lang.specs.Parts.Part.{a_word, a_name, a_key, a_value, a_number, a_stamp}
+use Rattle.client_lang.specs.Print.{command_parts, sync_words}
+use Rattle.client_lang.specs.Spells.{is_plain, hex_word}
 
 -- ---- lines and words
 
@@ -53,6 +57,25 @@ IsHexWord word bytes = (word ≡ hex_word bytes) × IsBytes bytes
 abbrev pub IsByteWord : ℕ → List ℕ → List ℕ → Type 0
 IsByteWord most word bytes = (IsPlainWord word bytes ⊎ IsHexWord word bytes) × (length bytes ≤ most)
 
+-- a timestamp, or `below`
+abbrev pub IsStampWord : List ℕ → Stamp → Type 0
+IsStampWord word (stamps.At ts) = IsNumber word ts.0
+IsStampWord word stamps.Below = word ≡ codes "below"
+
+-- the word stands for this
+abbrev pub IsSpelling : List ℕ → Part → Type 0
+IsSpelling word (a_word text) = word ≡ text
+IsSpelling word (a_name name) = IsName word name
+IsSpelling word (a_key bytes) = IsByteWord KEY_LIMIT word bytes
+IsSpelling word (a_value bytes) = IsByteWord VALUE_LIMIT word bytes
+IsSpelling word (a_number n) = IsNumber word n
+IsSpelling word (a_stamp stamp) = IsStampWord word stamp
+
+-- the words stand for the parts that are given, one by one
+abbrev pub AreSpellings : List (List ℕ) → Option (List Part) → Type 0
+AreSpellings words None = ⊥
+AreSpellings words (Some parts) = AllZip IsSpelling words parts
+
 -- ---- commands
 
 -- the words of an operation at three words: `put` and the word of its value behind them, or `del`
@@ -83,26 +106,10 @@ pub record IsWrite (words : List (List ℕ)) (os : List NamedOp) (sync : Bool) :
   pub some : 0 < length os
   pub few : length os ≤ BATCH_LIMIT
 
--- get F K T
-pub record IsGet (words : List (List ℕ)) (name bytes : List ℕ) (t : ℕ) : Type 0 where
-  pub family : List ℕ
-  pub key : List ℕ
-  pub number : List ℕ
-  pub words_are : words ≡ codes "get" ∷ family ∷ key ∷ number ∷ []
-  pub family_is : IsName family name
-  pub key_is : IsByteWord KEY_LIMIT key bytes
-  pub number_is : IsNumber number t
-
--- these words ask for this event
-abbrev pub IsEvent : List (List ℕ) → Event → Type 0
-IsEvent words (Write os sync) = IsWrite words os sync
-IsEvent words (Get name bytes t None) = IsGet words name bytes t.0
-IsEvent words Sync = words ≡ codes "sync" ∷ []
-IsEvent words event = ⊥
-
--- these words are this command
+-- these words ask for this command
 abbrev pub IsCommand : List (List ℕ) → Command → Type 0
-IsCommand words (commands.Line event) = IsEvent words event
+IsCommand words (commands.Line (events.Write os sync)) = IsWrite words os sync
+IsCommand words command = AreSpellings words (command_parts command)
 
 abbrev pub IsLine : List ℕ → Command → Type 0
 IsLine line command = IsCommand (words_of line) command

@@ -1,3 +1,5 @@
+pub mod Spells
+pub mod Parts
 pub mod Print
 pub mod Words
 pub mod Pushes

@@ -1,21 +1,17 @@
 -- How events, replies and lines are printed: as words, with one space between them.
-use Rattle.std.specs.Prelude.{ℕ, ◌<◌, ◌≤◌, Bool, true, false, ◌==◌, ◌&&◌, ◌||◌, if◌then◌else◌, List, [], ◌∷◌, ◌++◌, length, codes, None}
-use Rattle.std.specs.List.{join_by, join_with_byte, flat_map, list_all}
+use Rattle.std.specs.Prelude.{ℕ, ◌<◌, ◌≤◌, Bool, true, false, ◌==◌, if◌then◌else◌, List, [], ◌∷◌, ◌++◌, length, codes, Option, Some, None}
+use Rattle.std.specs.List.{join_by, join_with_byte, flat_map}
 use Rattle.std.specs.Fmt.{decimal}
-use Rattle.hex.specs.Hex.{encode_lower}
 use Rattle.ts_key.specs.declared.limits.TheConstants.{BATCH_LIMIT}
-use Rattle.ts_key.specs.Names.{is_between, is_name_byte}
 use Rattle.ts_key.specs.declared.version.Op.{Op}
 use Rattle.ts_key.specs.declared.version.Op.TheVariants as ops
 use Rattle.ts_key.specs.declared.version.Form.{Form}
 use Rattle.ts_key.specs.declared.version.Form.TheVariants.{Persist, Strip}
 use Rattle.udt_model.specs.declared.event.NamedOp.{NamedOp}
 use Rattle.udt_model.specs.declared.event.Event.{Event}
-use Rattle.udt_model.specs.declared.event.Event.TheVariants.{Write, Get, Sync}
+use Rattle.udt_model.specs.declared.event.Event.TheVariants as events
 use Rattle.udt_model.specs.declared.reply.Reply.{Reply}
-use Rattle.udt_model.specs.declared.reply.Reply.TheVariants.{Done, OkAt, Fell, Below, Full, Found, Absent, Collapsed, Unknown, Halted, Fault, NoMemory}
-use Rattle.udt_model.specs.declared.reply.Stamp.{Stamp}
-use Rattle.udt_model.specs.declared.reply.Stamp.TheVariants as stamps
+use Rattle.udt_model.specs.declared.reply.Reply.TheVariants as replies
 use Rattle.udt_model.specs.declared.line.Line.{Line}
 use Rattle.udt_model.specs.declared.line.Mark.{Mark}
 use Rattle.udt_model.specs.declared.line.Who.{Who}
@@ -23,6 +19,9 @@ use Rattle.udt_model.specs.declared.line.Who.TheVariants.{Client, Flusher, Compa
 use Rattle.udt_model.specs.declared.line.FamilyHead.{FamilyHead}
 use Rattle.client_lang.specs.declared.command.Command.{Command}
 use Rattle.client_lang.specs.declared.command.Command.TheVariants as commands
+use Rattle.client_lang.specs.Spells.{spell}
+use Rattle.client_lang.specs.Parts.{Part, HasParts, part_words}
+use Rattle.client_lang.specs.Parts.Part.{a_word, a_name, a_key, a_value, a_number, a_stamp}
 
 -- words with one space between them
 abbrev pub spaced : List (List ℕ) → List ℕ
@@ -32,31 +31,7 @@ spaced words = join_with_byte 32 words
 abbrev pub line_of : List (List ℕ) → List ℕ
 line_of words = spaced words ++ 10 ∷ []
 
--- ---- byte words
-
--- A to Z, a to z, 0 to 9, and _ - . / : @ +
-abbrev pub is_plain_byte : ℕ → Bool
-is_plain_byte b = is_between 65 90 b || is_name_byte b || b == 43 || is_between 45 47 b || b == 58 || b == 64
-
--- it begins with 0x
-abbrev pub begins_hex : List ℕ → Bool
-begins_hex [] = false
-begins_hex (a ∷ []) = false
-begins_hex (a ∷ b ∷ bytes) = a == 48 && b == 120
-
--- the first form can hold the bytes: there is one, each is plain, and they don't begin with 0x
-abbrev pub is_plain : List ℕ → Bool
-is_plain bytes = if length bytes == 0 || begins_hex bytes then false else list_all is_plain_byte bytes
-
--- the second form: 0x, and each byte as two digits in lower case
-abbrev pub hex_word : List ℕ → List ℕ
-hex_word bytes = codes "0x" ++ encode_lower bytes
-
--- a byte word as it is printed: in the first form where that can hold it, else in the second
-unfoldable pub spell : List ℕ → List ℕ
-spell bytes = if is_plain bytes then bytes else hex_word bytes
-
--- ---- events
+-- ---- writes
 
 abbrev pub op_words_of : NamedOp → Op → List (List ℕ)
 op_words_of o (ops.Put value) = codes "put" ∷ o.family ∷ spell o.key ∷ decimal o.ts.0 ∷ spell value ∷ []
@@ -77,61 +52,90 @@ ops_words os = join_by op_words (codes ";" ∷ []) os
 abbrev pub write_words : List NamedOp → Bool → List (List ℕ)
 write_words os sync = ops_words os ++ sync_words sync
 
--- The event is one whose command is built so far: a write of one or more operations, a get without a snapshot, or a sync.
-abbrev pub IsBuilt : Event → Type 0
-IsBuilt (Write os sync) = (0 < length os) × (length os ≤ BATCH_LIMIT)
-IsBuilt (Get family key t None) = Unit {0}
-IsBuilt Sync = Unit {0}
-IsBuilt event = ⊥
+-- ---- events and commands, each in its one form
 
--- the command is that of such an event
+-- what a client may ask for in a line of its own, beside writes
+abbrev pub asked_parts : Event → Option (List Part)
+asked_parts (events.Get family key t None) = Some (a_word (codes "get") ∷ a_name family ∷ a_key key ∷ a_number t.0 ∷ [])
+asked_parts (events.Raise family floor) = Some (a_word (codes "raise") ∷ a_name family ∷ a_number floor.0 ∷ [])
+asked_parts (events.Floor family) = Some (a_word (codes "floor") ∷ a_name family ∷ [])
+asked_parts events.Sync = Some (a_word (codes "sync") ∷ [])
+asked_parts event = None
+
+-- that, and what jobs do
+abbrev pub event_parts : Event → Option (List Part)
+event_parts (events.FlushStart family) = Some (a_word (codes "flush") ∷ a_name family ∷ a_word (codes "start") ∷ [])
+event_parts (events.FlushEnd family start) = Some (a_word (codes "flush") ∷ a_name family ∷ a_word (codes "end") ∷ a_number start ∷ [])
+event_parts event = asked_parts event
+
+-- a command is what a client may ask for, or a job
+abbrev pub command_parts : Command → Option (List Part)
+command_parts (commands.Line event) = asked_parts event
+command_parts (commands.Flush family) = Some (a_word (codes "flush") ∷ a_name family ∷ [])
+
+-- The event has words so far: a write of one or more operations, or one that has a form.
+abbrev pub IsBuilt : Event → Type 0
+IsBuilt (events.Write os sync) = (0 < length os) × (length os ≤ BATCH_LIMIT)
+IsBuilt event = HasParts (event_parts event)
+
+-- so has the command
 abbrev pub IsBuiltCommand : Command → Type 0
-IsBuiltCommand (commands.Line event) = IsBuilt event
+IsBuiltCommand (commands.Line (events.Write os sync)) = (0 < length os) × (length os ≤ BATCH_LIMIT)
+IsBuiltCommand command = HasParts (command_parts command)
 
 -- the words of an event that is built
 abbrev pub event_words : Event → List (List ℕ)
-event_words (Write os sync) = write_words os sync
-event_words (Get family key t None) = codes "get" ∷ family ∷ spell key ∷ decimal t.0 ∷ []
-event_words Sync = codes "sync" ∷ []
-event_words event = []
+event_words (events.Write os sync) = write_words os sync
+event_words event = part_words (event_parts event)
 
 -- ---- replies
 
-abbrev pub stamp_word : Stamp → List ℕ
-stamp_word (stamps.At ts) = decimal ts.0
-stamp_word stamps.Below = codes "below"
+abbrev pub reply_parts : Reply → Option (List Part)
+reply_parts replies.Done = Some (a_word (codes "ok") ∷ [])
+reply_parts (replies.OkAt n) = Some (a_word (codes "ok") ∷ a_number n ∷ [])
+reply_parts (replies.Below op floor) = Some (a_word (codes "below") ∷ a_number op ∷ a_number floor.0 ∷ [])
+reply_parts (replies.Fell op newest) = Some (a_word (codes "fell") ∷ a_number op ∷ a_number newest.0 ∷ [])
+reply_parts (replies.Full last) = Some (a_word (codes "full") ∷ a_number last.0 ∷ [])
+reply_parts (replies.Found value stamp) = Some (a_word (codes "found") ∷ a_value value ∷ a_stamp stamp ∷ [])
+reply_parts replies.Absent = Some (a_word (codes "absent") ∷ [])
+reply_parts (replies.Collapsed floor) = Some (a_word (codes "collapsed") ∷ a_number floor.0 ∷ [])
+reply_parts (replies.Floor floor) = Some (a_word (codes "floor") ∷ a_number floor.0 ∷ [])
+reply_parts replies.Nothing = Some (a_word (codes "none") ∷ [])
+reply_parts (replies.Busy start) = Some (a_word (codes "busy") ∷ a_number start ∷ [])
+reply_parts (replies.Files next) = Some (a_word (codes "files") ∷ a_number next ∷ [])
+reply_parts (replies.Table table kept floor) = Some (a_word (codes "table") ∷ a_number table ∷ a_word (codes "kept") ∷ a_number kept ∷ a_word (codes "floor") ∷ a_number floor.0 ∷ [])
+reply_parts replies.DroppedFault = Some (a_word (codes "dropped") ∷ a_word (codes "fault") ∷ [])
+reply_parts replies.DroppedMemory = Some (a_word (codes "dropped") ∷ a_word (codes "memory") ∷ [])
+reply_parts (replies.DroppedFiles next) = Some (a_word (codes "dropped") ∷ a_word (codes "files") ∷ a_number next ∷ [])
+reply_parts replies.Unknown = Some (a_word (codes "unknown") ∷ [])
+reply_parts (replies.Halted since) = Some (a_word (codes "halted") ∷ a_number since ∷ [])
+reply_parts replies.Fault = Some (a_word (codes "fault") ∷ [])
+reply_parts replies.NoMemory = Some (a_word (codes "no") ∷ a_word (codes "memory") ∷ [])
+reply_parts replies.History = Some (a_word (codes "history") ∷ [])
+reply_parts reply = None
 
--- the reply is one that a built event may have
+-- the reply has words so far
 abbrev pub IsBuiltReply : Reply → Type 0
-IsBuiltReply Done = Unit {0}
-IsBuiltReply (OkAt n) = Unit {0}
-IsBuiltReply (Below op floor) = Unit {0}
-IsBuiltReply (Fell op newest) = Unit {0}
-IsBuiltReply (Full last) = Unit {0}
-IsBuiltReply (Found value stamp) = Unit {0}
-IsBuiltReply Absent = Unit {0}
-IsBuiltReply (Collapsed floor) = Unit {0}
-IsBuiltReply Unknown = Unit {0}
-IsBuiltReply (Halted since) = Unit {0}
-IsBuiltReply Fault = Unit {0}
-IsBuiltReply NoMemory = Unit {0}
-IsBuiltReply reply = ⊥
+IsBuiltReply reply = HasParts (reply_parts reply)
+
+-- The reply refuses what was asked. What a read below the floor is told counts among these.
+abbrev pub IsRefusal : Reply → Type 0
+IsRefusal (replies.Below op floor) = Unit {0}
+IsRefusal (replies.Fell op newest) = Unit {0}
+IsRefusal (replies.Full last) = Unit {0}
+IsRefusal (replies.Collapsed floor) = Unit {0}
+IsRefusal (replies.Busy start) = Unit {0}
+IsRefusal (replies.Files next) = Unit {0}
+IsRefusal replies.Unknown = Unit {0}
+IsRefusal (replies.Halted since) = Unit {0}
+IsRefusal replies.Fault = Unit {0}
+IsRefusal replies.NoMemory = Unit {0}
+IsRefusal replies.History = Unit {0}
+IsRefusal reply = ⊥
 
 -- the words of a reply that is built
 abbrev pub reply_words : Reply → List (List ℕ)
-reply_words Done = codes "ok" ∷ []
-reply_words (OkAt n) = codes "ok" ∷ decimal n ∷ []
-reply_words (Below op floor) = codes "below" ∷ decimal op ∷ decimal floor.0 ∷ []
-reply_words (Fell op newest) = codes "fell" ∷ decimal op ∷ decimal newest.0 ∷ []
-reply_words (Full last) = codes "full" ∷ decimal last.0 ∷ []
-reply_words (Found value stamp) = codes "found" ∷ spell value ∷ stamp_word stamp ∷ []
-reply_words Absent = codes "absent" ∷ []
-reply_words (Collapsed floor) = codes "collapsed" ∷ decimal floor.0 ∷ []
-reply_words Unknown = codes "unknown" ∷ []
-reply_words (Halted since) = codes "halted" ∷ decimal since ∷ []
-reply_words Fault = codes "fault" ∷ []
-reply_words NoMemory = codes "no" ∷ codes "memory" ∷ []
-reply_words reply = []
+reply_words reply = part_words (reply_parts reply)
 
 -- ---- lines
 

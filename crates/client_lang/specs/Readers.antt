@@ -3,14 +3,18 @@ use Rattle.std.specs.Prelude.{◌≡◌, ℕ, Bool, IsTrue, List, [], ◌∷◌,
 use Rattle.std.specs.Str.{bytes_eq}
 use Rattle.ts_key.specs.declared.limits.TheConstants.{KEY_LIMIT}
 use Rattle.ts_key.specs.declared.version.Op.{Op}
-use Rattle.udt_model.specs.declared.event.Event.{Event}
-use Rattle.udt_model.specs.declared.event.Event.TheVariants.{Write}
+use Rattle.udt_model.specs.declared.event.Event.TheVariants as events
 use Rattle.udt_model.specs.declared.event.NamedOp.{NamedOp}
 use Rattle.client_lang.specs.declared.grammar.commands.Target.{Target}
 use Rattle.client_lang.specs.declared.grammar.commands.Step.{Step}
 use Rattle.client_lang.specs.declared.grammar.commands.Tail.{Tail}
 use Rattle.client_lang.specs.declared.grammar.commands.Tail.TheVariants as tails
-use Rattle.client_lang.specs.Grammar.{IsName, IsNumber, IsByteWord, IsOp, IsWrite, IsEvent}
+use Rattle.client_lang.specs.declared.grammar.forms.Verb.{Verb}
+use Rattle.client_lang.specs.declared.grammar.forms.Verb.TheVariants as verbs
+use Rattle.client_lang.specs.declared.command.Command.{Command}
+use Rattle.client_lang.specs.declared.command.Command.TheVariants as commands
+use Rattle.client_lang.specs.Print.{command_parts}
+use Rattle.client_lang.specs.Grammar.{IsName, IsNumber, IsByteWord, IsOp, IsWrite, AreSpellings}
 
 -- the words F K T are this target
 pub record IsTarget (family key number : List ℕ) (p : Target) : Type 0 where
@@ -45,12 +49,19 @@ pub record IsFirstOp (words : List (List ℕ)) (s : Step) : Type 0 where
   pub op_is : IsOp (take (op_length words) words) s.op
   pub tail_is : IsTail (drop (op_length words) words) s.tail
 
--- the words ask for this event, which is no write
-abbrev pub IsPlainEvent : List (List ℕ) → Event → Type 0
-IsPlainEvent words (Write os sync) = ⊥
-IsPlainEvent words event = IsEvent words event
+-- the words ask for this command, which is no write
+abbrev pub IsPlainCommand : List (List ℕ) → Command → Type 0
+IsPlainCommand words command = AreSpellings words (command_parts command)
 
--- the words ask for this event, which is a write
-abbrev pub IsWriteEvent : List (List ℕ) → Event → Type 0
-IsWriteEvent words (Write os sync) = IsWrite words os sync
-IsWriteEvent words event = ⊥
+-- the words ask for this command, which is a write
+abbrev pub IsWriteCommand : List (List ℕ) → Command → Type 0
+IsWriteCommand words (commands.Line (events.Write os sync)) = IsWrite words os sync
+IsWriteCommand words command = ⊥
+
+-- the first word of a command that is no write
+abbrev pub verb_word : Verb → List ℕ
+verb_word verbs.Get = codes "get"
+verb_word verbs.Raise = codes "raise"
+verb_word verbs.Floor = codes "floor"
+verb_word verbs.Flush = codes "flush"
+verb_word verbs.Sync = codes "sync"

@@ -13,3 +13,4 @@ IsStampedEvent event = Unit {0}
 
 abbrev pub IsStampedCommand : Command → Type 0
 IsStampedCommand (commands.Line event) = IsStampedEvent event
+IsStampedCommand command = Unit {0}

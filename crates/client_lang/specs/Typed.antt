@@ -6,9 +6,9 @@ use Rattle.ts_key.specs.declared.version.Op.{Op}
 use Rattle.ts_key.specs.declared.version.Op.TheVariants as ops
 use Rattle.udt_model.specs.declared.event.NamedOp.{NamedOp}
 use Rattle.udt_model.specs.declared.event.Event.{Event}
-use Rattle.udt_model.specs.declared.event.Event.TheVariants.{Write, Get}
+use Rattle.udt_model.specs.declared.event.Event.TheVariants as events
 use Rattle.udt_model.specs.declared.reply.Reply.{Reply}
-use Rattle.udt_model.specs.declared.reply.Reply.TheVariants.{OkAt, Fell, Below, Full, Found, Collapsed, Halted}
+use Rattle.udt_model.specs.declared.reply.Reply.TheVariants as replies
 use Rattle.udt_model.specs.declared.reply.Stamp.{Stamp}
 use Rattle.udt_model.specs.declared.reply.Stamp.TheVariants as stamps
 use Rattle.udt_model.specs.declared.line.FamilyHead.{FamilyHead}
@@ -31,8 +31,12 @@ pub record IsTypedOp (o : NamedOp) : Type 0 where
   pub value : IsTypedValue o.op
 
 abbrev pub IsTypedEvent : Event → Type 0
-IsTypedEvent (Write os sync) = All IsTypedOp os
-IsTypedEvent (Get family key t snap) = IsTrue (is_name family) × IsBytes key × IsNat64 t.0
+IsTypedEvent (events.Write os sync) = All IsTypedOp os
+IsTypedEvent (events.Get family key t snap) = IsTrue (is_name family) × IsBytes key × IsNat64 t.0
+IsTypedEvent (events.Raise family floor) = IsTrue (is_name family) × IsNat64 floor.0
+IsTypedEvent (events.Floor family) = IsTrue (is_name family)
+IsTypedEvent (events.FlushStart family) = IsTrue (is_name family)
+IsTypedEvent (events.FlushEnd family start) = IsTrue (is_name family) × IsNat64 start
 IsTypedEvent event = Unit {0}
 
 abbrev pub IsTypedStamp : Stamp → Type 0
@@ -40,13 +44,18 @@ IsTypedStamp (stamps.At ts) = IsNat64 ts.0
 IsTypedStamp stamps.Below = Unit {0}
 
 abbrev pub IsTypedReply : Reply → Type 0
-IsTypedReply (OkAt n) = IsNat64 n
-IsTypedReply (Below op floor) = IsNat64 op × IsNat64 floor.0
-IsTypedReply (Fell op newest) = IsNat64 op × IsNat64 newest.0
-IsTypedReply (Full last) = IsNat64 last.0
-IsTypedReply (Found value stamp) = IsBytes value × IsTypedStamp stamp
-IsTypedReply (Collapsed floor) = IsNat64 floor.0
-IsTypedReply (Halted since) = IsNat64 since
+IsTypedReply (replies.OkAt n) = IsNat64 n
+IsTypedReply (replies.Below op floor) = IsNat64 op × IsNat64 floor.0
+IsTypedReply (replies.Fell op newest) = IsNat64 op × IsNat64 newest.0
+IsTypedReply (replies.Full last) = IsNat64 last.0
+IsTypedReply (replies.Found value stamp) = IsBytes value × IsTypedStamp stamp
+IsTypedReply (replies.Collapsed floor) = IsNat64 floor.0
+IsTypedReply (replies.Floor floor) = IsNat64 floor.0
+IsTypedReply (replies.Busy start) = IsNat64 start
+IsTypedReply (replies.Files next) = IsNat64 next
+IsTypedReply (replies.Table table kept floor) = IsNat64 table × IsNat64 kept × IsNat64 floor.0
+IsTypedReply (replies.DroppedFiles next) = IsNat64 next
+IsTypedReply (replies.Halted since) = IsNat64 since
 IsTypedReply reply = Unit {0}
 
 abbrev pub IsTypedWho : Who → Type 0

@@ -2,7 +2,8 @@
 use Rattle.std.specs.Prelude.{ℕ, List, ◌∷◌, codes}
 use Rattle.std.specs.List.{flat_map}
 use Rattle.std.specs.Fmt.{decimal}
-use Rattle.client_lang.specs.Print.{spell, mark_word, op_words, who_word}
+use Rattle.client_lang.specs.Print.{mark_word, op_words, who_word}
+use Rattle.client_lang.specs.Spells.{spell}
 use Rattle.udt_model.specs.declared.event.NamedOp.{NamedOp}
 use Rattle.client_lang.specs.declared.print.Word.{Word}
 use Rattle.client_lang.specs.declared.print.Word.TheVariants as kinds

@@ -11,19 +11,22 @@
 //!
 //! Each call adds its text to the end of a buffer. It takes memory only where the buffer hasn't the room, and so it
 //! can't fail where the room was reserved. A call that fails leaves the buffer's bytes as they were.
-ghost use Rattle.std.specs.Prelude.{◌≡◌, ◌<◌, ◌∷◌, [], List, All, OnErr, OnOk, map, slice_index, take, vec_capacity};
+ghost use Rattle.std.specs.Prelude.{◌≡◌, ◌<◌, ◌∷◌, [], List, All, OnErr, OnOk, codes, map, slice_index, take, vec_capacity};
 ghost use Rattle.std.specs.Fmt.{decimal};
 ghost use Rattle.std.specs.List.{flat_map, list_all};
 ghost use Rattle.hex.specs.Hex.{encode_lower, lower_digits};
 ghost use Rattle.client_lang.specs.Pushes.{Pushes};
 ghost use Rattle.udt_model.specs.declared.line.Line.{Line};
+ghost use Rattle.client_lang.specs.Parts.{HasParts, part_words};
 ghost use Rattle.client_lang.specs.Print as printed;
+ghost use Rattle.client_lang.specs.Spells as spells;
+ghost use Rattle.client_lang.specs.Spells.{spell, stamp_word as stamp_text};
 ghost use Rattle.client_lang.specs.Transcripts.{IsTypedTranscript, Transcript, print_transcript};
 ghost use Rattle.client_lang.specs.Typed.{IsTypedLine};
 ghost use Rattle.client_lang.specs.Words.{followed, next_op_text, word_text};
 
 use itoa::Buffer;
-use ts_key::{Form, NoMemory, Op};
+use ts_key::{Form, Name, NoMemory, Op, Ts, Value};
 use udt_model::{Event, FamilyHead, Line, Mark, NamedOp, Reply, Stamp, Who};
 
 /// A word of a line.
@@ -225,9 +228,9 @@ fn push_who(out: &mut Vec<u8>, who: Who) -> Result<(), NoMemory>
     }
 }
 
-#[tactic(auto, unfolding(crate::specs::Print::spell))]
+#[tactic(auto, unfolding(crate::specs::Spells::spell))]
 fn push_spelled(out: &mut Vec<u8>, bytes: &[u8]) -> Result<(), NoMemory>
-    ensures { Pushes out.old out.new result (printed.spell bytes.now) }
+    ensures { Pushes out.old out.new result (spell bytes.now) }
 {
     if is_plain(bytes) {
         push_bytes(out, bytes)
@@ -256,13 +259,13 @@ fn hex_digit(n: u8) -> u8
 
 /// The bytes can be a word as they are: there is one, each is plain, and they don't begin with `0x`.
 pub fn is_plain(bytes: &[u8]) -> bool
-    ensures { result ≡ printed.is_plain bytes.now }
+    ensures { result ≡ spells.is_plain bytes.now }
 {
     !bytes.is_empty() && !begins_hex(bytes) && are_plain(bytes)
 }
 
 fn begins_hex(bytes: &[u8]) -> bool
-    ensures { result ≡ printed.begins_hex bytes.now }
+    ensures { result ≡ spells.begins_hex bytes.now }
 {
     match bytes {
         [a, b, ..] => *a == b'0' && *b == b'x',
@@ -272,7 +275,7 @@ fn begins_hex(bytes: &[u8]) -> bool
 
 /// Each byte is plain. The loop has no early end, which compilers can turn into tests of many bytes at once.
 fn are_plain(bytes: &[u8]) -> bool
-    ensures { result ≡ list_all printed.is_plain_byte bytes.now }
+    ensures { result ≡ list_all spells.is_plain_byte bytes.now }
 {
     let mut plain = true;
     for b in bytes {
@@ -283,7 +286,7 @@ fn are_plain(bytes: &[u8]) -> bool
 
 /// The byte is one of A to Z, a to z, 0 to 9, and `_ - . / : @ +`.
 pub fn is_plain_byte(b: u8) -> bool
-    ensures { result ≡ printed.is_plain_byte b }
+    ensures { result ≡ spells.is_plain_byte b }
 {
     matches!(b, b'A'..=b'Z' | b'a'..=b'z' | b'0'..=b'9' | b'_' | b'+' | b'-'..=b'/' | b':' | b'@')
 }
@@ -295,6 +298,18 @@ fn push_event(out: &mut Vec<u8>, event: &Event) -> Result<(), NoMemory>
 {
     match event {
         Event::Write { ops, sync } => push_write(out, ops.as_slice(), *sync),
+        Event::FlushStart { family } => push_start(out, b"flush", family),
+        Event::FlushEnd { family, start } => push_end(out, b"flush", family, *start),
+        _ => push_asked(out, event),
+    }
+}
+
+/// Adds the words of what a client asks for in one form.
+fn push_asked(out: &mut Vec<u8>, event: &Event) -> Result<(), NoMemory>
+    requires { HasParts (printed.asked_parts event.now) }
+    ensures { Pushes out.old out.new result (followed (part_words (printed.asked_parts event.now))) }
+{
+    match event {
         Event::Get {
             family,
             key,
@@ -309,9 +324,50 @@ fn push_event(out: &mut Vec<u8>, event: &Event) -> Result<(), NoMemory>
                 Word::Number(t.0),
             ],
         ),
+        Event::Raise { family, floor } => push_followed(
+            out,
+            &[
+                Word::Text(b"raise"),
+                Word::Text(family.bytes()),
+                Word::Number(floor.0),
+            ],
+        ),
+        Event::Floor { family } => push_followed(
+            out,
+            &[Word::Text(b"floor"), Word::Text(family.bytes())],
+        ),
         Event::Sync => push_followed(out, &[Word::Text(b"sync")]),
         _ => unreachable!(),
     }
+}
+
+/// Adds the words of the start of a job.
+fn push_start<'a>(out: &mut Vec<u8>, job: &'a [u8], family: &'a Name) -> Result<(), NoMemory>
+    ensures { Pushes out.old out.new result (followed (job.now ∷ family.now ∷ codes "start" ∷ [])) }
+{
+    push_followed(
+        out,
+        &[
+            Word::Text(job),
+            Word::Text(family.bytes()),
+            Word::Text(b"start"),
+        ],
+    )
+}
+
+/// Adds the words of the end of a job that the event `start` started.
+fn push_end<'a>(out: &mut Vec<u8>, job: &'a [u8], family: &'a Name, start: u64) -> Result<(), NoMemory>
+    ensures { Pushes out.old out.new result (followed (job.now ∷ family.now ∷ codes "end" ∷ decimal start ∷ [])) }
+{
+    push_followed(
+        out,
+        &[
+            Word::Text(job),
+            Word::Text(family.bytes()),
+            Word::Text(b"end"),
+            Word::Number(start),
+        ],
+    )
 }
 
 fn push_write(out: &mut Vec<u8>, ops: &[NamedOp], sync: bool) -> Result<(), NoMemory>
@@ -381,50 +437,113 @@ fn push_reply(out: &mut Vec<u8>, reply: &Reply) -> Result<(), NoMemory>
 {
     match reply {
         Reply::Done => push_followed(out, &[Word::Text(b"ok")]),
-        Reply::OkAt { number } => push_followed(out, &[Word::Text(b"ok"), Word::Number(*number)]),
-        Reply::Below { op, floor } => push_followed(
-            out,
-            &[
-                Word::Text(b"below"),
-                Word::Number(u64::from(*op)),
-                Word::Number(floor.0),
-            ],
-        ),
-        Reply::Fell { op, newest } => push_followed(
-            out,
-            &[
-                Word::Text(b"fell"),
-                Word::Number(u64::from(*op)),
-                Word::Number(newest.0),
-            ],
-        ),
-        Reply::Full { last } => push_followed(out, &[Word::Text(b"full"), Word::Number(last.0)]),
-        Reply::Found { value, stamp } => push_followed(
-            out,
-            &[
-                Word::Text(b"found"),
-                Word::Bytes(value.bytes()),
-                stamp_word(*stamp),
-            ],
-        ),
+        Reply::OkAt { number } => push_told(out, b"ok", *number),
+        Reply::Found { value, stamp } => push_found(out, value, *stamp),
         Reply::Absent => push_followed(out, &[Word::Text(b"absent")]),
-        Reply::Collapsed { floor } => push_followed(
-            out,
-            &[Word::Text(b"collapsed"), Word::Number(floor.0)],
-        ),
+        Reply::Floor { floor } => push_told(out, b"floor", floor.0),
+        Reply::Nothing => push_followed(out, &[Word::Text(b"none")]),
+        Reply::Table { table, kept, floor } => push_table(out, *table, *kept, *floor),
+        Reply::DroppedFault => push_pair(out, b"dropped", b"fault"),
+        Reply::DroppedMemory => push_pair(out, b"dropped", b"memory"),
+        Reply::DroppedFiles { next } => push_dropped_files(out, *next),
+        _ => push_refusal(out, reply),
+    }
+}
+
+/// Adds the words of a reply that refuses what was asked.
+fn push_refusal(out: &mut Vec<u8>, reply: &Reply) -> Result<(), NoMemory>
+    requires { printed.IsRefusal reply.now }
+    ensures { Pushes out.old out.new result (followed (printed.reply_words reply.now)) }
+{
+    match reply {
+        Reply::Below { op, floor } => push_operation(out, b"below", *op, *floor),
+        Reply::Fell { op, newest } => push_operation(out, b"fell", *op, *newest),
+        Reply::Full { last } => push_told(out, b"full", last.0),
+        Reply::Collapsed { floor } => push_told(out, b"collapsed", floor.0),
+        Reply::Busy { start } => push_told(out, b"busy", *start),
+        Reply::Files { next } => push_told(out, b"files", *next),
         Reply::Unknown => push_followed(out, &[Word::Text(b"unknown")]),
-        Reply::Halted { since } => push_followed(
-            out,
-            &[Word::Text(b"halted"), Word::Number(*since)],
-        ),
+        Reply::Halted { since } => push_told(out, b"halted", *since),
         Reply::Fault => push_followed(out, &[Word::Text(b"fault")]),
-        Reply::NoMemory => push_followed(out, &[Word::Text(b"no"), Word::Text(b"memory")]),
+        Reply::NoMemory => push_pair(out, b"no", b"memory"),
+        Reply::History => push_followed(out, &[Word::Text(b"history")]),
         _ => unreachable!(),
     }
 }
 
+/// Adds a word and a number.
+fn push_told(out: &mut Vec<u8>, text: &[u8], number: u64) -> Result<(), NoMemory>
+    ensures { Pushes out.old out.new result (followed (text.now ∷ decimal number ∷ [])) }
+{
+    push_followed(out, &[Word::Text(text), Word::Number(number)])
+}
+
+/// Adds two words.
+fn push_pair<'a>(out: &mut Vec<u8>, first: &'a [u8], second: &'a [u8]) -> Result<(), NoMemory>
+    ensures { Pushes out.old out.new result (followed (first.now ∷ second.now ∷ [])) }
+{
+    push_followed(out, &[Word::Text(first), Word::Text(second)])
+}
+
+/// Adds why an operation, counted from 1, is refused, and the timestamp that it isn't above.
+fn push_operation(out: &mut Vec<u8>, text: &[u8], op: u32, ts: Ts) -> Result<(), NoMemory>
+    ensures { Pushes out.old out.new result (followed (text.now ∷ decimal op ∷ decimal ts.0 ∷ [])) }
+{
+    push_followed(
+        out,
+        &[
+            Word::Text(text),
+            Word::Number(u64::from(op)),
+            Word::Number(ts.0),
+        ],
+    )
+}
+
+fn push_found(out: &mut Vec<u8>, value: &Value, stamp: Stamp) -> Result<(), NoMemory>
+    ensures { Pushes out.old out.new result (followed (codes "found" ∷ spell value.now ∷ stamp_text stamp ∷ [])) }
+{
+    push_followed(
+        out,
+        &[
+            Word::Text(b"found"),
+            Word::Bytes(value.bytes()),
+            stamp_word(stamp),
+        ],
+    )
+}
+
+/// Adds what the end of a flush tells.
+fn push_table(out: &mut Vec<u8>, table: u64, kept: u64, floor: Ts) -> Result<(), NoMemory>
+    ensures { Pushes out.old out.new result (followed (printed.reply_words (Reply.Table table kept floor))) }
+{
+    push_followed(
+        out,
+        &[
+            Word::Text(b"table"),
+            Word::Number(table),
+            Word::Text(b"kept"),
+            Word::Number(kept),
+            Word::Text(b"floor"),
+            Word::Number(floor.0),
+        ],
+    )
+}
+
+fn push_dropped_files(out: &mut Vec<u8>, next: u64) -> Result<(), NoMemory>
+    ensures { Pushes out.old out.new result (followed (codes "dropped" ∷ codes "files" ∷ decimal next ∷ [])) }
+{
+    push_followed(
+        out,
+        &[
+            Word::Text(b"dropped"),
+            Word::Text(b"files"),
+            Word::Number(next),
+        ],
+    )
+}
+
 fn stamp_word(stamp: Stamp) -> Word<'static>
-    ensures { word_text result ≡ printed.stamp_word stamp }
+    ensures { word_text result ≡ stamp_text stamp }
 {
     match stamp {
         Stamp::At(ts) => Word::Number(ts.0),

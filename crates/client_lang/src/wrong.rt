@@ -19,7 +19,7 @@ pub enum Wrong {
     SpaceBehind,
     #[error("words have one space between them, not more")]
     Spaces,
-    #[error("unknown command; the commands are put, del, get and sync")]
+    #[error("unknown command; the commands are put, del, get, raise, floor, flush and sync")]
     Verb,
     #[error("put wants a family, a key, a timestamp and a value")]
     Put,
@@ -27,6 +27,12 @@ pub enum Wrong {
     Del,
     #[error("get wants a family, a key and a timestamp, and nothing behind them")]
     Get,
+    #[error("raise wants a family and a timestamp, and nothing behind them")]
+    Raise,
+    #[error("floor wants a family, and nothing behind it")]
+    Floor,
+    #[error("flush wants a family, and nothing behind it")]
+    Flush,
     #[error("sync stands alone in its line, or last behind a write")]
     Sync,
     #[error("; is a word of its own, with a space on each side, between two operations")]
@@ -69,6 +75,17 @@ pub fn wrong_with(alloc: Global, line: &[u8]) -> Result<Wrong, AllocError> {
     let words: Vec<&[u8]> = line.split(|b| *b == b' ').collect(alloc)?;
     let found = match words.as_slice() {
         [verb, behind @ ..] if *verb == b"get".as_slice() => check_get(alloc, behind),
+        [verb, behind @ ..] if *verb == b"raise".as_slice() => check_raise(alloc, behind),
+        [verb, behind @ ..] if *verb == b"floor".as_slice() => check_lone(
+            alloc,
+            behind,
+            Wrong::Floor,
+        ),
+        [verb, behind @ ..] if *verb == b"flush".as_slice() => check_lone(
+            alloc,
+            behind,
+            Wrong::Flush,
+        ),
         [verb, ..] if *verb == b"sync".as_slice() => Err(Wrong::Sync),
         words => check_ops(alloc, words, BATCH_LIMIT),
     };
@@ -102,10 +119,34 @@ fn check_get(alloc: Global, behind: &[&[u8]]) -> Result<(), Wrong> {
     };
     check_target(alloc, family, key)?;
     check_number(number)?;
+    check_end(rest, Wrong::Get)
+}
+
+/// The words behind `raise` are a family and a timestamp.
+fn check_raise(alloc: Global, behind: &[&[u8]]) -> Result<(), Wrong> {
+    let [family, number, rest @ ..] = behind else {
+        return Err(Wrong::Raise);
+    };
+    check_family(alloc, family)?;
+    check_number(number)?;
+    check_end(rest, Wrong::Raise)
+}
+
+/// The words behind a verb are a family alone; `wanted` says so.
+fn check_lone(alloc: Global, behind: &[&[u8]], wanted: Wrong) -> Result<(), Wrong> {
+    let [family, rest @ ..] = behind else {
+        return Err(wanted);
+    };
+    check_family(alloc, family)?;
+    check_end(rest, wanted)
+}
+
+/// Nothing stands behind a command; `wanted` says what it has.
+fn check_end(rest: &[&[u8]], wanted: Wrong) -> Result<(), Wrong> {
     match rest {
         [] => Ok(()),
         [word, ..] if word.starts_with(b"#") => Err(Wrong::Comment),
-        _ => Err(Wrong::Get),
+        _ => Err(wanted),
     }
 }
 
@@ -168,10 +209,15 @@ fn is_joined(word: &[u8]) -> bool {
     word.contains(&b';')
 }
 
-fn check_target(alloc: Global, family: &[u8], key: &[u8]) -> Result<(), Wrong> {
-    if let Ok(None) = read_name(alloc, family) {
-        return Err(Wrong::Family);
+fn check_family(alloc: Global, family: &[u8]) -> Result<(), Wrong> {
+    match read_name(alloc, family) {
+        Ok(None) => Err(Wrong::Family),
+        Ok(Some(_)) | Err(_) => Ok(()),
     }
+}
+
+fn check_target(alloc: Global, family: &[u8], key: &[u8]) -> Result<(), Wrong> {
+    check_family(alloc, family)?;
     match read_key(alloc, key) {
         Ok(None) => Err(wrong_bytes(key, Wrong::LongKey)),
         Ok(Some(_)) | Err(_) => Ok(()),

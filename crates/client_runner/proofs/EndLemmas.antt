@@ -28,8 +28,8 @@ use Rattle.client_runner.specs.declared.status.Stop.TheVariants.{NoFile, TooLong
 use Rattle.client_runner.specs.Works.{Spells}
 use Rattle.client_runner.specs.Left.{IsUnmadeAt, StaysAsItWas, TellsFolder}
 use Rattle.client_lang.specs.declared.command.Command.{Command}
-use Rattle.head_manifest.specs.Folders.{Means}
-use Rattle.head_manifest.specs.Folders.Meaning.{no_store, bad_at}
+use Rattle.manifest.specs.Folders.{Means}
+use Rattle.manifest.specs.Folders.Meaning.{no_store, bad_at}
 use Rattle.udt_disk.specs.Joint.{Folder}
 use Rattle.client_runner.proofs.FolderLemmas.{not_bad}
 use Rattle.client_runner.proofs.FaultLemmas.{none_told}

@@ -3,15 +3,15 @@ use Rattle.std.proofs.Common.{◌≡◌, ℕ, Some, None, ◌⊎◌, refl, inl, 
 use Rattle.udt_disk.specs.Causes.{Rose}
 use Rattle.udt_disk.specs.Joint.{Folder}
 use Rattle.udt_disk.specs.OpensFolder.{Holding}
-use Rattle.head_manifest.specs.declared.fold.Folded.{Folded}
-use Rattle.head_manifest.specs.Folders.{Means}
-use Rattle.head_manifest.specs.Folders.Meaning.{no_store, bad_at, store}
-use Rattle.head_manifest.proofs.Meanings.{means_once}
-use Rattle.plain_recovery.specs.Fault.{RefusesOpening}
+use Rattle.manifest_fold.specs.declared.fold.Folded.{Folded}
+use Rattle.manifest.specs.Folders.{Means}
+use Rattle.manifest.specs.Folders.Meaning.{no_store, bad_at, store}
+use Rattle.manifest.proofs.Meanings.{means_once}
+use Rattle.recovery.specs.Opening.{RefusesOpening}
 use Rattle.client_runner.specs.Runs.{stop_of_opening}
 use Rattle.client_runner.specs.Stops.{IsOpenStop}
-use Rattle.plain_recovery.specs.declared.fault.OpenFault.{OpenFault}
-use Rattle.plain_recovery.specs.declared.fault.OpenFault.TheVariants as opening
+use Rattle.recovery.specs.declared.fault.OpenFault.{OpenFault}
+use Rattle.recovery.specs.declared.fault.OpenFault.TheVariants as opening
 use Rattle.client_runner.specs.declared.status.Stop.{Stop}
 use Rattle.client_runner.specs.declared.status.Stop.TheVariants.{NoStore, BadManifest, BadLog, DiskFault, NoMemory}
 use Rattle.plain_recovery.proofs.OneRefusal.{IsToldRefusal}

@@ -8,18 +8,18 @@ use Rattle.udt_disk.specs.declared.name.FileName.TheVariants.{Made}
 use Rattle.udt_disk.specs.declared.file.DiskFile as file
 use Rattle.udt_disk.specs.declared.disk.Disk as disk
 use Rattle.udt_model.specs.declared.line.FamilyHead.{FamilyHead}
-use Rattle.head_manifest.specs.Folders.{Means}
-use Rattle.head_manifest.specs.Folders.Meaning.{no_store}
+use Rattle.manifest.specs.Folders.{Means}
+use Rattle.manifest.specs.Folders.Meaning.{no_store}
 use Rattle.udt_disk.specs.Moments.{OnlyReads, alone}
 use Rattle.udt_disk.proofs.Moments.{stands_all, leaves_all}
 use Rattle.client_runner.specs.Inits.{IsInitLeft, stop_of_making}
 use Rattle.client_runner.specs.Left.{Crashes, no_files, IsMadeSo, IsMadeAt, IsUnmadeAt, StaysAsItWas}
-use Rattle.plain_recovery.specs.Making.{new_state, IsNoneOrNew, KeepsOthers}
-use Rattle.plain_recovery.specs.Fault.{IsMakingRefusal, RefusesMaking}
+use Rattle.engine_laws.specs.Standing.{FolderStands, new_state}
+use Rattle.recovery.specs.Making.{IsMakingRefusal, IsNoneOrNew, KeepsOthers, RefusesMaking}
+use Rattle.recovery.specs.Tables.{ReadsAsTable}
 use Rattle.udt_disk.specs.Moments.{IsClean, MayLeaveFolder}
-use Rattle.plain_recovery.specs.declared.fault.InitFault.{InitFault}
-use Rattle.plain_recovery.specs.declared.fault.InitFault.TheVariants as inits
-use Rattle.plain_recovery.specs.Stores.{FolderStands}
+use Rattle.recovery.specs.declared.fault.InitFault.{InitFault}
+use Rattle.recovery.specs.declared.fault.InitFault.TheVariants as inits
 use Rattle.client_runner.proofs.SameFolders.{means_same}
 use Rattle.client_runner.proofs.GivenBack.{IsGivenBack}
 
@@ -39,7 +39,7 @@ module _ {D F : Type 0} (d : disk.Ghosts D F) where
 
     module _ (families : List FamilyHead) where
       abbrev IsNew : Folder → Type 0
-      IsNew folder = FolderStands folder (new_state families)
+      IsNew folder = FolderStands ReadsAsTable folder (new_state families)
 
       pub made_at : (old : Holding) → IsGivenBack d old new crash.now true first last → (IsTrue (d.is_told first) → KeepsOthers d first last) → (IsTrue (d.is_told first) → IsNew (d.stands last)) → (IsTrue (d.is_told first) → Means (d.stands first) no_store)
           → (IsTrue (d.is_told first) → IsClean d first → (folder : Folder) → MayLeaveFolder d last folder → IsNew folder) → IsMadeAt old new crash.now families

@@ -9,8 +9,8 @@ use Rattle.udt_disk.specs.declared.disk.Disk as disk
 use Rattle.udt_model.specs.declared.line.Line.{Line}
 use Rattle.udt_model.specs.State.{State}
 use Rattle.udt_model.specs.Histories.{Point}
-use Rattle.head_manifest.specs.Folders.{Means}
-use Rattle.head_manifest.specs.Folders.Meaning.{no_store, bad_at}
+use Rattle.manifest.specs.Folders.{Means}
+use Rattle.manifest.specs.Folders.Meaning.{no_store, bad_at}
 use Rattle.client_lang.specs.declared.command.Command.{Command}
 use Rattle.client_runner.specs.Works.{IsRunLeft}
 use Rattle.client_runner.specs.HostRuns.{IsRunAt, IsStoppedAt}
@@ -20,8 +20,8 @@ use Rattle.plain_recovery.specs.Fault.{IsBadLog, RefusesOpening}
 use Rattle.client_runner.specs.Runs.{KeepsLines, KeepsSome, IsSameFolder, IsRunReady, IsRunRefused, stop_of_opening}
 use Rattle.client_runner.specs.Stops.{IsOpenStop}
 use Rattle.client_runner.specs.declared.output.Ready.{Ready}
-use Rattle.plain_recovery.specs.declared.fault.OpenFault.{OpenFault}
-use Rattle.plain_recovery.specs.declared.fault.OpenFault.TheVariants as faults
+use Rattle.recovery.specs.declared.fault.OpenFault.{OpenFault}
+use Rattle.recovery.specs.declared.fault.OpenFault.TheVariants as faults
 use Rattle.client_runner.specs.declared.status.Stop.{Stop}
 use Rattle.plain_recovery.proofs.States.{one_state}
 use Rattle.client_runner.proofs.SameFolders.{means_same, stands_same, bad_log_same}

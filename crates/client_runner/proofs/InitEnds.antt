@@ -7,9 +7,9 @@ use Rattle.udt_model.specs.declared.line.FamilyHead.{FamilyHead}
 use Rattle.client_runner.specs.Refusals.{TellsInitStop}
 use Rattle.client_runner.specs.Completions.{IsDoneOrWant, TellsNoStore}
 use Rattle.client_runner.specs.Works.{IsInitWork}
-use Rattle.head_manifest.specs.declared.fold.Folded.{Folded}
-use Rattle.head_manifest.specs.Folders.{Means}
-use Rattle.head_manifest.specs.Folders.Meaning.{bad_at, store}
+use Rattle.manifest_fold.specs.declared.fold.Folded.{Folded}
+use Rattle.manifest.specs.Folders.{Means}
+use Rattle.manifest.specs.Folders.Meaning.{bad_at, store}
 use Rattle.client_runner.specs.Left.{Crashes}
 use Rattle.client_runner.specs.Stops.{IsInitStop, message, status_of}
 use Rattle.client_runner.specs.declared.status.Status.{Status}

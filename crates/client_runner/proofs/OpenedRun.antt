@@ -6,7 +6,7 @@ use Rattle.udt_disk.specs.declared.disk.Disk as disk
 use Rattle.udt_model.specs.declared.line.FamilyHead.{FamilyHead}
 use Rattle.udt_model.proofs.Laws.{heads_unflushed}
 use Rattle.wal.specs.Wals.{wal_file}
-use Rattle.head_manifest.specs.Manifest.{manifest_file}
+use Rattle.manifest.specs.Manifest.{manifest_file}
 use Rattle.udt_disk.specs.Moments.{alone, holding, OnlyReads}
 use Rattle.client_lang.specs.declared.command.Command.{Command}
 use Rattle.client_lang.specs.Print.{print_header}
@@ -15,7 +15,7 @@ use Rattle.plain_recovery.specs.Opening.{IsOpened}
 use Rattle.client_runner.specs.Runs.{HasRunParts, IsRunReady, IsRunRefused, KeepsLines, Waits, files_of, state_of_parts}
 use Rattle.solo_runner.specs.Solo.{AreSoundUnless}
 use Rattle.client_runner.specs.declared.output.Ready.{Ready}
-use Rattle.plain_recovery.specs.declared.fault.OpenFault.TheVariants as opens
+use Rattle.recovery.specs.declared.fault.OpenFault.TheVariants as opens
 use Rattle.plain_recovery.specs.declared.opening.Parts.{Parts}
 use Rattle.client_runner.specs.declared.status.Stop.TheVariants.{NoMemory}
 

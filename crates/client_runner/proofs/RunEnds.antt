@@ -15,12 +15,13 @@ use Rattle.client_runner.specs.Works.{IsFileWork, IsRunWork}
 use Rattle.client_lang.specs.declared.grammar.lines.ReadFault.TheVariants as faults
 use Rattle.client_lang.specs.Grammar.{IsFile}
 use Rattle.client_runner.specs.Left.{Crashes, status_of_lines, tells_fault}
-use Rattle.plain_recovery.specs.Fault.{RefusesOpening}
+use Rattle.recovery.specs.Opening.{RefusesOpening}
 use Rattle.client_runner.specs.Runs.{stop_of_opening}
 use Rattle.client_runner.specs.Stops.{IsFileStop, message, status_of}
-use Rattle.plain_recovery.specs.Stores.{FolderStands}
-use Rattle.plain_recovery.specs.declared.fault.OpenFault.{OpenFault}
-use Rattle.plain_recovery.specs.declared.fault.OpenFault.TheVariants as opening
+use Rattle.engine_laws.specs.Standing.{FolderStands}
+use Rattle.recovery.specs.Tables.{ReadsAsTable}
+use Rattle.recovery.specs.declared.fault.OpenFault.{OpenFault}
+use Rattle.recovery.specs.declared.fault.OpenFault.TheVariants as opening
 use Rattle.client_runner.specs.declared.status.Status.{Status}
 use Rattle.client_runner.specs.declared.status.Status.TheVariants as statuses
 use Rattle.client_runner.specs.declared.status.Stop.{Stop}
@@ -91,7 +92,7 @@ other_want before now stop meant e quiet (inl fault) = absurd (quiet fault.1)
 other_want before now stop meant e quiet (inr want) = inr (e ∙ ap status_of want)
 
 pub run_done : (standing : Standing) (old new : Holding) (crash : Crashes) (before now : ℕ) (file : List ℕ) (meant : Status) (text bytes : List ℕ) (commands : List Command) (folder : Folder) (m : State)
-    → standing ≡ Some (Some bytes) → IsFile bytes commands → old ≡ Some (Some folder) → FolderStands folder m → (Rose before now → ⊥) → IsRunWork standing old new crash before now file meant text → IsDoneOrWant meant
+    → standing ≡ Some (Some bytes) → IsFile bytes commands → old ≡ Some (Some folder) → FolderStands ReadsAsTable folder m → (Rose before now → ⊥) → IsRunWork standing old new crash before now file meant text → IsDoneOrWant meant
 run_done standing old new crash before now file meant text bytes commands folder m s spelled holds stands quiet (inl done) = run_is_done done.lines before now meant done.status_is done.cause quiet
 run_done standing old new crash before now file meant text bytes commands folder m s spelled holds stands quiet (inr r) =
     elim r.cause [

@@ -1,20 +1,45 @@
 -- The words of a command line are one command at most.
-use Rattle.std.proofs.Common.{◌≡◌, ℕ, zero, suc, ◌<◌, false, List, [], ◌∷◌, length, get_or, map, refl, sym, ap, subst, ◌∙◌, arith}
+use Rattle.std.proofs.Common.{◌≡◌, ℕ, zero, suc, ◌<◌, false, List, [], ◌∷◌, ◌++◌, length, get_or, map, refl, sym, ap, subst, ◌∙◌, arith}
 use Rattle.std.specs.Prelude.{codes, All}
 use Rattle.std.proofs.lemmas.List.{append_cancel_right}
 use Rattle.std.proofs.lemmas.List.Elements.{All-head, All-tail}
 use Rattle.ts_key.specs.Names.{is_name}
 use Rattle.ts_key.specs.declared.version.Form.{Form}
+use Rattle.ts_key.specs.declared.version.Form.TheVariants.{Persist, Strip}
 use Rattle.ts_key.specs.declared.numbers.Ts.{Ts}
 use Rattle.udt_model.specs.declared.line.FamilyHead.{FamilyHead}
-use Rattle.head_manifest.specs.Heads.{AreNew, IsNewFamily, IsNamed}
-use Rattle.client_runner.specs.Commands.{IsHelpCommand, IsVersionCommand, IsTryCommand, IsInitCommand, IsRunCommand, IsInitWord, family_word, IsNamePart, IsFamilyWord, AreFamilyWords, AreHeadWords}
+use Rattle.manifest.specs.Heads.{AreNew, IsNewFamily, IsNamed}
+use Rattle.client_runner.specs.Commands.{IsHelpCommand, IsVersionCommand, IsTryCommand, IsInitCommand, IsRunCommand, IsInitWord, family_word, form_end, IsNamePart, IsFamilyWord, AreFamilyWords, AreHeadWords}
 
 -- ---- the words of families
 
--- a word has one name before :persist
-pub part_once : (word a b : List ℕ) → IsNamePart word a → IsNamePart word b → a ≡ b
-part_once word a b p q = append_cancel_right a b (codes ":persist") (sym p ∙ q)
+-- the last byte of a text, 0 where there is none
+abbrev last_byte : List ℕ → ℕ
+last_byte [] = 0
+last_byte (b ∷ []) = b
+last_byte (a ∷ b ∷ bytes) = last_byte (b ∷ bytes)
+
+last_behind : (name : List ℕ) (b : ℕ) (bytes : List ℕ) → last_byte (name ++ b ∷ bytes) ≡ last_byte (b ∷ bytes)
+last_behind [] b bytes = refl
+last_behind (x ∷ []) b bytes = refl
+last_behind (x ∷ y ∷ name) b bytes = last_behind (y ∷ name) b bytes
+
+persist_isn't_strip : (a b : List ℕ) → a ++ form_end Persist ≡ b ++ form_end Strip → ⊥
+persist_isn't_strip a b e =
+    let last : last_byte (form_end Persist) ≡ last_byte (form_end Strip) = sym (last_behind a 58 (codes "persist")) ∙ ap last_byte e ∙ last_behind b 58 (codes "strip") in
+    omega arith
+
+-- a word has one name before a form
+part_once : (f g : Form) (a b : List ℕ) → a ++ form_end f ≡ b ++ form_end g → (f ≡ g) × (a ≡ b)
+part_once Persist Persist a b e = (refl, append_cancel_right a b (form_end Persist) e)
+part_once Persist Strip a b e = absurd (persist_isn't_strip a b e)
+part_once Strip Persist a b e = absurd (persist_isn't_strip b a (sym e))
+part_once Strip Strip a b e = (refl, append_cancel_right a b (form_end Strip) e)
+
+-- a word that ends with neither form has none
+pub no_part : (word : List ℕ) → ((name : List ℕ) → IsNamePart word Persist name → ⊥) → ((name : List ℕ) → IsNamePart word Strip name → ⊥) → (name : List ℕ) (form : Form) → IsNamePart word form name → ⊥
+no_part word persist strip name Persist p = persist name p
+no_part word persist strip name Strip p = strip name p
 
 abbrev at_ts : ℕ → Ts
 at_ts n = record { 0 = n }
@@ -22,15 +47,15 @@ at_ts n = record { 0 = n }
 abbrev family : List ℕ → Form → Ts → FamilyHead
 family name form floor = record { name = name; form = form; floor = floor }
 
--- new families of one name are one family
-same_family : (f g : FamilyHead) → IsNewFamily f → IsNewFamily g → f.name ≡ g.name → f ≡ g
-same_family f g p q same =
-    ap (λ (name : List ℕ). family name f.form f.floor) same ∙ ap (λ (form : Form). family g.name form f.floor) (p.form ∙ sym q.form)
-    ∙ ap (λ (n : ℕ). family g.name g.form (at_ts n)) (p.floor ∙ sym q.floor)
+-- new families of one name and form are one family
+same_family : (f g : FamilyHead) → IsNewFamily f → IsNewFamily g → f.name ≡ g.name → f.form ≡ g.form → f ≡ g
+same_family f g p q same form =
+    ap (λ (name : List ℕ). family name f.form f.floor) same ∙ ap (λ (x : Form). family g.name x f.floor) form
+    ∙ ap (λ (n : ℕ). family g.name g.form (at_ts n)) (p ∙ sym q)
 
 -- new families that one word spells are one family
 pub family_once : (f g : FamilyHead) → IsNewFamily f → IsNewFamily g → family_word f ≡ family_word g → f ≡ g
-family_once f g p q same = same_family f g p q (append_cancel_right f.name g.name (codes ":persist") same)
+family_once f g p q same = let one = part_once f.form g.form f.name g.name same in same_family f g p q one.1 one.0
 
 -- new families that one list of words spells are one list
 pub families_once : (fs gs : List FamilyHead) → All IsNewFamily fs → All IsNewFamily gs → map family_word fs ≡ map family_word gs → fs ≡ gs
@@ -44,10 +69,10 @@ families_once (f ∷ fs) (g ∷ gs) p q same =
     let others = families_once fs gs (All-tail IsNewFamily f fs p) (All-tail IsNewFamily g gs q) words in
     ap (λ (h : FamilyHead). h ∷ fs) first ∙ ap (λ (l : List FamilyHead). g ∷ l) others
 
--- no family is spelled where the name before :persist isn't one
-pub no_family : (word name : List ℕ) → IsNamePart word name → is_name name ≡ false → (f : FamilyHead) → IsFamilyWord word f → ⊥
-no_family word name part bad f p =
-    let same : name ≡ f.name = part_once word name f.name part p.is in
+-- no family is spelled where the name before the form isn't one
+pub no_family : (word name : List ℕ) (form : Form) → IsNamePart word form name → is_name name ≡ false → (f : FamilyHead) → IsFamilyWord word f → ⊥
+no_family word name form part bad f p =
+    let same : name ≡ f.name = (part_once form f.form name f.name (sym part ∙ p.is)).1 in
     let at : is_name f.name ≡ false = subst (λ (n : List ℕ). is_name n ≡ false) same bad in
     let named = p.named in cc
 

@@ -2,7 +2,9 @@
 use Rattle.std.specs.Prelude.{◌≡◌, ℕ, List, [], ◌∷◌, ◌++◌, All, map, codes, Option, Some, None}
 use Rattle.std.specs.Str.{IsUtf8}
 use Rattle.udt_model.specs.declared.line.FamilyHead.{FamilyHead}
-use Rattle.head_manifest.specs.Heads.{AreNew, IsNewFamily, IsNamed}
+use Rattle.ts_key.specs.declared.version.Form.{Form}
+use Rattle.manifest.specs.Heads.{AreNew, IsNewFamily, IsNamed}
+use Rattle.client_lang.specs.Print.{form_word}
 use Rattle.client_runner.specs.declared.words.Command.{Command}
 use Rattle.client_runner.specs.declared.words.Command.TheVariants.{Help, Version, Try, Init, Run}
 
@@ -16,11 +18,15 @@ IsVersionCommand words = words ≡ codes "--version" ∷ []
 abbrev pub IsTryCommand : List (List ℕ) → List ℕ → Type 0
 IsTryCommand words file = (words ≡ codes "try" ∷ file ∷ []) × IsUtf8 file
 
+-- a colon and a form
+abbrev pub form_end : Form → List ℕ
+form_end form = 58 ∷ form_word form
+
 -- the word of a family: its name, a colon and its form
 abbrev pub family_word : FamilyHead → List ℕ
-family_word f = f.name ++ codes ":persist"
+family_word f = f.name ++ form_end f.form
 
--- init FOLDER NAME:persist .., for these families, where FOLDER is text
+-- init FOLDER NAME:FORM .., for these families, where FOLDER is text
 pub record IsInitCommand (words : List (List ℕ)) (folder : List ℕ) (families : List FamilyHead) : Type 0 where
   pub is : words ≡ codes "init" ∷ folder ∷ map family_word families
   pub text : IsUtf8 folder
@@ -54,9 +60,9 @@ IsInitWord words = (rest : List (List ℕ)) × (words ≡ codes "init" ∷ rest)
 
 -- ---- the words of families
 
--- the word is this name before :persist
-abbrev pub IsNamePart : List ℕ → List ℕ → Type 0
-IsNamePart word name = word ≡ name ++ codes ":persist"
+-- the word is this name before a colon and this form
+abbrev pub IsNamePart : List ℕ → Form → List ℕ → Type 0
+IsNamePart word form name = word ≡ name ++ form_end form
 
 -- the word spells this family
 pub record IsFamilyWord (word : List ℕ) (f : FamilyHead) : Type 0 where

@@ -8,9 +8,10 @@ use Rattle.client_runner.specs.Commands.{IsTryCommand, IsInitCommand, IsRunComma
 use Rattle.client_lang.specs.Grammar.{IsFile}
 use Rattle.udt_model.specs.declared.line.FamilyHead.{FamilyHead}
 use Rattle.udt_model.specs.State.{State}
-use Rattle.head_manifest.specs.Folders.{Means}
-use Rattle.head_manifest.specs.Folders.Meaning.{no_store}
-use Rattle.plain_recovery.specs.Stores.{FolderStands}
+use Rattle.manifest.specs.Folders.{Means}
+use Rattle.manifest.specs.Folders.Meaning.{no_store}
+use Rattle.engine_laws.specs.Standing.{FolderStands}
+use Rattle.recovery.specs.Tables.{ReadsAsTable}
 use Rattle.client_runner.specs.declared.status.Status.{Status}
 use Rattle.client_runner.specs.declared.status.Status.TheVariants as statuses
 
@@ -47,4 +48,4 @@ IsInitComplete status words holding host_failed sink_failed =
 abbrev pub IsRunComplete : Status → List (List ℕ) → (List ℕ → Standing) → (List ℕ → Holding) → (host_failed : Type 0) → (sink_failed : Type 0) → Type 0
 IsRunComplete status words standing holding host_failed sink_failed =
     (path file bytes : List ℕ) (commands : List Command) (folder : Folder) (m : State) → IsRunCommand words path file → standing file ≡ Some (Some bytes) → IsFile bytes commands
-    → holding path ≡ Some (Some folder) → FolderStands folder m → (host_failed → ⊥) → (sink_failed → ⊥) → IsDoneOrWant status
+    → holding path ≡ Some (Some folder) → FolderStands ReadsAsTable folder m → (host_failed → ⊥) → (sink_failed → ⊥) → IsDoneOrWant status

@@ -1,13 +1,13 @@
 -- What `init` answers and leaves.
 use Rattle.std.specs.Prelude.{◌⊎◌, List}
-use Rattle.head_manifest.specs.Folders.{Means}
-use Rattle.head_manifest.specs.Folders.Meaning.{no_store}
-use Rattle.plain_recovery.specs.Making.{IsNoneOrNew}
+use Rattle.manifest.specs.Folders.{Means}
+use Rattle.manifest.specs.Folders.Meaning.{no_store}
+use Rattle.recovery.specs.Making.{IsNoneOrNew}
 use Rattle.udt_disk.specs.OpensFolder.{Holding}
 use Rattle.udt_model.specs.declared.line.FamilyHead.{FamilyHead}
 use Rattle.client_runner.specs.Left.{Crashes, IsUnmadeAt, IsUnopened, StaysAsItWas}
-use Rattle.plain_recovery.specs.declared.fault.InitFault.{InitFault}
-use Rattle.plain_recovery.specs.declared.fault.InitFault.TheVariants as faults
+use Rattle.recovery.specs.declared.fault.InitFault.{InitFault}
+use Rattle.recovery.specs.declared.fault.InitFault.TheVariants as faults
 use Rattle.client_runner.specs.declared.status.Stop.{Stop}
 use Rattle.client_runner.specs.declared.status.Stop.TheVariants.{StoreExists, BadManifest, DiskFault, NoMemory}
 

@@ -13,10 +13,11 @@ use Rattle.udt_model.specs.declared.reply.Reply.TheVariants.{DroppedFault, Fault
 use Rattle.udt_model.specs.State.{State}
 use Rattle.udt_model.specs.Histories.{Point, start}
 use Rattle.udt_model.specs.Crashes.{IsOutcome, course_start, course_behind, settled}
-use Rattle.head_manifest.specs.Folders.{Means}
-use Rattle.head_manifest.specs.Folders.Meaning.{no_store}
-use Rattle.plain_recovery.specs.Stores.{FolderStands}
-use Rattle.plain_recovery.specs.Making.{new_state, IsMakingName}
+use Rattle.manifest.specs.Folders.{Means}
+use Rattle.manifest.specs.Folders.Meaning.{no_store}
+use Rattle.engine_laws.specs.Standing.{FolderStands, new_state}
+use Rattle.recovery.specs.Making.{IsMakingName}
+use Rattle.recovery.specs.Tables.{ReadsAsTable}
 use Rattle.client_runner.specs.declared.status.Status.{Status}
 use Rattle.client_runner.specs.declared.status.Status.TheVariants as statuses
 
@@ -89,15 +90,15 @@ status_of_lines lines = if list_any (λ l. tells_fault l.reply) lines then statu
 -- outcome of theirs, and where no line tells a fault the folder, and each that a crash may leave, stands for all of them, as an opening
 -- gives it: without snapshots or jobs.
 pub record IsLeft (m : State) (lines : List Line) (end : Point) (stands : Folder) (leaves : LeavesByName) : Type 0 where
-  pub crash : (folder : Folder) → MayBeLeft leaves folder → (left : State) × FolderStands folder left × IsOutcome end.state (course_behind (start m) (course_start m) lines) left
-  pub whole : status_of_lines lines ≡ statuses.Done → FolderStands stands (settled end.state)
-  pub whole_crash : status_of_lines lines ≡ statuses.Done → (folder : Folder) → MayBeLeft leaves folder → FolderStands folder (settled end.state)
+  pub crash : (folder : Folder) → MayBeLeft leaves folder → (left : State) × FolderStands ReadsAsTable folder left × IsOutcome end.state (course_behind (start m) (course_start m) lines) left
+  pub whole : status_of_lines lines ≡ statuses.Done → FolderStands ReadsAsTable stands (settled end.state)
+  pub whole_crash : status_of_lines lines ≡ statuses.Done → (folder : Folder) → MayBeLeft leaves folder → FolderStands ReadsAsTable folder (settled end.state)
 
 -- The same of the folder under a path, which stood for m and nothing else. Every file but the live log stands as before, and so a
 -- crash leaves it.
 pub record IsContinued (m : State) (lines : List Line) (end : Point) (folder : Folder) (new : Holding) (leaves : LeavesByName) : Type 0 where
-  pub opened : FolderStands folder m
-  pub only : (n : State) → FolderStands folder n → n ≡ m
+  pub opened : FolderStands ReadsAsTable folder m
+  pub only : (n : State) → FolderStands ReadsAsTable folder n → n ≡ m
   pub stands : Folder
   pub new_is : new ≡ Some (Some stands)
   pub left : IsLeft m lines end stands leaves
@@ -129,8 +130,8 @@ no_files name = None
 -- there was no store, and the folder is one of these families in which nothing was written
 abbrev pub IsMadeAt : Holding → Holding → LeavesByName → List FamilyHead → Type 0
 IsMadeAt None new leaves families = ⊤
-IsMadeAt (Some None) new leaves families = IsMadeSo (λ folder. FolderStands folder (new_state families)) no_files new leaves
-IsMadeAt (Some (Some before)) new leaves families = Means before no_store × IsMadeSo (λ folder. FolderStands folder (new_state families)) before new leaves
+IsMadeAt (Some None) new leaves families = IsMadeSo (λ folder. FolderStands ReadsAsTable folder (new_state families)) no_files new leaves
+IsMadeAt (Some (Some before)) new leaves families = Means before no_store × IsMadeSo (λ folder. FolderStands ReadsAsTable folder (new_state families)) before new leaves
 
 -- it wasn't made: where there was no store the folder has P, as each that a crash may leave; else it is as it was
 pub record IsUnmadeIn (P : Folder → Type 0) (before : Folder) (new : Holding) (leaves : LeavesByName) : Type 0 where

@@ -12,16 +12,17 @@ use Rattle.client_lang.specs.declared.grammar.lines.ReadFault.TheVariants as fau
 use Rattle.client_lang.specs.Faults.{Refuses}
 use Rattle.client_lang.specs.Grammar.{IsFile}
 use Rattle.udt_model.specs.declared.line.FamilyHead.{FamilyHead}
-use Rattle.head_manifest.specs.Folders.{Means}
-use Rattle.head_manifest.specs.Folders.Meaning.{bad_at, store}
-use Rattle.head_manifest.specs.declared.fold.Folded.{Folded}
-use Rattle.plain_recovery.specs.Fault.{IsBadLog}
+use Rattle.manifest.specs.Folders.{Means}
+use Rattle.manifest.specs.Folders.Meaning.{bad_at, store}
+use Rattle.manifest_fold.specs.declared.fold.Folded.{Folded}
+use Rattle.recovery.specs.Opening.{RefusesOpening}
+use Rattle.recovery.specs.declared.fault.OpenFault.TheVariants as opens
 use Rattle.client_runner.specs.Stops.{message}
 use Rattle.client_runner.specs.declared.words.TheConstants.{HELP, VERSION}
 use Rattle.client_runner.specs.declared.status.Status.{Status}
 use Rattle.client_runner.specs.declared.status.Status.TheVariants as statuses
 use Rattle.client_runner.specs.declared.status.Stop.{Stop}
-use Rattle.client_runner.specs.declared.status.Stop.TheVariants.{BadWords, NoFile, TooLong, TooMany, BadLine, StoreExists, NoStore, BadManifest, BadLog}
+use Rattle.client_runner.specs.declared.status.Stop.TheVariants.{BadWords, NoFile, TooLong, TooMany, BadLine, StoreExists, NoStore, BadManifest, MissingTable, BadTable, BadLog}
 use Rattle.client_runner.specs.Completions.{IsAnyFaultOrWant, IsFaultOrWant, TellsNoStore}
 
 -- the host tells of bytes that are refused for this fault
@@ -44,7 +45,9 @@ TellsOf holding P = (folder : Folder) × (holding ≡ Some (Some folder)) × P f
 abbrev pub TellsOpenStop : Holding → Stop → Type 0
 TellsOpenStop holding NoStore = TellsNoStore holding
 TellsOpenStop holding (BadManifest at) = TellsOf holding (λ folder. Means folder (bad_at at))
-TellsOpenStop holding (BadLog n at) = TellsOf holding (λ folder. IsBadLog folder n at)
+TellsOpenStop holding (MissingTable n) = TellsOf holding (λ folder. RefusesOpening folder (opens.MissingTable n))
+TellsOpenStop holding (BadTable n) = TellsOf holding (λ folder. RefusesOpening folder (opens.BadTable n))
+TellsOpenStop holding (BadLog n at) = TellsOf holding (λ folder. RefusesOpening folder (opens.BadLog n at))
 TellsOpenStop holding stop = ⊥
 
 -- the host tells why no store is made

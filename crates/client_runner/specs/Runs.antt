@@ -17,19 +17,20 @@ use Rattle.solo_runner.specs.Expand.{IsRunHistory}
 use Rattle.client_runner.specs.Left.{IsLeft}
 use Rattle.udt_disk.specs.Moments.{IsClean}
 use Rattle.plain_recovery.specs.Opening.{IsOpened}
-use Rattle.plain_recovery.specs.Fault.{RefusesOpening}
+use Rattle.recovery.specs.Opening.{RefusesOpening}
 use Rattle.client_runner.specs.Output.{HasRoomForLines}
-use Rattle.head_manifest.specs.Manifest.{manifest_file}
+use Rattle.manifest.specs.Manifest.{manifest_file}
 use Rattle.udt_disk.specs.Moments.{OnlyReads, alone, holding}
 use Rattle.wal.specs.Wals.{wal_file}
 use Rattle.plain_recovery.specs.declared.opening.Parts.{Parts}
 use Rattle.solo_runner.specs.Sessions.{HasSession}
 use Rattle.solo_runner.specs.Solo.{AreSoundUnless}
 use Rattle.solo_runner.specs.declared.logged.LoggedStore.{LoggedStore}
-use Rattle.plain_recovery.specs.Stores.{FolderStands}
+use Rattle.engine_laws.specs.Standing.{FolderStands}
+use Rattle.recovery.specs.Tables.{ReadsAsTable}
 use Rattle.client_runner.specs.declared.output.Ready.{Ready}
-use Rattle.plain_recovery.specs.declared.fault.OpenFault.{OpenFault}
-use Rattle.plain_recovery.specs.declared.fault.OpenFault.TheVariants as faults
+use Rattle.recovery.specs.declared.fault.OpenFault.{OpenFault}
+use Rattle.recovery.specs.declared.fault.OpenFault.TheVariants as faults
 use Rattle.client_runner.specs.declared.status.Stop.{Stop}
 use Rattle.client_runner.specs.declared.status.Stop.TheVariants.{NoStore, BadManifest, BadLog, DiskFault, NoMemory}
 
@@ -77,7 +78,7 @@ module _ {D F : Type 0} (d : disk.Ghosts D F) where
   -- A folder that was just opened, and told what stood there, stood for the state m and keeps these lines. Every file but the live
   -- log stands as before, and so a crash leaves it.
   pub record KeepsLines (old new : D) (m : State) (lines : List Line) (end : Point) : Type 0 where
-    pub opened : FolderStands (d.stands old) m
+    pub opened : FolderStands ReadsAsTable (d.stands old) m
     pub left : IsLeft m lines end (d.stands new) (d.may_leave new)
     pub others : (n : FileName) → n ≢ Log opened.number → d.stands new n ≡ d.stands old n
     pub others_crash : (n : FileName) (c : Image) → n ≢ Log opened.number → d.may_leave new n c → c ≡ d.stands old n

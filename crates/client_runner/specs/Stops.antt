@@ -7,15 +7,16 @@ use Rattle.udt_disk.specs.OpensFolder.{Holding}
 use Rattle.client_lang.specs.declared.grammar.lines.ReadFault.TheVariants as faults
 use Rattle.client_lang.specs.Faults.{Refuses}
 use Rattle.client_lang.specs.Print.{line_of}
-use Rattle.head_manifest.specs.declared.fold.Folded.{Folded}
-use Rattle.head_manifest.specs.Folders.{Means}
-use Rattle.head_manifest.specs.Folders.Meaning.{no_store, bad_at, store}
-use Rattle.plain_recovery.specs.Fault.{IsBadLog}
+use Rattle.manifest_fold.specs.declared.fold.Folded.{Folded}
+use Rattle.manifest.specs.Folders.{Means}
+use Rattle.manifest.specs.Folders.Meaning.{no_store, bad_at, store}
+use Rattle.recovery.specs.Opening.{RefusesOpening}
+use Rattle.recovery.specs.declared.fault.OpenFault.TheVariants as opens
 use Rattle.client_runner.specs.Left.{TellsFolder, TellsNoneOr}
 use Rattle.client_runner.specs.declared.status.Status.{Status}
 use Rattle.client_runner.specs.declared.status.Status.TheVariants as statuses
 use Rattle.client_runner.specs.declared.status.Stop.{Stop}
-use Rattle.client_runner.specs.declared.status.Stop.TheVariants.{BadWords, NoFile, TooLong, TooMany, BadLine, SourceFault, StoreExists, NoStore, BadManifest, BadLog, DiskFault, NoMemory}
+use Rattle.client_runner.specs.declared.status.Stop.TheVariants.{BadWords, NoFile, TooLong, TooMany, BadLine, SourceFault, StoreExists, NoStore, BadManifest, MissingTable, BadTable, BadLog, DiskFault, NoMemory}
 
 -- The file that stands under the path isn't there, is no command file, or can't be read: the count
 -- of the host's faults was `before` and is `now`. Want of memory is free.
@@ -32,7 +33,9 @@ IsFileStop standing before now stop = ⊥
 abbrev pub IsOpenStop : Holding → ℕ → ℕ → Stop → Type 0
 IsOpenStop holding before now NoStore = TellsNoneOr holding (λ folder. Means folder no_store)
 IsOpenStop holding before now (BadManifest at) = TellsFolder holding (λ folder. Means folder (bad_at at))
-IsOpenStop holding before now (BadLog n at) = TellsFolder holding (λ folder. IsBadLog folder n at)
+IsOpenStop holding before now (MissingTable n) = TellsFolder holding (λ folder. RefusesOpening folder (opens.MissingTable n))
+IsOpenStop holding before now (BadTable n) = TellsFolder holding (λ folder. RefusesOpening folder (opens.BadTable n))
+IsOpenStop holding before now (BadLog n at) = TellsFolder holding (λ folder. RefusesOpening folder (opens.BadLog n at))
 IsOpenStop holding before now DiskFault = Rose before now
 IsOpenStop holding before now NoMemory = ⊤
 IsOpenStop holding before now stop = ⊥
@@ -53,6 +56,8 @@ status_of NoMemory = statuses.NoMemory
 status_of StoreExists = statuses.Folder
 status_of NoStore = statuses.Folder
 status_of (BadManifest at) = statuses.Folder
+status_of (MissingTable n) = statuses.Folder
+status_of (BadTable n) = statuses.Folder
 status_of (BadLog n at) = statuses.Folder
 status_of BadWords = statuses.Usage
 status_of NoFile = statuses.Usage
@@ -80,6 +85,8 @@ message path SourceFault = line_of (codes "source fault" ∷ [])
 message path StoreExists = line_of (codes "store exists" ∷ [])
 message path NoStore = line_of (codes "no store" ∷ [])
 message path (BadManifest at) = line_of (codes "bad manifest" ∷ decimal at ∷ [])
+message path (MissingTable n) = line_of (codes "missing table" ∷ decimal n ∷ [])
+message path (BadTable n) = line_of (codes "bad table" ∷ decimal n ∷ [])
 message path (BadLog n at) = line_of (codes "bad log" ∷ decimal n ∷ decimal at ∷ [])
 message path DiskFault = line_of (codes "disk fault" ∷ [])
 message path NoMemory = []

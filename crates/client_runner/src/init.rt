@@ -2,15 +2,15 @@
 ghost use Rattle.std.specs.Prelude.{◌≡◌, ◌⊎◌, ◌≤◌, OnOk, IfErr, OnErr};
 ghost use Rattle.udt_disk.specs.Opens.{StaysBut};
 ghost use Rattle.udt_disk.specs.OpensFolder.{KeepsFoldersBut, LeavesNoMoreBut};
-ghost use Rattle.head_manifest.specs.Heads.{AreNew};
+ghost use Rattle.manifest.specs.Heads.{AreNew};
 ghost use Rattle.client_runner.specs.Hosts.{UsesFolder};
 ghost use Rattle.client_runner.specs.Inits.{stop_of_making, IsInitLeft};
 ghost use Rattle.client_runner.specs.Left.{IsMadeAt, crashes};
 ghost use Rattle.client_runner.specs.Stops.{IsInitStop};
 
 use crate::status::Stop;
-use head_manifest::Head;
-use plain_recovery::{InitFault, make_store};
+use manifest::Head;
+use recovery::{InitFault, make_store};
 use std::alloc::Global;
 use udt_disk::{Host, Text};
 

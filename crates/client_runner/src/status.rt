@@ -60,6 +60,10 @@ pub enum Stop {
     NoStore,
     /// The folder's manifest is missing or outside its grammar. Its first frame that is stands at the offset `at`.
     BadManifest { at: u64 },
+    /// The file of the folder's live table `number` is missing.
+    MissingTable { number: u64 },
+    /// The folder's live table `number` is outside its grammar, or doesn't fit the manifest or the other tables.
+    BadTable { number: u64 },
     /// The folder's live log `number` is missing or outside its grammar. Its first frame that is stands at the offset `at`.
     BadLog { number: u64, at: u64 },
     /// The folder's disk failed, or the host where the folder was asked for.

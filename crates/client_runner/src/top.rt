@@ -5,7 +5,7 @@ ghost use Rattle.udt_disk.specs.Crash.{NoMore};
 ghost use Rattle.udt_disk.specs.Opens.{StaysBut};
 ghost use Rattle.udt_disk.specs.OpensFolder.{KeepsFolders, KeepsFoldersBut, LeavesNoMore, LeavesNoMoreBut};
 ghost use Rattle.udt_disk.specs.declared.name.FileName.{FileName as NameOf};
-ghost use Rattle.head_manifest.specs.Heads.{AreNew};
+ghost use Rattle.manifest.specs.Heads.{AreNew};
 ghost use Rattle.client_lang.specs.Print.{IsBuiltCommand, IsBuiltLine};
 ghost use Rattle.client_lang.specs.Stamps.{IsStampedCommand};
 ghost use Rattle.client_runner.specs.Refusals.{IsAnswered, IsInitRefused, IsOpenRefused, IsRefused, IsStopped};
@@ -26,7 +26,7 @@ use crate::run::{run_path, status_of_lines};
 use crate::status::{Status, Stop};
 use crate::words::{Command, HELP, VERSION, command_of};
 use client_lang::{Word, push_line};
-use head_manifest::Head;
+use manifest::Head;
 use solo_runner::{PlainStore, Ran, fresh_heads, run};
 use std::alloc::Global;
 use ts_key::NoMemory;
@@ -67,8 +67,12 @@ fn status_of(stop: Stop) -> Status
         Stop::SourceFault => Status::SourceFault,
         Stop::DiskFault => Status::DiskFault,
         Stop::NoMemory => Status::NoMemory,
-        Stop::StoreExists | Stop::NoStore | Stop::BadManifest { .. } | Stop::BadLog { .. } =>
-            Status::Folder,
+        Stop::StoreExists
+        | Stop::NoStore
+        | Stop::BadManifest { .. }
+        | Stop::MissingTable { .. }
+        | Stop::BadTable { .. }
+        | Stop::BadLog { .. } => Status::Folder,
         Stop::BadWords
         | Stop::NoFile
         | Stop::TooLong
@@ -93,6 +97,8 @@ fn fixed_line(stop: Stop) -> Option<&'static [u8]>
         | Stop::TooMany { .. }
         | Stop::BadLine { .. }
         | Stop::BadManifest { .. }
+        | Stop::MissingTable { .. }
+        | Stop::BadTable { .. }
         | Stop::BadLog { .. }
         | Stop::NoMemory => None,
     }
@@ -124,6 +130,12 @@ fn push_message(text: &mut Vec<u8>, path: &[u8], stop: Stop) -> Result<(), NoMem
         ),
         Stop::BadManifest { at } => {
             push_line(text, &[Word::Text(b"bad manifest"), Word::Number(at)])
+        }
+        Stop::MissingTable { number } => {
+            push_line(text, &[Word::Text(b"missing table"), Word::Number(number)])
+        }
+        Stop::BadTable { number } => {
+            push_line(text, &[Word::Text(b"bad table"), Word::Number(number)])
         }
         Stop::BadLog { number, at } => push_line(
             text,

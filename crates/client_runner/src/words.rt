@@ -1,5 +1,6 @@
 //! The words of a command line.
 ghost use Rattle.std.specs.Prelude.{◌≡◌, ◌↔◌, ◌∷◌, [], List, ℕ, codes, IsTrue, IfOk, OnErr, MatchOption};
+ghost use Rattle.ts_key.specs.declared.version.Form.{Form as FormOf};
 ghost use Rattle.std.specs.Str.{IsUtf8};
 ghost use Rattle.udt_model.specs.declared.line.FamilyHead.{FamilyHead as FamilyOf};
 ghost use Rattle.client_runner.specs.Commands.{
@@ -9,9 +10,10 @@ ghost use Rattle.client_runner.specs.Commands.{
   IsFamilyWord,
   IsInitWord,
   IsNamePart,
+  form_end as end_of_form,
 };
 
-use head_manifest::Head;
+use manifest::Head;
 use std::alloc::{AllocError, Global};
 use ts_key::{Form, Name, NameFault, NoMemory, Ts};
 use udt_disk::Text;
@@ -23,7 +25,8 @@ udtstore: a key-value store whose keys carry timestamps
 
 usage:
   udtstore try FILE                      runs the commands of FILE over a new store in memory, and prints the transcript
-  udtstore init FOLDER NAME:persist ..   makes a store of 1 to 16 families in FOLDER
+  udtstore init FOLDER NAME:FORM ..      makes a store of 1 to 16 families in FOLDER; FORM is persist, or strip for a family
+                                         whose timestamps are lost when it is flushed
   udtstore run FOLDER FILE               runs the commands of FILE over the store in FOLDER, and prints the transcript
   udtstore --help                        prints this
   udtstore --version                     prints the version
@@ -31,12 +34,18 @@ usage:
 commands, one a line, with their replies; empty lines and lines that begin with # are skipped:
   put F K T V   writes the value V of the key K at the timestamp T in the family F; try has the one family d
   del F K T     deletes the key K at the timestamp T
-                both: ok SEQUENCE; fell OP NEWEST where operation OP is older than its key's newest; full LAST
-  get F K T     reads the value of the key K at the timestamp T: found V TIMESTAMP; absent
+                both: ok SEQUENCE; below OP FLOOR where operation OP is below the floor of its family;
+                fell OP NEWEST where it is older than its key's newest; full LAST
+  get F K T     reads the value of the key K at the timestamp T: found V TIMESTAMP, or found V below where that is below
+                the floor; absent; collapsed FLOOR where T is below the floor
+  raise F T     gives up the history below T, and raises the floor of the family to T: ok; floor FLOOR where it is above T
+  floor F       tells the floor: floor FLOOR
+  flush F       puts what is in memory into a table, in two lines, its start and its end: ok SEQUENCE, none where there is
+                nothing, files NEXT; table NUMBER kept COUNT floor FLOOR, dropped WHY
   sync          puts every write on the disk: ok
 1 to 64 puts and dels with ; as a word between them are one write, which is taken whole or not at all.
 The word sync behind a write puts it on the disk before its reply.
-Any may reply unknown (no such family) or no memory; writes and syncs fault (the disk failed), then halted LINE.
+Any may reply unknown (no such family) or no memory; what works on the disk fault (it failed), then halted LINE.
 K and V are 1 or more of A-Z a-z 0-9 _ - . / : @ + that don't begin with 0x,
 or 0x and an even number of 0-9 a-f. T is a decimal number.
 
@@ -56,14 +65,11 @@ pub enum Command<'a> {
     Version,
     /// `try FILE`
     Try(&'a Text),
-    /// `init FOLDER NAME:persist ..`, for a store of these families
+    /// `init FOLDER NAME:FORM ..`, for a store of these families
     Init { folder: &'a Text, head: Head },
     /// `run FOLDER FILE`
     Run { folder: &'a Text, file: &'a Text },
 }
-
-/// What stands behind the name in a family's word.
-const PERSIST: &[u8] = b":persist";
 
 /// A word that isn't text is no part of a command.
 fn is_text(bytes: &[u8]) -> bool
@@ -72,30 +78,55 @@ fn is_text(bytes: &[u8]) -> bool
     str::from_utf8(bytes).is_ok()
 }
 
-/// What stands before `:persist` in a word; None where it doesn't end so.
-fn name_part(word: &[u8]) -> Option<&[u8]>
-    ensures { MatchOption result ((name : List ℕ) → IsNamePart word.now name → ⊥)
-        (λ name. IsNamePart word.now name.now) }
+/// What stands behind the name in the word of a family of this form.
+fn form_end(form: Form) -> &'static [u8]
+    ensures { result.now ≡ end_of_form form }
 {
-    if word.len() < PERSIST.len() {
-        return None;
+    match form {
+        Form::Persist => b":persist",
+        Form::Strip => b":strip",
     }
-    let (name, form) = word.split_at(word.len() - PERSIST.len());
-    if form == PERSIST { Some(name) } else { None }
 }
 
-/// The family that a word `NAME:persist` spells; None where it spells none. The error comes where memory runs out.
+/// The name in the word of a family of this form; None where the word doesn't end so.
+fn name_part(word: &[u8], form: Form) -> Option<&[u8]>
+    ensures { MatchOption result ((name : List ℕ) → IsNamePart word.now form name → ⊥)
+        (λ name. IsNamePart word.now form name.now) }
+{
+    let end = form_end(form);
+    if word.len() < end.len() {
+        return None;
+    }
+    let (name, behind) = word.split_at(word.len() - end.len());
+    if behind == end { Some(name) } else { None }
+}
+
+/// The name in a word `NAME:FORM`, and the form; None where it ends with no form.
+fn name_and_form(word: &[u8]) -> Option<(&[u8], Form)>
+    ensures { MatchOption result ((name : List ℕ) (form : FormOf) → IsNamePart word.now form name → ⊥)
+        (λ found. IsNamePart word.now found.1 found.0.now) }
+{
+    if let Some(name) = name_part(word, Form::Persist) {
+        return Some((name, Form::Persist));
+    }
+    match name_part(word, Form::Strip) {
+        Some(name) => Some((name, Form::Strip)),
+        None => None,
+    }
+}
+
+/// The family that a word `NAME:FORM` spells; None where it spells none. The error comes where memory runs out.
 fn family_of(alloc: Global, word: &Text) -> Result<Option<FamilyHead>, NoMemory>
     ensures { IfOk result (λ o. MatchOption o ((f : FamilyOf) → IsFamilyWord word.now f → ⊥)
         (λ f. IsFamilyWord word.now f)) }
 {
-    let Some(name) = name_part(word.bytes()) else {
+    let Some((name, form)) = name_and_form(word.bytes()) else {
         return Ok(None);
     };
     match Name::of(alloc, name) {
         Ok(name) => Ok(Some(FamilyHead {
             name,
-            form: Form::Persist,
+            form,
             floor: Ts(0),
         })),
         Err(NameFault::Bad) => Ok(None),

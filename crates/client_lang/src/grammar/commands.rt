@@ -1,9 +1,11 @@
-//! Commands: `put F K T V` and `del F K T`, several with `;` between them and `sync` behind them; `get F K T`; `sync`.
+//! Commands, and those that are writes: `put F K T V` and `del F K T`, several with `;` between them and `sync` behind them.
 ghost use Rattle.std.specs.Prelude.{◌≡◌, ◌<◌, ◌∷◌, [], map, codes, if◌then◌else◌, IfOk, MatchOption};
 ghost use Rattle.std.specs.Str.{bytes_eq};
-ghost use Rattle.client_lang.specs.Grammar.{Reads, IsEvent, IsOp};
-ghost use Rattle.client_lang.specs.Readers.{IsPlainEvent, IsFirstOp, IsTail, IsTailAt, IsTarget, IsWriteEvent, op_at, op_length as length_of_op};
+ghost use Rattle.client_lang.specs.Grammar.{Reads, IsCommand, IsOp};
+ghost use Rattle.client_lang.specs.Readers.{IsFirstOp, IsTail, IsTailAt, IsTarget, IsWriteCommand, op_at, op_length as length_of_op};
 
+use crate::command::Command;
+use crate::grammar::forms::read_plain;
 use crate::grammar::words::{read_key, read_name, read_number, read_value};
 use std::alloc::{AllocError, Global};
 use ts_key::{BATCH_LIMIT, Key, Name, Op, Ts};
@@ -11,7 +13,7 @@ use udt_model::{Event, Items, NamedOp};
 
 /// Where an operation writes or a read looks.
 #[derive(Drop)]
-struct Target {
+pub struct Target {
     family: Name,
     key: Key,
     ts: Ts,
@@ -34,60 +36,19 @@ struct Step {
     tail: Tail,
 }
 
-/// The event that these words ask for.
-pub fn read_event(alloc: Global, words: &[&[u8]]) -> Result<Option<Event>, AllocError>
-    ensures { IfOk result (Reads (IsEvent (map (λ w. w.now) words.now))) }
+/// The command of these words.
+pub fn read_command(alloc: Global, words: &[&[u8]]) -> Result<Option<Command>, AllocError>
+    ensures { IfOk result (Reads (IsCommand (map (λ w. w.now) words.now))) }
 {
     match read_plain(alloc, words)? {
-        Some(event) => Ok(Some(event)),
+        Some(command) => Ok(Some(command)),
         None => read_write(alloc, words),
     }
 }
 
-/// The event of these words where it is no write.
-fn read_plain(alloc: Global, words: &[&[u8]]) -> Result<Option<Event>, AllocError>
-    ensures { IfOk result (Reads (IsPlainEvent (map (λ w. w.now) words.now))) }
-{
-    match words {
-        [word] => Ok(read_lone(word)),
-        [verb, family, key, number] => read_get(alloc, verb, family, key, number),
-        _ => Ok(None),
-    }
-}
-
-/// The command `sync`.
-fn read_lone(word: &[u8]) -> Option<Event>
-    ensures { Reads (IsPlainEvent (word.now ∷ [])) result }
-{
-    if word == b"sync".as_slice() {
-        Some(Event::Sync)
-    } else {
-        None
-    }
-}
-
-/// The command `get F K T`.
-fn read_get(
-    alloc: Global,
-    verb: &[u8],
-    family: &[u8],
-    key: &[u8],
-    number: &[u8],
-) -> Result<Option<Event>, AllocError>
-    ensures { IfOk result (Reads (IsPlainEvent (verb.now ∷ family.now ∷ key.now ∷ number.now ∷ []))) }
-{
-    if verb != b"get".as_slice() {
-        return Ok(None);
-    }
-    match read_target(alloc, family, key, number)? {
-        Some(target) => Ok(Some(target.get())),
-        None => Ok(None),
-    }
-}
-
 /// The write of these words.
-fn read_write(alloc: Global, words: &[&[u8]]) -> Result<Option<Event>, AllocError>
-    ensures { IfOk result (Reads (IsWriteEvent (map (λ w. w.now) words.now))) }
+fn read_write(alloc: Global, words: &[&[u8]]) -> Result<Option<Command>, AllocError>
+    ensures { IfOk result (Reads (IsWriteCommand (map (λ w. w.now) words.now))) }
 {
     let mut ops = Vec::new(alloc);
     let mut at = 0;
@@ -119,13 +80,13 @@ fn read_step(alloc: Global, words: &[&[u8]]) -> Result<Option<Step>, AllocError>
     }
 }
 
-fn write(ops: Vec<NamedOp>, sync: bool) -> Event
-    ensures { result ≡ Event.Write ops.items sync }
+fn write(ops: Vec<NamedOp>, sync: bool) -> Command
+    ensures { result ≡ Command.Line (Event.Write ops.items sync) }
 {
-    Event::Write {
+    Command::Line(Event::Write {
         ops: Items::of(ops),
         sync,
-    }
+    })
 }
 
 /// How many of the first words may be an operation: five where the first is `put`, else four, but no more than there are.
@@ -221,7 +182,7 @@ fn tail_at(word: &[u8], is_last: bool) -> Option<Tail>
 }
 
 /// The target that three words are.
-fn read_target(
+pub fn read_target(
     alloc: Global,
     family: &[u8],
     key: &[u8],
@@ -247,7 +208,7 @@ fn read_target(
 
 impl Target {
     /// The read here.
-    fn get(self) -> Event
+    pub fn get(self) -> Event
         ensures { result ≡ Event.Get self.family self.key self.ts None }
     {
         Event::Get {

@@ -2,15 +2,14 @@
 ghost use Rattle.std.specs.Prelude.{◌≡◌, ◌⊎◌, ◌≤◌, List, length, map, take, All, IfOk, IfErr};
 ghost use Rattle.client_lang.specs.declared.command.Command.{Command};
 ghost use Rattle.client_lang.specs.Faults.{IsReadFault, Refuses};
-ghost use Rattle.client_lang.specs.Grammar.{Reads, IsEvent, IsFile, words_of, wants_command as wanted};
+ghost use Rattle.client_lang.specs.Grammar.{Reads, IsCommand, IsFile, words_of, wants_command as wanted};
 ghost use Rattle.client_lang.specs.Print.{IsBuiltCommand};
 ghost use Rattle.client_lang.specs.Stamps.{IsStampedCommand};
 ghost use Rattle.client_lang.specs.declared.grammar.lines.ReadFault.{ReadFault};
 
 use crate::command::Command;
-use crate::grammar::commands::read_event;
+use crate::grammar::commands::read_command;
 use std::alloc::{AllocError, AllocFailed, Global};
-use udt_model::Event;
 
 /// The most bytes that a command file has.
 pub const FILE_LIMIT: usize = 8_388_608;
@@ -84,13 +83,13 @@ fn read_lines(alloc: Global, bytes: &[u8]) -> Result<Vec<Command>, ReadFault>
         if !wants_command(line) {
             continue;
         }
-        let Some(event) = read_line(alloc, line)? else {
+        let Some(command) = read_line(alloc, line)? else {
             return Err(ReadFault::BadLine { line: i as u64 + 1 });
         };
         if commands.len() == COMMAND_LIMIT {
             return Err(ReadFault::TooMany { line: i as u64 + 1 });
         }
-        commands.push(Command::Line(event))?;
+        commands.push(command)?;
     }
     Ok(commands)
 }
@@ -105,12 +104,12 @@ fn wants_command(line: &[u8]) -> bool
     }
 }
 
-/// The event that a line asks for.
-fn read_line(alloc: Global, line: &[u8]) -> Result<Option<Event>, AllocError>
-    ensures { IfOk result (Reads (IsEvent (words_of line.now))) }
+/// The command of a line.
+fn read_line(alloc: Global, line: &[u8]) -> Result<Option<Command>, AllocError>
+    ensures { IfOk result (Reads (IsCommand (words_of line.now))) }
 {
     let words = first_words(alloc, line)?;
-    read_event(alloc, &words)
+    read_command(alloc, &words)
 }
 
 /// The first words of a line: one more than a command has.

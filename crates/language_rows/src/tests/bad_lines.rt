@@ -54,7 +54,7 @@ const BYTE_WORDS: [&str; 8] = [
 ];
 
 /// Lines with a word too few, too many, or unknown.
-const WORDS: [&str; 11] = [
+const WORDS: [&str; 20] = [
     "get\n",
     "get f k\n",
     "get f k 1 s\n",
@@ -66,6 +66,15 @@ const WORDS: [&str; 11] = [
     "Put f k 1 v\n",
     "PUT f k 1 v\n",
     "puts f k 1 v\n",
+    "raise\n",
+    "raise f\n",
+    "raise f 1 2\n",
+    "raise f 01\n",
+    "floor\n",
+    "floor f 1\n",
+    "flush\n",
+    "flush f start\n",
+    "flush f ; flush f\n",
 ];
 
 /// Lines that are nearly a batch, or nearly `sync`.

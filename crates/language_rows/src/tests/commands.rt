@@ -28,7 +28,7 @@ fn is_del(op: &NamedOp, family: &[u8], key: &[u8], ts: u64) -> bool {
 fn ops_of(command: &Command) -> Option<&[NamedOp]> {
     match command {
         Command::Line(Event::Write { ops, sync: _ }) => Some(ops.as_slice()),
-        Command::Line(_) => None,
+        _ => None,
     }
 }
 
@@ -54,7 +54,7 @@ fn is_get(command: &Command, name: &[u8], word: &[u8], ts: u64) -> bool {
                 snap: None,
             },
         ) => { family.bytes() == name && key.bytes() == word && t.0 == ts }
-        Command::Line(_) => false,
+        _ => false,
     }
 }
 
@@ -94,6 +94,33 @@ fn is_only_get(commands: &[Command], key: &[u8]) -> bool {
     }
 }
 
+/// What a command of a family asks for, told apart by its variant: the family, and the floor of a raise.
+fn asked_of(command: &Command) -> Option<(&[u8], Option<u64>)> {
+    match command {
+        Command::Line(Event::Raise { family, floor }) => Some((family.bytes(), Some(floor.0))),
+        Command::Line(Event::Floor { family }) => Some((family.bytes(), None)),
+        _ => None,
+    }
+}
+
+/// The family of a flush.
+fn flushed_of(command: &Command) -> Option<&[u8]> {
+    match command {
+        Command::Flush { family } => Some(family.bytes()),
+        _ => None,
+    }
+}
+
+/// Are the commands a raise to the greatest number, a question for the floor, and a flush, each of its family?
+fn are_of_families(commands: &[Command]) -> bool {
+    let [raise, floor, flush] = commands else {
+        return false;
+    };
+    asked_of(raise) == Some((b"d".as_slice(), Some(u64::MAX)))
+        && asked_of(floor) == Some((b"start".as_slice(), None))
+        && flushed_of(flush) == Some(b"f_2".as_slice())
+}
+
 /// The file has so many commands.
 fn has(rt: &(impl AllocGlobal + Abort), file: &[u8], count: usize) -> Result<(), Fail> {
     assert_eq!(rt; read_client(rt.alloc(), file)?.len(), count);
@@ -112,6 +139,14 @@ fn reads(rt: HostRuntime) -> Result<(), Fail> {
     let file = b"get _ A-Z_.:@+9 18446744073709551615\n";
     let commands = read_client(rt.alloc(), file)?;
     assert!(rt; is_only_get(&commands, b"A-Z_.:@+9"));
+    Ok(())
+}
+
+#[test]
+fn floors_and_flushes(rt: HostRuntime) -> Result<(), Fail> {
+    let file = b"raise d 18446744073709551615\nfloor start\nflush f_2\n";
+    let commands = read_client(rt.alloc(), file)?;
+    assert!(rt; are_of_families(&commands));
     Ok(())
 }
 

@@ -6,7 +6,7 @@ use std::process::Abort;
 use std::test::Fail;
 
 /// Lines that are no command, and what is wrong with each.
-const LINES: [(&str, Wrong); 32] = [
+const LINES: [(&str, Wrong); 40] = [
     ("put d a 1 x\ty", Wrong::Tab),
     ("get\td a 1", Wrong::Tab),
     ("get d a 1\r", Wrong::CarriageReturn),
@@ -20,6 +20,14 @@ const LINES: [(&str, Wrong); 32] = [
     ("del d a", Wrong::Del),
     ("get d a", Wrong::Get),
     ("get d a 1 2", Wrong::Get),
+    ("raise d", Wrong::Raise),
+    ("raise d 1 2", Wrong::Raise),
+    ("raise D 1", Wrong::Family),
+    ("raise d one", Wrong::Number),
+    ("floor", Wrong::Floor),
+    ("floor d 1", Wrong::Floor),
+    ("flush d e", Wrong::Flush),
+    ("flush d # now", Wrong::Comment),
     ("sync now", Wrong::Sync),
     ("put d a 1 x sync sync", Wrong::Sync),
     ("put d a 1 x; put d b 1 y", Wrong::Semicolon),

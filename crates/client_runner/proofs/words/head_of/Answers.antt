@@ -1,5 +1,5 @@
 use Rattle.std.proofs.Common.{◌≡◌, true, subst, sym}
-use Rattle.head_manifest.specs.Heads.{AreNew}
+use Rattle.manifest.specs.Heads.{AreNew}
 use Rattle.client_runner.proofs.WordLemmas.{no_head}
 use Rattle.client_runner.proofs.words.head_of.Goals as goal
 

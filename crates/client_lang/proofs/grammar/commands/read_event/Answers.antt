@@ -1,8 +1,0 @@
-use Rattle.client_lang.proofs.OneEvent.{read_both_ok, plain_is}
-use Rattle.client_lang.proofs.grammar.commands.read_event.Goals as goal
-
-pub returns-in-Some : goal.returns-in-Some
-returns-in-Some c = plain_is _ c.in-Some.event (rw c.in-Some.is at c.in_ok-event.ensures)
-
-pub returns-in-None : goal.returns-in-None
-returns-in-None c = read_both_ok _ c.read_write.result (rw c.in-None.is at c.in_ok-event.ensures) c.read_write.ensures
