@@ -18,5 +18,5 @@ for n in base seal install engine house compact opening lang solo scan runner; d
   done
 done
 git merge-base --is-ancestor keep9 main || heads="$heads keep9"
-git merge-base --is-ancestor next main || heads="$heads next"
+
 [ -n "$heads" ] && git merge -q -s ours --no-edit -m "Keep in the history: work under way" $heads && echo "$(date +%H:%M) $heads"
