@@ -24,6 +24,7 @@ pub mod Loops
 pub mod Aside
 pub mod FlushEdits
 pub mod DroppedLogs
+pub mod JobCalls
 pub mod GivenBack
 pub mod Installed
 pub mod InstallCalls
