@@ -67,7 +67,7 @@ module _ {D F : Type 0} (d : disk.Ghosts D F) (f : file.Ghosts F) (now_last : Is
   -- ---- a file that was given back
 
   module _ (old new : Engine D F f) (given : F) (back : IsGivenBack d f given old new) where
-    discards : IsDiscarded d f given old new
+    pub discards : IsDiscarded d f given old new
     discards = record {
       one = aside_one d f now_last (f.name given ∷ []) old new back.aside;
       jobs = λ n job. record {
@@ -84,18 +84,16 @@ module _ {D F : Type 0} (d : disk.Ghosts D F) (f : file.Ghosts F) (now_last : Is
           ∙ more_faults (2 ^ 64 - 1) x w k (f.faults given);
     }
 
-    given_dead : IsDeadTable f old given → AreDead (f.name (manifest_file old.manifest)) (manifest_folded old.manifest) (Contains (f.name given ∷ []))
-    given_dead table = subst (λ n. AreDead (f.name (manifest_file old.manifest)) (manifest_folded old.manifest) (Contains (n ∷ []))) (sym table.1)
-        (table_dead (f.name (manifest_file old.manifest)) (manifest_folded old.manifest) table.0 table.2)
+    module _ (table : IsDeadTable f old given) where
+      given_dead : AreDead (f.name (manifest_file old.manifest)) (manifest_folded old.manifest) (Contains (f.name given ∷ []))
+      given_dead = subst (λ n. AreDead (f.name (manifest_file old.manifest)) (manifest_folded old.manifest) (Contains (n ∷ []))) (sym table.1)
+          (table_dead (f.name (manifest_file old.manifest)) (manifest_folded old.manifest) table.0 table.2)
 
-  pub discard_done : (old new : Engine D F f) (given : F) → IsGivenBack d f given old new → IsDiscarded d f given old new
-  discard_done old new given back = discards old new given back
+      pub discards_before : HoldsAsBefore d f old new
+      discards_before = aside_before (f.name given ∷ []) old new back.aside given_dead
 
-  pub discard_before : (old new : Engine D F f) (given : F) → IsDeadTable f old given → IsGivenBack d f given old new → HoldsAsBefore d f old new
-  discard_before old new given table back = aside_before (f.name given ∷ []) old new back.aside (given_dead old new given back table)
-
-  pub discard_ran : (old new : Engine D F f) (given : F) → IsDeadTable f old given → IsGivenBack d f given old new → (now : SuperVersion) (m : State) (c : Course) → HoldsNow d f old now m c → RanOn d f m c old new
-  discard_ran old new given table back now m c h = aside_outcomes (f.name given ∷ []) old new back.aside (given_dead old new given back table) now m c h
+      pub discards_ran : (now : SuperVersion) (m : State) (c : Course) → HoldsNow d f old now m c → RanOn d f m c old new
+      discards_ran now m c h = aside_outcomes (f.name given ∷ []) old new back.aside given_dead now m c h
 
   -- ---- a file that was made, under a number that may be taken then
 
