@@ -271,7 +271,7 @@ module _ {D F : Type 0} (d : disk.Ghosts D F) (f : file.Ghosts F) (now_last : Is
     counts_one (seals.Rolled version mems) shows = refl
 
     pub active_called : (result : Result Sealed EngineFault) → SealsActive d f now family old new result → IsSealed d f old new result
-    active_called result (unmade fault is same) = subst (λ e. IsSealed d f old e (Err fault)) (sym same) (refused_called d f now_last old fault (none_disk fault is) run)
+    active_called result (unmade fault is same) = subst (λ e. IsSealed d f old e (Err fault)) (sym same) (refused_called old run fault (none_disk fault is))
     active_called result (unreserved edit fault r) =
         let no_disk = none_disk fault r.fault in
         record {
