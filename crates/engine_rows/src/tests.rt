@@ -41,9 +41,7 @@ const PUT_AND_SEAL: &[Step] = &[
         count: 1,
         sync: false,
     },
-    Step::Seal {
-        family: 0,
-    },
+    Step::Seal { family: 0 },
 ];
 
 /// A family of a new store.
@@ -187,7 +185,12 @@ fn has_file(disk: &mut MemDisk, name: FileName) -> Result<bool, Failed> {
 
 #[test]
 fn each_job_gets_a_number_of_its_own(rt: HostRuntime) -> Result<(), Fail> {
-    let steps = [PUT_AND_SEAL[0], PUT_AND_SEAL[1], Step::JobFile, Step::JobFile];
+    let steps = [
+        PUT_AND_SEAL[0],
+        PUT_AND_SEAL[1],
+        Step::JobFile,
+        Step::JobFile,
+    ];
     let disk = made(rt.alloc(), Vec::new(rt.alloc()))?.ok_or("no store")?;
     let (mut disk, fault) = history(rt.alloc(), disk, &steps)?;
     assert_eq!(rt; fault, None);
@@ -293,10 +296,12 @@ fn sequences_end(rt: HostRuntime) -> Result<(), Fail> {
 fn file_numbers_end(rt: HostRuntime) -> Result<(), Fail> {
     let next = 1 << 63;
     let full = Some(EngineFault::FilesFull { next });
-    let seal = Step::Seal {
-        family: 0,
-    };
-    for (steps, wanted) in [(&[seal][..], None), (PUT_AND_SEAL, full), (&[Step::JobFile], full)] {
+    let seal = Step::Seal { family: 0 };
+    for (steps, wanted) in [
+        (&[seal][..], None),
+        (PUT_AND_SEAL, full),
+        (&[Step::JobFile], full),
+    ] {
         let disk = store_at(rt.alloc(), next, Seq(0))?;
         let (_disk, fault) = history(rt.alloc(), disk, steps)?;
         assert_eq!(rt; fault, wanted);
