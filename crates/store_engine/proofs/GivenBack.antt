@@ -29,7 +29,8 @@ use Rattle.recovery.specs.Replayed.{IsLogName}
 use Rattle.recovery.specs.Tables.{ReadsAsTable, says_of}
 use Rattle.store_engine.specs.Calls.{RanOn}
 use Rattle.store_engine.specs.Engines.{HoldsAsBefore, HoldsNow, IsCurrent, IsEngineOf, IsOneFolder, IsRunning, engine_faults, held}
-use Rattle.store_engine.specs.Installing.{HoldsTable, IsGivenBack}
+use Rattle.store_engine.specs.Asides.{IsGivenBack}
+use Rattle.store_engine.specs.Installing.{HoldsTable}
 use Rattle.store_engine.specs.Jobs.{IsJobNumber}
 use Rattle.store_engine.specs.Steps.{ReservesEdit}
 use Rattle.store_engine.specs.Together.{AreNamed}

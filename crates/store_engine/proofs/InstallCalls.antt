@@ -24,7 +24,8 @@ use Rattle.engine_laws.proofs.Folding.{dropped_dead}
 use Rattle.recovery.specs.Versions.{FitsFold}
 use Rattle.store_engine.specs.Calls.{is_disk_failure}
 use Rattle.store_engine.specs.Engines.{IsCurrent, IsOneFolder, IsRunning, engine_faults, has_failed}
-use Rattle.store_engine.specs.Installing.{AreRemoved, IsDropped, IsGivenBack, IsInstallCalled}
+use Rattle.store_engine.specs.Asides.{AreRemoved, IsGivenBack}
+use Rattle.store_engine.specs.Installing.{IsDropped, IsInstallCalled}
 use Rattle.store_engine.specs.Replies.{is_disk_fault}
 use Rattle.store_engine.specs.Steps.{IsEdited, IsLogSynced, IsSameFolder, ReservesEdit}
 use Rattle.store_engine.specs.declared.engine.Engine.{Engine}

@@ -123,37 +123,37 @@ module _ {D F : Type 0} (d : disk.Ghosts D F) (f : file.Ghosts F) (now_last : Is
 
   module _ (now : SuperVersion) (family : Family) (old new : Engine D F f) (run : IsRunning old) (current : IsCurrent old now) (g : FamilyState) (there : slice_get now.families family.0 ≡ Some g) (some : 1 ≤ length (versions_of_memtable g.active)) (low : old.next < FILE_NUMBER_LIMIT) where
     rolled_answer : (done : Sealed) → IsRolledAs family now done → IsSealOf g old.next (Ok done)
-    rolled_answer seals.Nothing as = absurd as
-    rolled_answer seals.Waiting as = absurd as
-    rolled_answer (seals.Rolled version mems) as = (some, low)
+    rolled_answer seals.Nothing shows = absurd shows
+    rolled_answer seals.Waiting shows = absurd shows
+    rolled_answer (seals.Rolled version mems) shows = (some, low)
 
     pub active_answers : (result : Result Sealed EngineFault) → SealsActive d f now family old new result → IsSealOf g old.next result
     active_answers result (unmade fault is same) = subst (λ x. IsSealOf g old.next (Err x)) (sym is) (some, low)
     active_answers result (unreserved edit fault r) = subst (λ x. IsSealOf g old.next (Err x)) (sym r.fault) (some, low)
     active_answers result (stopped edit older mid fault p r) = subst (λ x. IsSealOf g old.next (Err x)) (sym (rolls_fault d f now_last edit older mid new (Err fault) r)) (some, low)
-    active_answers result (sealed edit older mid done p r as) = rolled_answer done as
+    active_answers result (sealed edit older mid done p r shows) = rolled_answer done shows
 
     shown_by : (done : Sealed) → IsRolledAs family now done → ShowsSealed family now done
-    shown_by seals.Nothing as = absurd as
-    shown_by seals.Waiting as = absurd as
-    shown_by (seals.Rolled version mems) as = as
+    shown_by seals.Nothing shows = absurd shows
+    shown_by seals.Waiting shows = absurd shows
+    shown_by (seals.Rolled version mems) shows = shows
 
     pub active_shown : (result : Result Sealed EngineFault) → SealsActive d f now family old new result → IfOk result (ShowsSealed family now)
     active_shown result (unmade fault is same) = tt
     active_shown result (unreserved edit fault r) = tt
     active_shown result (stopped edit older mid fault p r) = tt
-    active_shown result (sealed edit older mid done p r as) = shown_by done as
+    active_shown result (sealed edit older mid done p r shows) = shown_by done shows
 
     once : (done : Sealed) → IsRolledAs family now done → rolled_count (Ok done) ≡ 0 → ⊥
-    once seals.Nothing as none = as
-    once seals.Waiting as none = as
-    once (seals.Rolled version mems) as none = omega (arith, none)
+    once seals.Nothing shows none = shows
+    once seals.Waiting shows none = shows
+    once (seals.Rolled version mems) shows none = omega (arith, none)
 
     pub active_still : (result : Result Sealed EngineFault) → SealsActive d f now family old new result → IfOk result (λ done. rolled_count result ≡ 0 → new ≡ old)
     active_still result (unmade fault is same) = tt
     active_still result (unreserved edit fault r) = tt
     active_still result (stopped edit older mid fault p r) = tt
-    active_still result (sealed edit older mid done p r as) = λ none. absurd (once done as none)
+    active_still result (sealed edit older mid done p r shows) = λ none. absurd (once done shows none)
 
     stops_disk : (edit : Edit) (older : OlderLogs) (mid : Engine D F f) (fault : EngineFault) → IsRolled d f edit older mid new (Err fault) → is_disk_fault fault ≡ true
     stops_disk edit older mid fault r = disk_disk fault (rolls_fault d f now_last edit older mid new (Err fault) r)
@@ -162,16 +162,16 @@ module _ {D F : Type 0} (d : disk.Ghosts D F) (f : file.Ghosts F) (now_last : Is
     active_refused result (unmade fault is same) = λ not. subst (λ e. HoldsAsBefore d f old e) (sym same) (as_before d f now_last old)
     active_refused result (unreserved edit fault r) = λ not. kept_before d f now_last old new edit (Err fault) r
     active_refused result (stopped edit older mid fault p r) = λ not. absurd (false≢true (sym not ∙ stops_disk edit older mid fault r))
-    active_refused result (sealed edit older mid done p r as) = tt
+    active_refused result (sealed edit older mid done p r shows) = tt
 
     current_by : (edit : Edit) (older : OlderLogs) (mid : Engine D F f) (done : Sealed) → PreparesRoll f now edit older old mid → IsRolled d f edit older mid new (Ok tt) → IsRolledAs family now done → IsCurrent new (version_after now done)
-    current_by edit older mid seals.Nothing p r as = absurd as
-    current_by edit older mid seals.Waiting p r as = absurd as
-    current_by edit older mid (seals.Rolled version mems) p r as =
+    current_by edit older mid seals.Nothing p r shows = absurd shows
+    current_by edit older mid seals.Waiting p r shows = absurd shows
+    current_by edit older mid (seals.Rolled version mems) p r shows =
         let fold : manifest_folded new.manifest ≡ fold_with (manifest_folded old.manifest) (roll_edit now.last old.next) =
         rolls_fold d f now_last edit older mid new (Ok tt) r ∙ ap (λ z. fold_with z edit) p.reserves.fold ∙ ap (fold_with (manifest_folded old.manifest)) p.edit_is in
         record {
-          fits = subst (λ z. FitsFold z (arc_value version)) (sym fold) (sealed_fits (manifest_folded old.manifest) now (arc_value version) family old.next as.changes current.fits);
+          fits = subst (λ z. FitsFold z (arc_value version)) (sym fold) (sealed_fits (manifest_folded old.manifest) now (arc_value version) family old.next shows.changes current.fits);
           goes_on = rolls_goes d f now_last edit older mid new (Ok tt) r ((arc_value version).last.0 + 1);
           room = let none = rolls_pending d f now_last edit older mid new (Ok tt) r in omega (arith, none);
         }
@@ -180,7 +180,7 @@ module _ {D F : Type 0} (d : disk.Ghosts D F) (f : file.Ghosts F) (now_last : Is
     active_current result (unmade fault is same) = tt
     active_current result (unreserved edit fault r) = tt
     active_current result (stopped edit older mid fault p r) = tt
-    active_current result (sealed edit older mid done p r as) = current_by edit older mid done p r as
+    active_current result (sealed edit older mid done p r shows) = current_by edit older mid done p r shows
 
     -- ---- what it holds
 
@@ -257,9 +257,9 @@ module _ {D F : Type 0} (d : disk.Ghosts D F) (f : file.Ghosts F) (now_last : Is
             rolled_low covers
 
         holds_by : (number : ℕ) (done : Sealed) → m.flush ≡ None → IsRolled d f edit older mid new (Ok tt) → IsRolledAs family now done → HoldsNow d f new (version_after now done) (after_seal m number family done) (course_after_seal m number c family done)
-        holds_by number seals.Nothing idle r as = absurd as
-        holds_by number seals.Waiting idle r as = absurd as
-        holds_by number (seals.Rolled version mems) idle r as =
+        holds_by number seals.Nothing idle r shows = absurd shows
+        holds_by number seals.Waiting idle r shows = absurd shows
+        holds_by number (seals.Rolled version mems) idle r shows =
             let ff = seal_there now m h.shows family g there in
             let count = held_count now m h.shows family g there in
             let more = length-append (versions_of_memtable g.active) (flat_map versions_of_memtable g.sealed) in
@@ -271,7 +271,7 @@ module _ {D F : Type 0} (d : disk.Ghosts D F) (f : file.Ghosts F) (now_last : Is
               waiting = [];
               engine_of = rolls_of d f now_last edit older mid new m c s0 h.waiting h0 of_mid p.reserves.running low_mid empty_mid edit_mid (Ok tt) r;
               holds = subst (λ e. HoldsState next course (with_edit s1 e) []) (sym (p.edit_is ∙ ap (λ q. roll_edit q old.next) h.shows.last)) (seal_holds m c s0 h.waiting number family old.next h0 told high (let l = low in omega (arith, l)) empty0);
-              shows = now_sealed now m h.shows (arc_value version) family number as.changes;
+              shows = now_sealed now m h.shows (arc_value version) family number shows.changes;
               used = All-from (λ n. n < new.next) m.used (λ n i. let l = All-In (λ k. k < old.next) m.used n h.used i in let a = rolls_next d f now_last edit older mid new (Ok tt) r in let b = p.reserves.next in omega (arith, l, a, b));
               covers = covers_next r;
               runs = h.runs;
@@ -282,18 +282,18 @@ module _ {D F : Type 0} (d : disk.Ghosts D F) (f : file.Ghosts F) (now_last : Is
       active_ran result (unmade fault is same) = still_ran old new now m c h (ap (λ e. held e) same)
       active_ran result (unreserved edit fault r) = still_ran old new now m c h (reserved_held d f now_last old new edit (Err fault) r)
       active_ran result (stopped edit older mid fault p r) = prepared_ran edit older mid p (Err fault) r
-      active_ran result (sealed edit older mid done p r as) = prepared_ran edit older mid p (Ok tt) r
+      active_ran result (sealed edit older mid done p r shows) = prepared_ran edit older mid p (Ok tt) r
 
       pub active_holds : (number : ℕ) (result : Result Sealed EngineFault) → m.flush ≡ None → SealsActive d f now family old new result → IfOk result (λ done. HoldsNow d f new (version_after now done) (after_seal m number family done) (course_after_seal m number c family done))
       active_holds number result idle (unmade fault is same) = tt
       active_holds number result idle (unreserved edit fault r) = tt
       active_holds number result idle (stopped edit older mid fault p r) = tt
-      active_holds number result idle (sealed edit older mid done p r as) = holds_by edit older mid p number done idle r as
+      active_holds number result idle (sealed edit older mid done p r shows) = holds_by edit older mid p number done idle r shows
 
       told_by : (done : Sealed) → m.flush ≡ None → IsRolledAs family now done → TellsSeal m family (Ok done)
-      told_by seals.Nothing idle as = absurd as
-      told_by seals.Waiting idle as = absurd as
-      told_by (seals.Rolled version mems) idle as =
+      told_by seals.Nothing idle shows = absurd shows
+      told_by seals.Waiting idle shows = absurd shows
+      told_by (seals.Rolled version mems) idle shows =
           let ff = seal_there now m h.shows family g there in
           let count = held_count now m h.shows family g there in
           let more = length-append (versions_of_memtable g.active) (flat_map versions_of_memtable g.sealed) in
@@ -305,4 +305,4 @@ module _ {D F : Type 0} (d : disk.Ghosts D F) (f : file.Ghosts F) (now_last : Is
       active_tells result idle (stopped edit older mid fault p r) =
           let ff = seal_there now m h.shows family g there in
           subst (λ x. TellsSeal m family (Err x)) (sym (rolls_fault d f now_last edit older mid new (Err fault) r)) (seal_fails m family h.runs idle ff.0 ff.1)
-      active_tells result idle (sealed edit older mid done p r as) = told_by done idle as
+      active_tells result idle (sealed edit older mid done p r shows) = told_by done idle shows

@@ -26,6 +26,7 @@ use Rattle.super_version.specs.declared.family.FamilyState.{FamilyState}
 use Rattle.super_version.specs.declared.jobs.TableOut.{TableOut}
 use Rattle.super_version.specs.declared.version.SuperVersion.{SuperVersion}
 use Rattle.engine_laws.specs.Installs.{flush_edit}
+use Rattle.store_engine.specs.Asides.{AreRemoved}
 use Rattle.store_engine.specs.Calls.{is_disk_failure}
 use Rattle.store_engine.specs.Dropping.{AreGone}
 use Rattle.store_engine.specs.Engines.{IsOneFolder, IsRunning, engine_faults, has_failed}
@@ -56,26 +57,6 @@ pub record IsFlushInstall {D F : Type 0} {f : file.Ghosts F} (engine : Engine D 
   pub gone : install.gone.items ≡ oldest_names count (manifest_folded engine.manifest).logs
 
 -- ---- steps
-
--- Calls on the disk under these names, and nothing else.
-pub record IsAside {D F : Type 0} (d : disk.Ghosts D F) {f : file.Ghosts F} (names : List FileName) (old new : Engine D F f) : Type 0 where
-  pub wal : new.wal ≡ old.wal
-  pub manifest : new.manifest ≡ old.manifest
-  pub next : new.next ≡ old.next
-  pub older : new.older ≡ old.older
-  pub failed : has_failed new ≡ has_failed old
-  pub touches : Touches d (Contains names) old.disk new.disk
-
--- the file was given back to the disk
-pub record IsGivenBack {D F : Type 0} (d : disk.Ghosts D F) (f : file.Ghosts F) (given : F) (old new : Engine D F f) : Type 0 where
-  pub aside : IsAside d (f.name given ∷ []) old new
-  pub crash : NoMore (f.may_leave given) (d.may_leave new.disk (f.name given))
-  pub faults : d.faults new.disk ≡ plus_faults (d.faults old.disk) (f.faults given)
-
--- files of these names were removed, or stay where the disk failed
-pub record AreRemoved {D F : Type 0} (d : disk.Ghosts D F) {f : file.Ghosts F} (names : List FileName) (old new : Engine D F f) : Type 0 where
-  pub aside : IsAside d names old new
-  pub later : d.faults old.disk ≤ d.faults new.disk
 
 -- The log was synced, then the edit was added to the manifest, and then the files were removed. Where the disk fails before that, it ends there.
 abbrev pub IsInstalled : {D F : Type 0} (d : disk.Ghosts D F) (f : file.Ghosts F) → Install → Engine D F f → Engine D F f → Result (Unit {0}) EngineFault → Type 0

@@ -145,7 +145,7 @@ fn remove_files<D: Disk>(disk: &mut D, names: &[FileName])
 impl<D: Disk> Engine<D> {
     ghost use Rattle.store_engine.specs.Calls.{RanUnder, Tells};
     ghost use Rattle.store_engine.specs.Engines.{HoldsAsBefore, HoldsNow, IsCurrent, IsRunning};
-    ghost use Rattle.store_engine.specs.Installing.{DropsLogs, EndsFlushBy, IsFlushInstall, IsGivenBack, IsInstallCalled, IsInstalled, MayInstall, live_with};
+    ghost use Rattle.store_engine.specs.Installing.{DropsLogs, EndsFlushBy, IsFlushInstall, IsInstallCalled, IsInstalled, MayInstall, live_with};
     ghost use Rattle.store_engine.specs.Steps.{ReservesEdit};
 
     /// The install of a flush that ended so, with this table. No call is made on the disk.
@@ -203,13 +203,6 @@ impl<D: Disk> Engine<D> {
             Ok(()) => Ok(install),
             Err(fault) => Err(fault),
         }
-    }
-
-    /// Gives a file back to the disk.
-    fn give_back(&mut self, file: D::File)
-        ensures { IsGivenBack D.Disk D.File.DiskFile file self.old self.new }
-    {
-        self.disk.retire(file);
     }
 
     /// Puts all that waits in the log and then the edit on the disk, and removes the files that are live no more. It takes no memory.
