@@ -97,7 +97,9 @@ values_from words (w ∷ ws) k (p ∷ ps) at h =
     )
 
 pub values : (words : List (List ℕ)) (ps : List Part) → AllZip IsSpelling words ps → ValuesFrom words 0 ps
-values words ps h = values_from words words 0 ps (λ i. refl) h
+values words ps h =
+    let start : (i : ℕ) → i ≡ 0 + i = λ i. omega arith in
+    values_from words words 0 ps (λ i. ap (λ (n : ℕ). get_or words n []) (start i)) h
 
 -- ---- options
 
