@@ -1,7 +1,4 @@
-use Rattle.std.proofs.Common.{◌≡◌, ◌∷◌, List, ℕ, map, sym, subst, arith}
-use Rattle.std.specs.Prelude.{IfOk}
-use Rattle.client_lang.specs.Grammar.{Reads}
-use Rattle.client_lang.specs.Readers.{IsPlainCommand, verb_word}
+use Rattle.std.proofs.Common.{arith}
 use Rattle.client_lang.proofs.Forms.{no_verb_first, no_words, plain_behind}
 use Rattle.client_lang.proofs.grammar.forms.read_plain.Goals as goal
 

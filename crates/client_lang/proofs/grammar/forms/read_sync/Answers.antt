@@ -5,7 +5,7 @@ use Rattle.client_lang.proofs.OneOperation.{length-now}
 use Rattle.client_lang.proofs.grammar.forms.read_sync.Goals as goal
 
 pub returns-then-is_empty : goal.returns-then-is_empty
-returns-then-is_empty c = 
+returns-then-is_empty c =
     let none : length c.args.behind.now ≡ 0 = search (rules, tests) in
     syncs _ (length-now (λ w. w.now) c.args.behind.now ∙ none)
 
