@@ -6,6 +6,7 @@ use Rattle.ts_key.specs.declared.numbers.Ts.{Ts}
 use Rattle.ts_key.specs.declared.version.Kind.{Kind}
 use Rattle.ts_key.specs.declared.version.Kind.TheVariants as kinds
 use Rattle.ts_key.specs.Items.{Item}
+use Rattle.ts_key.specs.Order.{SortKey}
 use Rattle.ts_key.specs.Visible.{is_item_within, visible_item}
 use Rattle.udt_model.specs.declared.reply.Row.{Row}
 use Rattle.udt_model.specs.Orders.{is_below}
@@ -58,6 +59,11 @@ range_rows vs floor low high t s = flat_map (λ key. emit_of floor (visible_item
 abbrev pub is_decided : Option (List ℕ) → List ℕ → Bool
 is_decided None key = false
 is_decided (Some decided) key = bytes_eq decided key
+
+-- where the versions of a key end that give nothing more: behind all of them where the key is decided, else at the first that
+-- the read may see
+abbrev pub end_of : Option (List ℕ) → List ℕ → ℕ → ℕ → SortKey
+end_of decided key t s = if is_decided decided key then record { key = key; ts = 0; seq = 0 } else record { key = key; ts = t; seq = s }
 
 -- upwards, where the versions of the key that is decided give nothing more; it ends at the upper bound
 abbrev pub rows_up : Ts → Option (List ℕ) → ℕ → ℕ → Option (List ℕ) → List Item → List Row

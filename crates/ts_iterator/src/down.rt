@@ -1,13 +1,15 @@
 //! A scan downwards.
-ghost use Rattle.std.specs.Prelude.{[], ◌∷◌, ◌≡◌, ◌||◌, not, reverse, IfOk, MatchOption, MatchResult};
+ghost use Rattle.std.specs.Prelude.{ℕ, [], ◌∷◌, ◌≡◌, ◌<◌, ◌-◌, ◌||◌, Some, true, false, not, reverse, IfOk, MatchOption, MatchResult};
 ghost use Rattle.ts_key.specs.Items.{Item, shown, shown_by};
+ghost use Rattle.ts_key.specs.Lists.{below, standing};
 ghost use Rattle.ts_key.specs.Order.{sort_key_of};
-ghost use Rattle.ts_key.specs.Visible.{is_item_within};
+ghost use Rattle.ts_key.specs.Visible.{is_item_seen, is_item_within};
 ghost use Rattle.ts_iterator.specs.Rows.{emit_of, given_before, is_past as is_past_bound, least_key, range_rows};
-ghost use Rattle.ts_iterator.specs.Rests.{rest_down, rows_given};
-ghost use Rattle.ts_iterator.specs.Walks.{IsLastBelow};
+ghost use Rattle.ts_iterator.specs.Rests.{StandsIn, rest_down, rest_down_from, rows_given};
+ghost use Rattle.ts_iterator.specs.Walks.{IsLastBelow, StandsUpto, top_of};
 
 use crate::NoMemory;
+use crate::passed::Passed;
 use crate::rows::{is_below, is_past, row_of};
 use merge_cursor::{Cursor, Placed};
 use std::alloc::Global;
@@ -33,6 +35,48 @@ fn is_passed_over(high: &Option<Key>, key: &KeyRef<'_>, t: Ts, s: Seq) -> bool
         → result ≡ (is_past_bound high.now v.sort_key.key || not (is_item_within t.0 s.0 v)) }
 {
     is_past(high, key.key) || !(key.ts.0 <= t.0 && key.seq.0 <= s.0)
+}
+
+/// Goes to the last version before the key's first one.
+fn go_before<'a, C: Cursor<'a>>(cursor: &mut C, key: &KeyRef<'_>)
+    ensures same { C.items cursor.new ≡ C.items cursor.old }
+    ensures place { C.place cursor.new ≡ below (top_of key.now.key.now) (C.items cursor.old) }
+{
+    cursor.seek(&KeyRef {
+        key: key.key,
+        ts: Ts(u64::MAX),
+        seq: Seq(u64::MAX),
+    });
+    cursor.prev();
+}
+
+fn is_seen(seen: &KeyRef<'_>, key: &[u8], t: Ts, s: Seq) -> bool
+    ensures { (v : Item) → v.sort_key ≡ sort_key_of seen.now → result ≡ is_item_seen key.now t.0 s.0 v }
+{
+    seen.key == key && (seen.ts.0 <= t.0 && seen.seq.0 <= s.0)
+}
+
+/// Goes to the key's newest version that the read sees, where there is one.
+fn go_to_newest<'a, C: Cursor<'a>>(
+    cursor: &mut C,
+    key: &[u8],
+    t: Ts,
+    s: Seq,
+) -> Option<(KeyRef<'a>, Hit<'a>)>
+    ensures same { C.items cursor.new ≡ C.items cursor.old }
+    ensures newest { (place : ℕ) (v : Item) → Some v ≡ standing (C.items cursor.old) place → is_item_seen key.now t.0 s.0 v ≡ true
+        → StandsUpto key.now t.0 s.0 (C.items cursor.old) place (C.place cursor.new) (shown_by result) }
+{
+    cursor.seek(&KeyRef { key, ts: t, seq: s });
+    loop {
+        let Some((found, hit)) = cursor.at() else {
+            return None;
+        };
+        if is_seen(&found, key, t, s) {
+            return Some((found, hit));
+        }
+        cursor.next();
+    }
 }
 
 /// The row of the last version found, where the next one that the read sees is of another key.
@@ -92,6 +136,35 @@ impl<'a, C: Cursor<'a> + Drop> Down<'a, C> {
         }
     }
 
+    /// Goes back past a version that gives nothing; where many of its key were passed, past all that are above the timestamp.
+    fn pass_over(&mut self, key: &KeyRef<'a>, many: bool)
+        ensures lower { (v : Item) → StandsIn C.items C.place self.old key.now v → C.place self.new.cursor < C.place self.old.cursor }
+        ensures rest { (v : Item) → StandsIn C.items C.place self.old key.now v
+            → (is_past_bound self.old.high v.sort_key.key || not (is_item_within self.old.t.0 self.old.s.0 v)) ≡ true
+            → rest_down C.items C.place self.new ≡ rest_down C.items C.place self.old }
+    {
+        if many && self.t.0 < key.ts.0 {
+            go_before(&mut self.cursor, key);
+        } else {
+            self.cursor.prev();
+        }
+    }
+
+    /// Goes back past the last version found; where many of its key were passed, past all others that the read sees.
+    fn pass_found(&mut self, key: &KeyRef<'a>, hit: Hit<'a>, many: bool)
+        ensures lower { (v : Item) → StandsIn C.items C.place self.old key.now v → C.place self.new.cursor < C.place self.old.cursor }
+        ensures rest { (v : Item) → StandsIn C.items C.place self.old key.now v
+            → v ≡ shown (key.now, hit)
+            → (is_past_bound self.old.high v.sort_key.key || not (is_item_within self.old.t.0 self.old.s.0 v)) ≡ false
+            → rest_down C.items C.place self.new ≡ rest_down_from C.items self.old (Some v) (C.place self.old.cursor - 1) }
+    {
+        self.best = Some((*key, hit));
+        if many {
+            self.best = go_to_newest(&mut self.cursor, key.key, self.t, self.s);
+        }
+        self.cursor.prev();
+    }
+
     /// The next row. Where it answers `NoMemory` the same one is still to come.
     pub(crate) fn next(&mut self, alloc: Global) -> Result<Option<Row>, NoMemory>
         ensures { MatchResult result
@@ -100,6 +173,7 @@ impl<'a, C: Cursor<'a> + Drop> Down<'a, C> {
             (λ row. rest_down C.items C.place self.old ≡ row ∷ rest_down C.items C.place self.new))
             (λ _. rest_down C.items C.place self.new ≡ rest_down C.items C.place self.old) }
     {
+        let mut passed = Passed::none();
         loop {
             let Some((key, hit)) = self.cursor.at() else {
                 let row = row_at_end(alloc, self.floor, self.best)?;
@@ -111,13 +185,13 @@ impl<'a, C: Cursor<'a> + Drop> Down<'a, C> {
                 self.best = None;
                 return Ok(row);
             }
+            passed = passed.with(key.key);
             if is_passed_over(&self.high, &key, self.t, self.s) {
-                self.cursor.prev();
+                self.pass_over(&key, passed.are_many());
                 continue;
             }
             let row = row_before(alloc, self.floor, self.best, &key)?;
-            self.best = Some((key, hit));
-            self.cursor.prev();
+            self.pass_found(&key, hit, passed.are_many());
             if let Some(row) = row {
                 return Ok(Some(row));
             }

@@ -3,6 +3,7 @@
 
 mod down;
 pub mod laws;
+mod passed;
 mod rows;
 pub mod scan;
 mod source;
