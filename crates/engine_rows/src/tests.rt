@@ -44,6 +44,10 @@ const PUT_AND_SEAL: &[Step] = &[
     Step::Seal { family: 0 },
 ];
 
+const SEAL: &[Step] = &[Step::Seal { family: 0 }];
+
+const JOB_FILE: &[Step] = &[Step::JobFile];
+
 /// A family of a new store.
 fn head_of(alloc: Global, name: &[u8]) -> Result<FamilyHead, Fail> {
     Ok(FamilyHead {
@@ -296,12 +300,7 @@ fn sequences_end(rt: HostRuntime) -> Result<(), Fail> {
 fn file_numbers_end(rt: HostRuntime) -> Result<(), Fail> {
     let next = 1 << 63;
     let full = Some(EngineFault::FilesFull { next });
-    let seal = Step::Seal { family: 0 };
-    for (steps, wanted) in [
-        (&[seal][..], None),
-        (PUT_AND_SEAL, full),
-        (&[Step::JobFile], full),
-    ] {
+    for (steps, wanted) in [(SEAL, None), (PUT_AND_SEAL, full), (JOB_FILE, full)] {
         let disk = store_at(rt.alloc(), next, Seq(0))?;
         let (_disk, fault) = history(rt.alloc(), disk, steps)?;
         assert_eq!(rt; fault, wanted);
