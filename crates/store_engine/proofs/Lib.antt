@@ -21,6 +21,7 @@ pub mod Writing
 pub mod Raising
 pub mod NowFlushed
 pub mod Loops
+pub mod Removing
 pub mod Aside
 pub mod FlushEdits
 pub mod DroppedLogs

@@ -1,10 +1,10 @@
 -- What an install of a flush needs, does and leaves.
-use Rattle.std.specs.Prelude.{◌≡◌, ◌⊎◌, ℕ, ◌^◌, ◌<◌, ◌≤◌, max, IsTrue, false, IfErr, OnOk, List, [], ◌∷◌, length, map, slice_get, take, drop, Contains, Option, Some, None, Result, Ok, Err}
+use Rattle.std.specs.Prelude.{◌≡◌, ◌≢◌, ◌⊎◌, ℕ, ◌^◌, ◌<◌, ◌≤◌, max, IsTrue, false, IfErr, OnOk, List, [], ◌∷◌, length, map, slice_get, take, Contains, Option, Some, None, Result, Ok, Err}
 use Rattle.std.specs.Arc.{arc_value}
 use Rattle.ts_key.specs.declared.numbers.Family.{Family}
 use Rattle.ts_key.specs.declared.numbers.Seq.{Seq}
 use Rattle.ts_key.specs.declared.numbers.Ts.{Ts}
-use Rattle.udt_disk.specs.Causes.{IsCause, plus_faults}
+use Rattle.udt_disk.specs.Causes.{IsCause, Rose, plus_faults}
 use Rattle.udt_disk.specs.Crash.{NoMore, Only}
 use Rattle.udt_disk.specs.Runs.{IsSameFile}
 use Rattle.udt_disk.specs.Touches.{Touches}
@@ -14,6 +14,7 @@ use Rattle.udt_disk.specs.declared.disk.Disk as disk
 use Rattle.udt_disk.specs.declared.file.DiskFile as file
 use Rattle.wal.specs.Wals.{wal_file, wal_pending}
 use Rattle.manifest_edit.specs.declared.edit.Edit.{Edit}
+use Rattle.manifest_fold.specs.Folds.{fold_with}
 use Rattle.manifest.specs.Manifest.{manifest_file, manifest_folded}
 use Rattle.block_table.specs.Held.{Held}
 use Rattle.block_table.specs.Tables.{IsTable}
@@ -26,7 +27,7 @@ use Rattle.super_version.specs.declared.family.FamilyState.{FamilyState}
 use Rattle.super_version.specs.declared.jobs.TableOut.{TableOut}
 use Rattle.super_version.specs.declared.version.SuperVersion.{SuperVersion}
 use Rattle.engine_laws.specs.Installs.{flush_edit}
-use Rattle.store_engine.specs.Asides.{AreRemoved}
+use Rattle.store_engine.specs.Asides.{AreAbsent, AreRemoved}
 use Rattle.store_engine.specs.Calls.{is_disk_failure}
 use Rattle.store_engine.specs.Dropping.{AreGone}
 use Rattle.store_engine.specs.Engines.{IsOneFolder, IsRunning, engine_faults, has_failed}
@@ -106,30 +107,36 @@ pub record EndsFlushBy {F : Type 0} (f : file.Ghosts F) (m : State) (now : Super
 
 -- ---- what it leaves
 
--- The logs that no family needs with the next version are live no more, from the oldest on, and the others are.
-pub record DropsLogs {D F : Type 0} {f : file.Ghosts F} (old new : Engine D F f) (next : SuperVersion) : Type 0 where
+-- The manifest has the edit of the flush: the table is live, and of the logs the oldest, which no family needs with the next version, are
+-- live no more. Their files are gone and no fault was met, or a remove failed.
+pub record IsFlushInstalled {D F : Type 0} (d : disk.Ghosts D F) (f : file.Ghosts F) (now : SuperVersion) (family : Family) (floor : Ts) (through : Seq) (number : ℕ) (given : F) (old new : Engine D F f) (next : SuperVersion) : Type 0 where
   pub count : ℕ
   pub are_gone : AreGone next.families old.older (manifest_folded old.manifest).logs count
-  pub logs : (manifest_folded new.manifest).logs ≡ drop count (manifest_folded old.manifest).logs
+  pub fold : manifest_folded new.manifest ≡ fold_with (manifest_folded old.manifest) (flush_edit now.last old.next (take count (manifest_folded old.manifest).logs) family floor through number)
+  pub removed : (AreAbsent d (oldest_names count (manifest_folded old.manifest).logs) new.disk × (engine_faults d f new ≡ plus_faults (engine_faults d f old) (f.faults given))) ⊎ Rose (plus_faults (engine_faults d f old) (f.faults given)) (engine_faults d f new)
 
 -- the log of this name was live, and is no more
 abbrev pub IsDropped : List ℕ → List ℕ → FileName → Type 0
 IsDropped old new name = (n : ℕ) × (name ≡ Log n) × Contains old n × ¬ Contains new n
 
--- the count of faults with those of the file that is given back; on Ok a remove may have failed
+-- the count of faults, which has those of the file that is given back; on Ok a remove may have failed
 abbrev pub IsInstallCause : {A : Type 0} → Result A EngineFault → ℕ → ℕ → Type 0
 IsInstallCause (Ok a) before now = before ≤ now
 IsInstallCause (Err fault) before now = IsCause (is_disk_fault fault) before now
 
--- What an install leaves, whether or not the disk tells what it holds: the same folder, still one, in which beside the two held files
--- only the table's file and logs that are live no more were touched, and the number of the next file; an engine that may be called
--- unless the disk failed; and the faults of the file that was given back, with more where the disk failed.
-pub record IsInstallCalled {D F A : Type 0} (d : disk.Ghosts D F) (f : file.Ghosts F) (given : F) (old new : Engine D F f) (result : Result A EngineFault) : Type 0 where
+-- What an install of a table of this number leaves, whether or not the disk tells what it holds: the same folder, still one, in which beside
+-- the two held files only the table's file, which was given back, and logs that are live no more were touched; the number of the next file,
+-- and those that other jobs have; an engine that may be called unless the disk failed; and the faults of the file that was given back, with
+-- more where the disk failed.
+pub record IsInstallCalled {D F A : Type 0} (d : disk.Ghosts D F) (f : file.Ghosts F) (number : ℕ) (given : F) (old new : Engine D F f) (result : Result A EngineFault) : Type 0 where
   pub wal : IsSameFile f (wal_file old.wal) (wal_file new.wal)
   pub manifest : IsSameFile f (manifest_file old.manifest) (manifest_file new.manifest)
   pub touches : Touches d (λ name. (name ≡ f.name given) ⊎ IsDropped (manifest_folded old.manifest).logs (manifest_folded new.manifest).logs name) old.disk new.disk
   pub one : IsOneFolder d f old → IsOneFolder d f new
+  pub given_back : NoMore (f.may_leave given) (d.may_leave new.disk (f.name given))
   pub next : new.next ≡ old.next
+  pub older : new.older ≡ old.older
+  pub jobs : (n : ℕ) → n ≢ number → IsJobNumber old n → IsJobNumber new n
   pub untouched : IfErr result (λ fault. is_disk_fault fault ≡ false → (new.wal ≡ old.wal) × (manifest_file new.manifest ≡ manifest_file old.manifest))
   pub running : is_disk_failure result ≡ false → IsRunning new
   pub failed : has_failed new ≡ is_disk_failure result

@@ -1,6 +1,6 @@
 //! The installs of flushes: an edit makes a table live, and drops the logs that no family needs any more.
 
-ghost use Rattle.std.specs.Prelude.{◌≡◌, ◌≤◌, ℕ, [], Contains, IfErr, IfOk, Ok, Err, false, map};
+ghost use Rattle.std.specs.Prelude.{◌≡◌, ◌⊎◌, ℕ, [], Contains, IfErr, IfOk, Ok, Err, false, map};
 ghost use Rattle.std.specs.Arc.{arc_value};
 ghost use Rattle.udt_disk.specs.Touches.{Touches};
 ghost use Rattle.udt_disk.specs.declared.name.FileName.TheVariants.{Log};
@@ -14,6 +14,7 @@ ghost use Rattle.udt_model.specs.State.{Flush, State};
 ghost use Rattle.udt_model.specs.Steps.{after};
 ghost use Rattle.super_version.specs.Changes.{ChangesFamily, family_with_flush};
 ghost use Rattle.engine_laws.specs.Installs.{flush_edit as edit_of_flush};
+ghost use Rattle.store_engine.specs.Asides.{IsRemoval};
 ghost use Rattle.store_engine.specs.Dropping.{AreGone, lets_go as lets_log_go, needs_log as needs_its_log};
 ghost use Rattle.store_engine.specs.Installing.{floor_over_now};
 ghost use Rattle.store_engine.specs.Replies.{is_disk_fault};
@@ -135,7 +136,7 @@ fn names_of_logs(alloc: Global, logs: &[u64]) -> Result<Vec<FileName>, NoMemory>
 /// Removes files. One that can't be removed stays: it is in nobody's way.
 fn remove_files<D: Disk>(disk: &mut D, names: &[FileName])
     ensures touches { Touches D.Disk (Contains names.now) disk.old disk.new }
-    ensures later { D.faults disk.old ≤ D.faults disk.new }
+    ensures gone { IsRemoval D.Disk names.now disk.old disk.new }
 {
     for name in names {
         let _ = disk.remove(*name);
@@ -145,7 +146,7 @@ fn remove_files<D: Disk>(disk: &mut D, names: &[FileName])
 impl<D: Disk> Engine<D> {
     ghost use Rattle.store_engine.specs.Calls.{RanUnder, Tells};
     ghost use Rattle.store_engine.specs.Engines.{HoldsAsBefore, HoldsNow, IsCurrent, IsRunning};
-    ghost use Rattle.store_engine.specs.Installing.{DropsLogs, EndsFlushBy, IsFlushInstall, IsInstallCalled, IsInstalled, MayInstall, live_with};
+    ghost use Rattle.store_engine.specs.Installing.{EndsFlushBy, IsFlushInstall, IsFlushInstalled, IsInstallCalled, IsInstalled, MayInstall, live_with};
     ghost use Rattle.store_engine.specs.Steps.{ReservesEdit};
 
     /// The install of a flush that ended so, with this table. No call is made on the disk.
@@ -257,8 +258,9 @@ impl<D: Disk> Engine<D> {
 
         // Whether or not the disk tells what it holds.
         ensures shown { IfOk result (λ next. ChangesFamily family.0 (family_with_flush gone through (floor_over_now now.now family out.floor) (live_with number out.table)) now.now (arc_value next)) }
-        ensures drops { IfOk result (λ next. DropsLogs self.old self.new (arc_value next)) }
-        ensures called { IsInstallCalled D.Disk D.File.DiskFile file self.old self.new result }
+        ensures installed { IfOk result (λ next. IsFlushInstalled D.Disk D.File.DiskFile now.now family (floor_over_now now.now family out.floor) through number file self.old self.new (arc_value next)) }
+        ensures called { IsInstallCalled D.Disk D.File.DiskFile number file self.old self.new result }
+        ensures fault { IfErr result (λ fault. (fault ≡ EngineFault.NoMemory) ⊎ (fault ≡ EngineFault.DiskFault)) }
     {
         let TableOut {
             table,
