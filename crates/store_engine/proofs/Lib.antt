@@ -28,6 +28,7 @@ pub mod DroppedLogs
 pub mod GivenBack
 pub mod Installed
 pub mod InstallCalls
+pub mod FlushEnded
 pub mod Besides
 pub mod Leaving
 pub mod Covering

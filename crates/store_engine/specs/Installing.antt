@@ -18,8 +18,13 @@ use Rattle.manifest_fold.specs.Folds.{fold_with}
 use Rattle.manifest.specs.Manifest.{manifest_file, manifest_folded}
 use Rattle.block_table.specs.Held.{Held}
 use Rattle.block_table.specs.Tables.{IsTable}
+use Rattle.udt_model.specs.declared.reply.Reply.{Reply}
+use Rattle.udt_model.specs.declared.reply.Reply.TheVariants as replies
+use Rattle.udt_model.specs.Acts.Act.{flush_end}
+use Rattle.udt_model.specs.Crashes.{Course, course_after}
 use Rattle.udt_model.specs.Jobs.{are_new, flush_kept, flush_taken, floor_over}
 use Rattle.udt_model.specs.State.{Flush, State, form_at}
+use Rattle.udt_model.specs.Steps.{after}
 use Rattle.super_version.specs.Changes.{ChangesFamily, family_with_flush}
 use Rattle.super_version.specs.Contents.{version_of_item}
 use Rattle.super_version.specs.Live.{Live}
@@ -27,14 +32,14 @@ use Rattle.super_version.specs.declared.family.FamilyState.{FamilyState}
 use Rattle.super_version.specs.declared.jobs.TableOut.{TableOut}
 use Rattle.super_version.specs.declared.version.SuperVersion.{SuperVersion}
 use Rattle.engine_laws.specs.Installs.{flush_edit}
-use Rattle.store_engine.specs.Asides.{AreAbsent, AreRemoved}
+use Rattle.store_engine.specs.Asides.{AreAbsent, AreRemoved, IsGivenBack}
 use Rattle.store_engine.specs.Calls.{is_disk_failure}
 use Rattle.store_engine.specs.Dropping.{AreGone}
 use Rattle.store_engine.specs.Engines.{IsOneFolder, IsRunning, engine_faults, has_failed}
 use Rattle.store_engine.specs.Jobs.{IsJobNumber}
 use Rattle.store_engine.specs.Now.{FitsFamily}
 use Rattle.store_engine.specs.Replies.{is_disk_fault}
-use Rattle.store_engine.specs.Steps.{IsEdited, IsLogSynced}
+use Rattle.store_engine.specs.Steps.{IsEdited, IsLogSynced, ReservesEdit}
 use Rattle.store_engine.specs.declared.engine.Engine.{Engine}
 use Rattle.store_engine.specs.declared.fault.EngineFault.{EngineFault}
 use Rattle.store_engine.specs.declared.install.FlushEnd.{FlushEnd}
@@ -63,6 +68,12 @@ pub record IsFlushInstall {D F : Type 0} {f : file.Ghosts F} (engine : Engine D 
 abbrev pub IsInstalled : {D F : Type 0} (d : disk.Ghosts D F) (f : file.Ghosts F) → Install → Engine D F f → Engine D F f → Result (Unit {0}) EngineFault → Type 0
 IsInstalled {D} {F} d f install old new (Ok u) = (synced : Engine D F f) × (edited : Engine D F f) × IsLogSynced f old synced (Ok tt) × IsEdited f install.edit synced edited (Ok tt) × AreRemoved d install.gone.items edited new
 IsInstalled {D} {F} d f install old new (Err fault) = IsLogSynced f old new (Err fault) ⊎ ((synced : Engine D F f) × IsLogSynced f old synced (Ok tt) × IsEdited f install.edit synced new (Err fault))
+
+-- A flush was ended so: where memory ran out nothing was installed; the table's file was given back in any case, before the install.
+pub data IsFlushEnded {D F A : Type 0} (d : disk.Ghosts D F) (f : file.Ghosts F) (value : A → SuperVersion) (now : SuperVersion) (end : FlushEnd) (table : Held) (given : F) (old new : Engine D F f) : Result A EngineFault → Type 0 where
+  refused : (edit : Edit) (mid : Engine D F f) (fault : EngineFault) → ReservesEdit f edit old mid (Err fault) → IsGivenBack d f given mid new → IsFlushEnded d f value now end table given old new (Err fault)
+  stopped : (install : Install) (mid back : Engine D F f) (fault : EngineFault) → IsFlushInstall old now end table install → ReservesEdit f install.edit old mid (Ok tt) → IsGivenBack d f given mid back → IsInstalled d f install back new (Err fault) → IsFlushEnded d f value now end table given old new (Err fault)
+  ended : (install : Install) (mid back : Engine D F f) (next : A) → IsFlushInstall old now end table install → ReservesEdit f install.edit old mid (Ok tt) → IsGivenBack d f given mid back → IsInstalled d f install back new (Ok tt) → value next ≡ arc_value install.next → IsFlushEnded d f value now end table given old new (Ok next)
 
 -- ---- what an install needs
 
@@ -105,7 +116,25 @@ pub record EndsFlushBy {F : Type 0} (f : file.Ghosts F) (m : State) (now : Super
   pub kept : out.kept ≡ length (flush_kept m job)
   pub floor : out.floor ≡ floor_over (form_at m family) job.floor (flush_taken m job)
 
+-- ---- the model's act
+
+-- the model's reply where the flush ends so
+abbrev pub flush_end_reply : SuperVersion → Family → ℕ → TableOut → Reply
+flush_end_reply now family number out = replies.Table number out.kept (floor_over_now now family out.floor)
+
+abbrev pub after_flush_end : State → ℕ → Family → Flush → Reply → State
+after_flush_end m event family job reply = after m event (flush_end family job.start) reply
+
+abbrev pub course_after_flush_end : State → ℕ → Course → Family → Flush → Reply → Course
+course_after_flush_end m event c family job reply = course_after m event c (flush_end family job.start) reply
+
 -- ---- what it leaves
+
+-- the files of these names are gone and the faults are those from before and of the file that was given back, or there are more
+abbrev pub IsInstallRemoval : {D F : Type 0} (d : disk.Ghosts D F) (f : file.Ghosts F) → List FileName → F → Engine D F f → Engine D F f → Type 0
+IsInstallRemoval {D} {F} d f names given old new =
+    let before = plus_faults (engine_faults d f old) (f.faults given) in
+    (AreAbsent d names new.disk × (engine_faults d f new ≡ before)) ⊎ Rose before (engine_faults d f new)
 
 -- The manifest has the edit of the flush: the table is live, and of the logs the oldest, which no family needs with the next version, are
 -- live no more. Their files are gone and no fault was met, or a remove failed.
@@ -113,7 +142,7 @@ pub record IsFlushInstalled {D F : Type 0} (d : disk.Ghosts D F) (f : file.Ghost
   pub count : ℕ
   pub are_gone : AreGone next.families old.older (manifest_folded old.manifest).logs count
   pub fold : manifest_folded new.manifest ≡ fold_with (manifest_folded old.manifest) (flush_edit now.last old.next (take count (manifest_folded old.manifest).logs) family floor through number)
-  pub removed : (AreAbsent d (oldest_names count (manifest_folded old.manifest).logs) new.disk × (engine_faults d f new ≡ plus_faults (engine_faults d f old) (f.faults given))) ⊎ Rose (plus_faults (engine_faults d f old) (f.faults given)) (engine_faults d f new)
+  pub removed : IsInstallRemoval d f (oldest_names count (manifest_folded old.manifest).logs) given old new
 
 -- the log of this name was live, and is no more
 abbrev pub IsDropped : List ℕ → List ℕ → FileName → Type 0
