@@ -1,10 +1,4 @@
-pub mod Adding
-pub mod VersionListLemmas
-pub mod LoggingLemmas
-pub mod VersionLemmas
-pub mod KeepingLemmas
-pub mod StepLemmas
-pub mod SoloLemmas
-pub mod SessionLemmas
 pub mod Naming
+pub mod Histories
+pub mod Running
 pub mod ExpandRows

@@ -28,6 +28,7 @@ raise_first family (Some floor) = asks (Raise family floor) ∷ []
 
 abbrev pub tasks_of : Command → List Task
 tasks_of (commands.Line event) = asks event ∷ []
+tasks_of (commands.Flush family) = flushes family ∷ []
 
 -- the event that a task begins with
 abbrev pub first_event : Task → Event

@@ -1,10 +1,4 @@
-pub mod Keeping
-pub mod Logging
-pub mod LoggedStores
 pub mod Expand
-pub mod Named
-pub mod Adding
-pub mod VersionLists
 pub mod Transcripts
-pub mod Solo
+pub mod Marks
 pub mod Sessions

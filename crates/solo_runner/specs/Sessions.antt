@@ -1,44 +1,59 @@
--- Runs over a store with its log.
-use Rattle.std.specs.Prelude.{◌≡◌, ℕ, ◌≤◌, List, length}
-use Rattle.udt_disk.specs.declared.file.DiskFile.{Ghosts}
+-- Runs of a client over a store, line by line.
+use Rattle.std.specs.Prelude.{◌≡◌, ◌⊎◌, ℕ, ◌+◌, ◌*◌, ◌≤◌, List, All, None, length}
+use Rattle.udt_disk.specs.Causes.{Rose}
+use Rattle.udt_disk.specs.declared.file.DiskFile as file
+use Rattle.udt_disk.specs.declared.disk.Disk as disk
 use Rattle.udt_model.specs.declared.line.Line.{Line}
 use Rattle.udt_model.specs.declared.line.Mark.{Mark}
-use Rattle.udt_model.specs.Crashes.{Course, course_start, course_behind}
-use Rattle.udt_model.specs.Histories.{start}
-use Rattle.udt_disk.specs.Runs.{IsSameFile}
-use Rattle.wal.specs.Wals.{wal_file, wal_sizes}
-use Rattle.head_manifest.specs.declared.fold.Folded.{Folded}
+use Rattle.udt_model.specs.declared.line.Who.TheVariants.{Client, Runner}
+use Rattle.udt_model.specs.State.{State}
+use Rattle.udt_model.specs.Histories.{IsSound, Point, start}
+use Rattle.udt_model.specs.Crashes.{Course, course_behind}
 use Rattle.client_lang.specs.declared.command.Command.{Command}
-use Rattle.solo_runner.specs.Keeping.{Keeps}
-use Rattle.solo_runner.specs.LoggedStores.{IsInStep, store_state, wal_of}
-use Rattle.solo_runner.specs.Solo.{HasRun, HasSynced, AreSoundUnless}
-use Rattle.plain_recovery.specs.Stores.{sizes_of}
-use Rattle.solo_runner.specs.declared.logged.LoggedStore.{LoggedStore}
+use Rattle.client_lang.specs.Print.{IsBuiltLine}
+use Rattle.solo_store.specs.Stores.{HoldsStore, IsReady, store_faults}
+use Rattle.solo_store.specs.declared.store.Store.{Store}
+use Rattle.solo_runner.specs.Expand.{IsSoloRun, IsRunHistory}
+use Rattle.solo_runner.specs.Marks.{no_mark}
 
-module _ {F : Type 0} (g : Ghosts F) where
-  -- how often the file of the log has failed
-  abbrev pub faults_of : LoggedStore F g → ℕ
-  faults_of s = g.faults (wal_file (wal_of s))
+-- no line says that the disk failed, unless its count rose
+abbrev pub AreSoundUnless : ℕ → ℕ → List Line → Type 0
+AreSoundUnless before now lines = All IsSound lines ⊎ Rose before now
 
-  -- What a crash may leave of the log are outcomes of the history so far, in a folder whose manifest has this fold.
-  abbrev pub KeepsCourse : LoggedStore F g → Folded → Course → Type 0
-  KeepsCourse s fold c = (fold.last.0 ≡ 0) × (sizes_of fold ≡ wal_sizes (wal_of s)) × Keeps g fold (wal_of s) (store_state s) c
+module _ {D F : Type 0} (d : disk.Ghosts D F) (f : file.Ghosts F) where
+  -- The lines lead client 1 from this state to the one that the store holds, on the course behind them. The last has this mark.
+  pub record LedTo (new : Store D F f) (m : State) (c : Course) (commands : List Command) (lines : List Line) (last : Mark) : Type 0 where
+    pub end : Point
+    pub run : IsSoloRun m commands lines end
+    pub number_is : end.number ≡ last.number
+    pub last_is : end.last (Client 1) ≡ last
+    pub runner_is : end.last Runner ≡ no_mark
+    pub idle : end.state.flush ≡ None
+    pub holds : HoldsStore d f new end.state (course_behind (start m) c lines)
 
-  -- the log keeps these lines as it kept what was before them, and tells where the disk failed
-  pub record GoesWith (old new : LoggedStore F g) (lines : List Line) : Type 0 where
-    pub in_step : IsInStep g (wal_of new) (store_state new)
-    pub kept : (fold : Folded) → KeepsCourse old fold (course_start (store_state old)) → KeepsCourse new fold (course_behind (start (store_state old)) (course_start (store_state old)) lines)
-    pub later : faults_of old ≤ faults_of new
-    pub sound : AreSoundUnless (faults_of old) (faults_of new) lines
-    pub same : IsSameFile g (wal_file (wal_of old)) (wal_file (wal_of new))
+  -- client 1 has made these commands over a store
+  pub record HasRun (old new : Store D F f) (commands : List Command) (lines : List Line) (last : Mark) : Type 0 where
+    pub led : (m : State) (c : Course) → HoldsStore d f old m c → m.flush ≡ None → LedTo new m c commands lines last
+    pub ready : IsReady d f new
+    pub names : new.names ≡ old.names
+    pub sound : AreSoundUnless (store_faults d f old) (store_faults d f new) lines
+    pub later : store_faults d f old ≤ store_faults d f new
+    pub printed : All IsBuiltLine lines
+    pub count : last.number + last.sub ≤ length lines
+    pub few : length lines ≤ 2 * length commands
 
-  -- client 1 has made these commands
-  pub record HasRunOn (old new : LoggedStore F g) (commands : List Command) (lines : List Line) (last : Mark) : Type 0 where
-    pub run : HasRun (store_state old) commands lines (store_state new) last
-    pub log : GoesWith old new lines
-    pub counted : length lines ≡ length commands
+  -- The lines are a history of client 1 and the runner from this state to the one that the store holds.
+  pub record EndsIn (new : Store D F f) (m : State) (c : Course) (commands : List Command) (lines : List Line) : Type 0 where
+    pub end : Point
+    pub history : IsRunHistory m commands lines end
+    pub idle : end.state.flush ≡ None
+    pub holds : HoldsStore d f new end.state (course_behind (start m) c lines)
 
-  -- and the runner has made its sync
-  pub record HasSession (old new : LoggedStore F g) (commands : List Command) (lines : List Line) : Type 0 where
-    pub run : HasSynced (store_state old) commands lines (store_state new)
-    pub log : GoesWith old new lines
+  -- client 1 has made these commands, and the runner its sync
+  pub record HasSession (old new : Store D F f) (commands : List Command) (lines : List Line) : Type 0 where
+    pub ends : (m : State) (c : Course) → HoldsStore d f old m c → m.flush ≡ None → EndsIn new m c commands lines
+    pub ready : IsReady d f new
+    pub names : new.names ≡ old.names
+    pub sound : AreSoundUnless (store_faults d f old) (store_faults d f new) lines
+    pub later : store_faults d f old ≤ store_faults d f new
+    pub printed : All IsBuiltLine lines

@@ -16,7 +16,7 @@ cause_right : {T E : Type 0} (a x y : ℕ) (result : Result T E) → HasCause x 
 cause_right a x y (Ok t) cause = record { later = grows (2 ^ 64 - 1) a x y cause.later; failed = tt; kept = ap (plus_faults a) cause.kept }
 cause_right a x y (Err e) cause = record { later = grows (2 ^ 64 - 1) a x y cause.later; failed = grows_more (2 ^ 64 - 1) a x y cause.failed; kept = tt }
 
-cause_left : {T E : Type 0} (a x y : ℕ) (result : Result T E) → HasCause x y result → HasCause (plus_faults x a) (plus_faults y a) result
+pub cause_left : {T E : Type 0} (a x y : ℕ) (result : Result T E) → HasCause x y result → HasCause (plus_faults x a) (plus_faults y a) result
 cause_left a x y result cause =
     subst (λ n. HasCause n (plus_faults y a) result) (swapped (2 ^ 64 - 1) a x) (subst (λ n. HasCause (plus_faults a x) n result) (swapped (2 ^ 64 - 1) a y) (cause_right a x y result cause))
 

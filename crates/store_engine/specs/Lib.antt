@@ -7,3 +7,8 @@ pub mod Steps
 pub mod Now
 pub mod Admission
 pub mod Laws
+pub mod Older
+pub mod Jobs
+pub mod Dropping
+pub mod Installing
+pub mod Sealing

@@ -1,0 +1,4 @@
+pub mod Names
+pub mod Replies
+pub mod Stores
+pub mod Steps

@@ -1,0 +1,57 @@
+-- What a store holds.
+use Rattle.std.specs.Prelude.{◌≡◌, ℕ, ◌≤◌, [], length, Option, Some, None, ⊤}
+use Rattle.std.specs.Arc.{arc_value}
+use Rattle.ts_key.specs.declared.limits.TheConstants.{FAMILY_LIMIT}
+use Rattle.udt_disk.specs.declared.file.DiskFile as file
+use Rattle.udt_disk.specs.declared.disk.Disk as disk
+use Rattle.udt_model.specs.State.{State}
+use Rattle.udt_model.specs.Crashes.{Course}
+use Rattle.floor_laws.specs.Sound.{IsSoundState}
+use Rattle.super_version.specs.declared.version.SuperVersion.{SuperVersion}
+use Rattle.store_engine.specs.Calls.{LeavesOutcomes}
+use Rattle.store_engine.specs.Engines.{HoldsNow, IsCurrent, IsOneFolder, IsRunning, engine_faults, held}
+use Rattle.store_engine.specs.Now.{IsNow}
+use Rattle.store_engine.specs.declared.engine.Engine.{Engine}
+use Rattle.solo_store.specs.Names.{names_in}
+use Rattle.solo_store.specs.declared.store.Store.{Store}
+
+module _ {D F : Type 0} {f : file.Ghosts F} where
+  abbrev pub engine_of : Store D F f → Engine D F f
+  engine_of store = store.engine
+
+  abbrev pub now_of : Store D F f → SuperVersion
+  now_of store = arc_value store.now
+
+module _ {D F : Type 0} (d : disk.Ghosts D F) (f : file.Ghosts F) where
+  -- The disk failed under the event of this number. The super version shows the state still, and a crash leaves only outcomes.
+  pub record HoldsHalted (since : ℕ) (engine : Engine D F f) (now : SuperVersion) (m : State) (c : Course) : Type 0 where
+    pub halted : m.halted ≡ Some since
+    pub shows : IsNow now m
+    pub sound : IsSoundState m
+    pub leaves : LeavesOutcomes d f m c (held engine)
+
+  abbrev pub HoldsSince : Option ℕ → Engine D F f → SuperVersion → State → Course → Type 0
+  HoldsSince None engine now m c = HoldsNow d f engine now m c
+  HoldsSince (Some since) engine now m c = HoldsHalted since engine now m c
+
+  -- The store holds the state on its course, also once the disk failed. It knows the names of the families, and has no snapshot.
+  pub record HoldsStore (store : Store D F f) (m : State) (c : Course) : Type 0 where
+    pub names : store.names.items ≡ names_in m
+    pub holds : HoldsSince store.halted (engine_of store) (now_of store) m c
+    pub snaps : m.snaps ≡ []
+
+  -- the engine may go on with the super version, unless the disk failed
+  abbrev pub GoesOnUnless : Option ℕ → Engine D F f → SuperVersion → Type 0
+  GoesOnUnless None engine now = IsRunning engine × IsCurrent engine now
+  GoesOnUnless (Some since) engine now = ⊤
+
+  -- The next event may be made, whether or not the disk tells what it holds.
+  pub record IsReady (store : Store D F f) : Type 0 where
+    pub goes_on : GoesOnUnless store.halted (engine_of store) (now_of store)
+    pub one : IsOneFolder d f (engine_of store)
+    pub families : length (now_of store).families ≡ length store.names.items
+    pub few : length store.names.items ≤ FAMILY_LIMIT
+
+  -- the faults of the disk and of the files of it that are held
+  abbrev pub store_faults : Store D F f → ℕ
+  store_faults store = engine_faults d f (engine_of store)

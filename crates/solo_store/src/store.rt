@@ -1,0 +1,174 @@
+//! The store of one client.
+
+ghost use Rattle.std.specs.Prelude.{◌≡◌, ◌<◌, ◌≤◌, ℕ, List, None, All, IfOk, IfErr, IsTrue, length};
+ghost use Rattle.ts_key.specs.declared.limits.TheConstants.{BATCH_LIMIT, STAMP_LIMIT};
+ghost use Rattle.udt_disk.specs.Moments.{OnlyReads, alone};
+ghost use Rattle.udt_model.specs.declared.event.Event.TheVariants.{Floor as FloorEvent, Get as GetEvent, Raise as RaiseEvent, Sync as SyncEvent, Write as WriteEvent};
+ghost use Rattle.udt_model.specs.declared.event.NamedOp.{NamedOp as Named};
+ghost use Rattle.udt_model.specs.Crashes.{Course, course_start, settled};
+ghost use Rattle.udt_model.specs.State.{State};
+ghost use Rattle.engine_laws.specs.Standing.{FolderStands};
+ghost use Rattle.manifest.specs.Manifest.{manifest_folded};
+ghost use Rattle.recovery.specs.Opening.{AreLiveClean};
+ghost use Rattle.recovery.specs.Tables.{ReadsAsTable};
+ghost use Rattle.recovery.specs.declared.opening.Parts.{Parts as PartsOf};
+ghost use Rattle.store_engine.specs.Parts.{ArePartsOf};
+ghost use Rattle.solo_store.specs.Replies.{told_of_fault};
+
+use crate::batch::batch_of;
+use crate::names::{any_unnamed, family_named, names_of};
+use crate::reading::reply_of_read;
+use crate::refusals::reply_of;
+use point_read::get;
+use recovery::Parts;
+use std::alloc::{AllocError, Global};
+use std::sync::Arc;
+use store_engine::{Engine, EngineFault};
+use super_version::SuperVersion;
+use ts_key::{Family, Key, Name, Ts};
+use udt_disk::Disk;
+use udt_model::{NamedOp, Reply};
+
+/// The store of one client: an engine with its super version, and the names of the families. Once the disk failed under an event, the
+/// store goes on reading, and refuses what works on the disk.
+pub struct Store<D: Disk> {
+    engine: Engine<D>,
+    now: Arc<SuperVersion>,
+    names: Vec<Name>,
+    /// The number of the event under which the disk failed.
+    halted: Option<u64>,
+}
+
+impl<D: Disk> Store<D> {
+    ghost use Rattle.store_engine.specs.Calls.{LeavesOutcomes};
+    ghost use Rattle.solo_store.specs.Steps.{IsStep};
+    ghost use Rattle.solo_store.specs.Stores.{HoldsStore, IsReady, engine_of, store_faults};
+
+    /// The number of the family of this name; where there is none, the one behind the last.
+    fn family_of(&self, name: &Name) -> Family {
+        family_named(&self.names, name)
+    }
+
+    /// What is told of a fault of the engine. After one of the disk the store is halted.
+    fn refused(&mut self, number: u64, fault: EngineFault) -> Reply
+        ensures reply { result ≡ told_of_fault fault }
+    {
+        if fault == EngineFault::DiskFault {
+            self.halted = Some(number);
+        }
+        reply_of(fault)
+    }
+
+    /// What a halted store tells of an event that works on the disk, on a family.
+    fn halted_reply(&self, family: Family, since: u64) -> Reply {
+        match self.now.family(family) {
+            None => Reply::Unknown,
+            Some(_) => Reply::Halted { since },
+        }
+    }
+
+    /// The floor of a family.
+    pub fn floor(&self, family: &Name) -> Reply
+        requires { IsReady D.Disk D.File.DiskFile self.now }
+        ensures { (number : ℕ) → IsStep D.Disk D.File.DiskFile self.now self.now number (FloorEvent family.now) result }
+    {
+        match self.now.family(self.family_of(family)) {
+            None => Reply::Unknown,
+            Some(state) => Reply::Floor { floor: state.floor },
+        }
+    }
+
+    /// The value of a key at a timestamp. It is copied once.
+    pub fn get(&self, alloc: Global, family: &Name, key: &Key, t: Ts) -> Reply
+        requires { IsReady D.Disk D.File.DiskFile self.now }
+        ensures { (number : ℕ) → IsStep D.Disk D.File.DiskFile self.now self.now number (GetEvent family.now key.now t None) result }
+    {
+        let now = self.now.as_ref();
+        let family = self.family_of(family);
+        if now.family(family).is_none() {
+            return Reply::Unknown;
+        }
+        reply_of_read(alloc, get(now, family, key.bytes(), t, now.last))
+    }
+
+    /// Takes a write whole, as the event of this number, or leaves the store as it was. The batch shares the bytes of keys and values.
+    pub fn write(&mut self, alloc: Global, number: u64, ops: &[NamedOp], sync: bool) -> Reply
+        requires some { 0 < length ops.now }
+        requires within { length ops.now ≤ BATCH_LIMIT }
+        requires stamped { All (λ (o : Named). o.ts.0 ≤ STAMP_LIMIT) ops.now }
+        requires ready { IsReady D.Disk D.File.DiskFile self.old }
+        ensures { IsStep D.Disk D.File.DiskFile self.old self.new number (WriteEvent ops.now sync) result }
+    {
+        match self.halted {
+            Some(_) if any_unnamed(&self.names, ops) => Reply::Unknown,
+            Some(since) => Reply::Halted { since },
+            None => self.take(alloc, number, ops, sync),
+        }
+    }
+
+    /// The same where the disk hasn't failed.
+    fn take(&mut self, alloc: Global, number: u64, ops: &[NamedOp], sync: bool) -> Reply
+        requires some { 0 < length ops.now }
+        requires within { length ops.now ≤ BATCH_LIMIT }
+        requires stamped { All (λ (o : Named). o.ts.0 ≤ STAMP_LIMIT) ops.now }
+        requires ready { IsReady D.Disk D.File.DiskFile self.old }
+        requires works { self.old.halted ≡ None }
+        ensures { IsStep D.Disk D.File.DiskFile self.old self.new number (WriteEvent ops.now sync) result }
+    {
+        let Ok(batch) = batch_of(alloc, &self.names, ops) else {
+            return Reply::NoMemory;
+        };
+        match self.engine.write(alloc, self.now.as_ref(), &batch, sync) {
+            Ok(next) => {
+                let number = next.last.0;
+                self.now = next;
+                Reply::OkAt { number }
+            }
+            Err(fault) => self.refused(number, fault),
+        }
+    }
+
+    /// Gives a family another floor, as the event of this number, or leaves the store as it was.
+    pub fn raise(&mut self, alloc: Global, number: u64, family: &Name, floor: Ts) -> Reply
+        requires { IsReady D.Disk D.File.DiskFile self.old }
+        ensures { IsStep D.Disk D.File.DiskFile self.old self.new number (RaiseEvent family.now floor) result }
+    {
+        let family = self.family_of(family);
+        if let Some(since) = self.halted {
+            return self.halted_reply(family, since);
+        }
+        match self.engine.raise(alloc, self.now.as_ref(), family, floor) {
+            Ok(next) => {
+                self.now = next;
+                Reply::Done
+            }
+            Err(fault) => self.refused(number, fault),
+        }
+    }
+
+    /// Puts every accepted write on the disk, as the event of this number. It takes no memory.
+    pub fn sync(&mut self, number: u64) -> Reply
+        requires { IsReady D.Disk D.File.DiskFile self.old }
+        ensures { IsStep D.Disk D.File.DiskFile self.old self.new number SyncEvent result }
+    {
+        if let Some(since) = self.halted {
+            return Reply::Halted { since };
+        }
+        match self.engine.sync() {
+            Ok(()) => Reply::Done,
+            Err(fault) => self.refused(number, fault),
+        }
+    }
+
+    /// Gives the folder back. It writes nothing, so what waits is lost.
+    pub fn close(self) -> D
+    {
+        let Store {
+            engine,
+            now: _,
+            names: _,
+            halted: _,
+        } = self;
+        engine.close()
+    }
+}
