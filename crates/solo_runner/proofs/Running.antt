@@ -1,5 +1,5 @@
 -- Runs over a store, one line after another.
-use Rattle.std.proofs.Common.{◌≡◌, ℕ, ◌+◌, ◌*◌, ◌≤◌, Bool, true, false, IsTrue, List, [], ◌∷◌, ◌++◌, length, None, refl, sym, ap, subst, ◌∙◌, append-nil, inl, inr, arith}
+use Rattle.std.proofs.Common.{◌≡◌, ℕ, ◌+◌, ◌*◌, ◌-◌, ◌^◌, ◌≤◌, Bool, true, false, IsTrue, List, [], ◌∷◌, ◌++◌, length, None, refl, sym, ap, subst, ◌∙◌, append-nil, inl, inr, arith}
 use Rattle.std.specs.Prelude.{All, if◌then◌else◌}
 use Rattle.std.proofs.lemmas.Bool.{cases_Bool}
 use Rattle.std.proofs.lemmas.List.{length_push}
@@ -25,7 +25,7 @@ use Rattle.client_lang.specs.Print.{IsBuilt, IsBuiltCommand, IsBuiltLine}
 use Rattle.solo_store.specs.Steps.{IsStep, course_behind_event, state_behind}
 use Rattle.solo_store.specs.Stores.{HoldsStore, IsReady, store_faults}
 use Rattle.solo_store.specs.declared.store.Store.{Store}
-use Rattle.solo_runner.specs.Expand.{Expand, IsClient, IsRunHistory, IsSoloRun, goes_on, Task}
+use Rattle.solo_runner.specs.Expand.{AreAskedSoFar, Expand, IsAskedRun, IsClient, Task, goes_on}
 use Rattle.solo_runner.specs.Marks.{mark_behind, no_mark}
 use Rattle.solo_runner.specs.Sessions.{AreSoundUnless, EndsIn, HasRun, HasSession, LedTo}
 use Rattle.solo_runner.proofs.Histories.{Expand-append, Leads-append, count_behind, course_push, height_kept, last_mark_behind, lines_client, mark_is, not_own, number_behind, own-append, own_line, runner_behind}
@@ -33,9 +33,9 @@ use Rattle.solo_runner.proofs.Naming.{after_same, keeps_flush, named_of_client, 
 
 -- ---- faults
 
-pub cause_rises : (told : Bool) (before now : ℕ) → IsCause told before now → before ≤ now
-cause_rises true before now cause = omega (arith, cause)
-cause_rises false before now cause = omega (arith, cause)
+cause_rises : (told : Bool) (before now : ℕ) → before ≤ 2 ^ 64 - 1 → IsCause told before now → before ≤ now
+cause_rises true before now within cause = omega (arith, within, cause)
+cause_rises false before now within cause = omega (arith, cause)
 
 cause_rose : (told : Bool) (before now : ℕ) → IsCause told before now → told ≡ true → Rose before now
 cause_rose true before now cause e = cause
@@ -73,6 +73,13 @@ line_more cs event ls line is e = Expand-append cs (commands.Line event ∷ []) 
 -- ---- lines
 
 module _ {D F : Type 0} (d : disk.Ghosts D F) (f : file.Ghosts F) where
+  within_count : (s : Store D F f) → store_faults d f s ≤ 2 ^ 64 - 1
+  within_count s = omega arith
+
+  -- the faults never fall
+  later_next : (old new : Store D F f) (told : Bool) → IsCause told (store_faults d f old) (store_faults d f new) → store_faults d f old ≤ store_faults d f new
+  later_next old new told cause = cause_rises told (store_faults d f old) (store_faults d f new) (within_count old) cause
+
   -- what a line says that was made behind the step of this number
   pub record IsNextLine (old new : Store D F f) (who : Who) (number : ℕ) (last : Mark) (line : Line) : Type 0 where
     pub who_is : line.who ≡ who
@@ -108,15 +115,9 @@ module _ {D F : Type 0} (d : disk.Ghosts D F) (f : file.Ghosts F) where
 
   pub none_ran : (store : Store D F f) (lines : List Line) → lines ≡ [] → IsReady d f store → HasRun d f store store [] lines no_mark
   none_ran store lines e ready = record {
-    led = λ m c holds idle. subst (λ (ls : List Line). LedTo d f store m c [] ls no_mark) (sym e) (record {
-      end = start m;
-      run = record { legal = refl; once = refl; alone = refl };
-      number_is = refl;
-      last_is = refl;
-      runner_is = refl;
-      idle = idle;
-      holds = holds;
-    });
+    led = λ m c holds idle. subst (λ (ls : List Line). LedTo d f store m c ls no_mark) (sym e)
+        (record { end = start m; legal = refl; number_is = refl; last_is = refl; runner_is = refl; idle = idle; holds = holds });
+    asked = subst (λ (ls : List Line). AreAskedSoFar [] ls) (sym e) (record { once = refl; alone = refl });
     ready = ready;
     names = refl;
     sound = sound_none (store_faults d f store) lines e;
@@ -126,36 +127,45 @@ module _ {D F : Type 0} (d : disk.Ghosts D F) (f : file.Ghosts F) where
     few = rw e (omega arith);
   }
 
-  led_more : (m : State) (c : Course) (old new : Store D F f) (cs : List Command) (ls : List Line) (last : Mark) (event : Event) (line : Line) → IsBuiltCommand (commands.Line event) → line.event ≡ event
-      → IsNextLine old new (Client 1) last.number last line → LedTo d f old m c cs ls last → LedTo d f new m c (cs ++ commands.Line event ∷ []) (ls ++ line ∷ []) line.mark
-  led_more m c old new cs ls last event line asked is next l =
-      let asks : IsBuiltCommand (commands.Line line.event) = subst (λ (e : Event). IsBuiltCommand (commands.Line e)) (sym is) asked in
+  -- the lines lead on to one more of client 1
+  pub led_more : (m : State) (c : Course) (old new : Store D F f) (ls : List Line) (last : Mark) (line : Line) → IsBuiltCommand (commands.Line line.event)
+      → IsNextLine old new (Client 1) last.number last line → LedTo d f old m c ls last → LedTo d f new m c (ls ++ line ∷ []) line.mark
+  led_more m c old new ls last line asks next l =
       let named = named_of_client 1 line.who (l.end.names line.who) line.event next.who_is next.printed.event in
-      let legal = legal_next l.end (Client 1) last.number last old new (course_behind (start m) c ls) line (height_kept (start m) l.end ls l.run.legal) l.number_is l.last_is next named l.holds in
-      let own_new : own_lines (Client 1) (line ∷ []) ≡ line ∷ [] = own_line line next.who_is in
+      let legal = legal_next l.end (Client 1) last.number last old new (course_behind (start m) c ls) line (height_kept (start m) l.end ls l.legal) l.number_is l.last_is next named l.holds in
       record {
         end = behind l.end line;
-        run = record {
-          legal = Leads-append (start m) l.end (behind l.end line) ls (line ∷ []) l.run.legal (legal, refl);
-          once = rw (own-append (Client 1) ls (line ∷ []), own_new) (line_more cs event (own_lines (Client 1) ls) line is l.run.once);
-          alone = own-append (Client 1) ls (line ∷ []) ∙ ap (λ (xs : List Line). xs ++ own_lines (Client 1) (line ∷ [])) l.run.alone ∙ ap (λ (xs : List Line). ls ++ xs) own_new;
-        };
+        legal = Leads-append (start m) l.end (behind l.end line) ls (line ∷ []) l.legal (legal, refl);
         number_is = number_behind l.end last line l.number_is ∙ ap (λ (k : Mark). k.number) (sym next.mark);
         last_is = last_mark_behind l.end line next.who_is;
         runner_is = runner_behind l.end line next.who_is ∙ l.runner_is;
         idle = ap (λ (s : State). s.flush) (state_next l.end last.number line next.printed.event l.number_is) ∙ keeps_flush l.end.state (last.number + 1) line.event line.reply asks ∙ l.idle;
-        holds = holds_next m l.end last.number old new (Client 1) last c ls line l.number_is l.run.legal next l.holds;
+        holds = holds_next m l.end last.number old new (Client 1) last c ls line l.number_is l.legal next l.holds;
       }
+
+  asked_more : (cs : List Command) (event : Event) (ls : List Line) (line : Line) → line.event ≡ event → line.who ≡ Client 1 → AreAskedSoFar cs ls → AreAskedSoFar (cs ++ commands.Line event ∷ []) (ls ++ line ∷ [])
+  asked_more cs event ls line is who a =
+      let own_new : own_lines (Client 1) (line ∷ []) ≡ line ∷ [] = own_line line who in
+      record {
+        once = rw (own-append (Client 1) ls (line ∷ []), own_new) (line_more cs event (own_lines (Client 1) ls) line is a.once);
+        alone = own-append (Client 1) ls (line ∷ []) ∙ ap (λ (xs : List Line). xs ++ own_lines (Client 1) (line ∷ [])) a.alone ∙ ap (λ (xs : List Line). ls ++ xs) own_new;
+      }
+
+  sound_next : (first old new : Store D F f) (ls : List Line) (who : Who) (number : ℕ) (last : Mark) (line : Line) → IsNextLine old new who number last line → store_faults d f first ≤ store_faults d f old
+      → AreSoundUnless (store_faults d f first) (store_faults d f old) ls → AreSoundUnless (store_faults d f first) (store_faults d f new) (ls ++ line ∷ [])
+  sound_next first old new ls who number last line next later sound =
+      sound_more (store_faults d f first) (store_faults d f old) (store_faults d f new) ls line later (later_next old new (says_fault line.reply) next.step.counted) sound
+          (cause_rose (says_fault line.reply) (store_faults d f old) (store_faults d f new) next.step.counted)
 
   pub ran_line : (first old new : Store D F f) (cs : List Command) (ls : List Line) (last : Mark) (event : Event) (line : Line) → IsBuiltCommand (commands.Line event) → line.event ≡ event
       → IsNextLine old new (Client 1) last.number last line → HasRun d f first old cs ls last → HasRun d f first new (cs ++ commands.Line event ∷ []) (ls ++ line ∷ []) line.mark
   ran_line first old new cs ls last event line asked is next r = record {
-    led = λ m c holds idle. led_more m c old new cs ls last event line asked is next (r.led m c holds idle);
+    led = λ m c holds idle. led_more m c old new ls last line (subst (λ (e : Event). IsBuiltCommand (commands.Line e)) (sym is) asked) next (r.led m c holds idle);
+    asked = asked_more cs event ls line is next.who_is r.asked;
     ready = next.step.ready;
     names = next.step.names ∙ r.names;
-    sound = sound_more (store_faults d f first) (store_faults d f old) (store_faults d f new) ls line r.later (cause_rises (says_fault line.reply) (store_faults d f old) (store_faults d f new) next.step.counted) r.sound
-        (cause_rose (says_fault line.reply) (store_faults d f old) (store_faults d f new) next.step.counted);
-    later = let more = cause_rises (says_fault line.reply) (store_faults d f old) (store_faults d f new) next.step.counted in let before = r.later in omega arith;
+    sound = sound_next first old new ls (Client 1) last.number last line next r.later r.sound;
+    later = let more = later_next old new (says_fault line.reply) next.step.counted in let before = r.later in omega arith;
     printed = All-push IsBuiltLine ls line r.printed next.printed;
     count =
         let le = count_behind last line (length ls) r.count in
@@ -172,36 +182,39 @@ module _ {D F : Type 0} (d : disk.Ghosts D F) (f : file.Ghosts F) where
 
   -- ---- the runner's sync
 
-  ends_synced : (m : State) (c : Course) (old new : Store D F f) (cs : List Command) (ls : List Line) (last : Mark) (line : Line) → line.event ≡ Sync → All IsBuiltLine ls
-      → IsNextLine old new Runner last.number no_mark line → LedTo d f old m c cs ls last → EndsIn d f new m c cs (ls ++ line ∷ [])
-  ends_synced m c old new cs ls last line is built next l =
+  ends_synced : (m : State) (c : Course) (old new : Store D F f) (ls : List Line) (last : Mark) (line : Line) → line.event ≡ Sync
+      → IsNextLine old new Runner last.number no_mark line → LedTo d f old m c ls last → EndsIn d f new m c (ls ++ line ∷ [])
+  ends_synced m c old new ls last line is next l =
       let asks : IsBuiltCommand (commands.Line line.event) = subst (λ (e : Event). IsBuiltCommand (commands.Line e)) (sym is) tt in
       let named = named_of_runner line.who (l.end.names line.who) line.event next.who_is is in
-      let legal = legal_next l.end Runner last.number no_mark old new (course_behind (start m) c ls) line (height_kept (start m) l.end ls l.run.legal) l.number_is l.runner_is next named l.holds in
-      let mine : own_lines (Client 1) (ls ++ line ∷ []) ≡ ls =
-      own-append (Client 1) ls (line ∷ []) ∙ ap (λ (xs : List Line). own_lines (Client 1) ls ++ xs) (not_own line next.who_is) ∙ append-nil (own_lines (Client 1) ls) ∙ l.run.alone in
+      let legal = legal_next l.end Runner last.number no_mark old new (course_behind (start m) c ls) line (height_kept (start m) l.end ls l.legal) l.number_is l.runner_is next named l.holds in
       record {
         end = behind l.end line;
-        history = record {
-          legal = Leads-append (start m) l.end (behind l.end line) ls (line ∷ []) l.run.legal (legal, refl);
-          once = subst (λ (xs : List Line). IsClient cs xs) (l.run.alone ∙ sym mine) (lines_client cs (own_lines (Client 1) ls) (subst (All IsBuiltLine) (sym l.run.alone) built) l.run.once);
-          sync = line;
-          is_sync = is;
-          is_runner = next.who_is;
-          rest = ap (λ (xs : List Line). xs ++ line ∷ []) (sym mine);
-        };
+        legal = Leads-append (start m) l.end (behind l.end line) ls (line ∷ []) l.legal (legal, refl);
         idle = ap (λ (s : State). s.flush) (state_next l.end last.number line next.printed.event l.number_is) ∙ keeps_flush l.end.state (last.number + 1) line.event line.reply asks ∙ l.idle;
-        holds = holds_next m l.end last.number old new Runner no_mark c ls line l.number_is l.run.legal next l.holds;
+        holds = holds_next m l.end last.number old new Runner no_mark c ls line l.number_is l.legal next l.holds;
+      }
+
+  asked_synced : (cs : List Command) (ls : List Line) (line : Line) → line.event ≡ Sync → line.who ≡ Runner → All IsBuiltLine ls → AreAskedSoFar cs ls → IsAskedRun cs (ls ++ line ∷ [])
+  asked_synced cs ls line is who built a =
+      let mine : own_lines (Client 1) (ls ++ line ∷ []) ≡ ls =
+      own-append (Client 1) ls (line ∷ []) ∙ ap (λ (xs : List Line). own_lines (Client 1) ls ++ xs) (not_own line who) ∙ append-nil (own_lines (Client 1) ls) ∙ a.alone in
+      record {
+        once = subst (λ (xs : List Line). IsClient cs xs) (a.alone ∙ sym mine) (lines_client cs (own_lines (Client 1) ls) (subst (All IsBuiltLine) (sym a.alone) built) a.once);
+        sync = line;
+        is_sync = is;
+        is_runner = who;
+        rest = ap (λ (xs : List Line). xs ++ line ∷ []) (sym mine);
       }
 
   pub synced_last : (first old new : Store D F f) (cs : List Command) (ls : List Line) (last : Mark) (line : Line) → line.event ≡ Sync
       → IsNextLine old new Runner last.number no_mark line → HasRun d f first old cs ls last → HasSession d f first new cs (ls ++ line ∷ [])
   synced_last first old new cs ls last line is next r = record {
-    ends = λ m c holds idle. ends_synced m c old new cs ls last line is r.printed next (r.led m c holds idle);
+    ends = λ m c holds idle. ends_synced m c old new ls last line is next (r.led m c holds idle);
+    asked = asked_synced cs ls line is next.who_is r.printed r.asked;
     ready = next.step.ready;
     names = next.step.names ∙ r.names;
-    sound = sound_more (store_faults d f first) (store_faults d f old) (store_faults d f new) ls line r.later (cause_rises (says_fault line.reply) (store_faults d f old) (store_faults d f new) next.step.counted) r.sound
-        (cause_rose (says_fault line.reply) (store_faults d f old) (store_faults d f new) next.step.counted);
-    later = let more = cause_rises (says_fault line.reply) (store_faults d f old) (store_faults d f new) next.step.counted in let before = r.later in omega arith;
+    sound = sound_next first old new ls Runner last.number no_mark line next r.later r.sound;
+    later = let more = later_next old new (says_fault line.reply) next.step.counted in let before = r.later in omega arith;
     printed = All-push IsBuiltLine ls line r.printed next.printed;
   }

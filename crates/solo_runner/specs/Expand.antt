@@ -85,10 +85,8 @@ IsClient commands ls = (front : List Line) × (rest : List Line) × Expand comma
 
 -- ---- one client
 
--- A history under way: the lines lead from the state to this end, and are those of client 1 for the commands that it has made so
--- far, and no others.
-pub record IsSoloRun (m : State) (commands : List Command) (lines : List Line) (end : Point) : Type 0 where
-  pub legal : Leads (start m) lines end
+-- The lines are those of client 1 for the commands that it has made so far, and no others.
+pub record AreAskedSoFar (commands : List Command) (lines : List Line) : Type 0 where
   pub once : Expand commands (own_lines (Client 1) lines)
   pub alone : own_lines (Client 1) lines ≡ lines
 
@@ -99,14 +97,18 @@ pub record IsSoloHistory (m : State) (commands : List Command) (lines : List Lin
   pub once : IsClient commands (own_lines (Client 1) lines)
   pub alone : own_lines (Client 1) lines ≡ lines
 
--- A legal history from the state on to this end, whose lines are those of client 1, and then one sync of the runner.
-pub record IsRunHistory (m : State) (commands : List Command) (lines : List Line) (end : Point) : Type 0 where
-  pub legal : Leads (start m) lines end
+-- The lines are those of client 1 for these commands, and then one sync of the runner.
+pub record IsAskedRun (commands : List Command) (lines : List Line) : Type 0 where
   pub once : IsClient commands (own_lines (Client 1) lines)
   pub sync : Line
   pub is_sync : sync.event ≡ Sync
   pub is_runner : sync.who ≡ Runner
   pub rest : lines ≡ own_lines (Client 1) lines ++ sync ∷ []
+
+-- a legal history of such lines from the state on to this end
+pub record IsRunHistory (m : State) (commands : List Command) (lines : List Line) (end : Point) : Type 0 where
+  pub legal : Leads (start m) lines end
+  pub asked : IsAskedRun commands lines
 
 -- ---- several clients
 

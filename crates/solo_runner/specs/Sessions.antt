@@ -7,13 +7,13 @@ use Rattle.udt_model.specs.declared.line.Line.{Line}
 use Rattle.udt_model.specs.declared.line.Mark.{Mark}
 use Rattle.udt_model.specs.declared.line.Who.TheVariants.{Client, Runner}
 use Rattle.udt_model.specs.State.{State}
-use Rattle.udt_model.specs.Histories.{IsSound, Point, start}
+use Rattle.udt_model.specs.Histories.{IsSound, Leads, Point, start}
 use Rattle.udt_model.specs.Crashes.{Course, course_behind}
 use Rattle.client_lang.specs.declared.command.Command.{Command}
 use Rattle.client_lang.specs.Print.{IsBuiltLine}
 use Rattle.solo_store.specs.Stores.{HoldsStore, IsReady, store_faults}
 use Rattle.solo_store.specs.declared.store.Store.{Store}
-use Rattle.solo_runner.specs.Expand.{IsSoloRun, IsRunHistory}
+use Rattle.solo_runner.specs.Expand.{AreAskedSoFar, IsAskedRun}
 use Rattle.solo_runner.specs.Marks.{no_mark}
 
 -- no line says that the disk failed, unless its count rose
@@ -21,10 +21,10 @@ abbrev pub AreSoundUnless : ℕ → ℕ → List Line → Type 0
 AreSoundUnless before now lines = All IsSound lines ⊎ Rose before now
 
 module _ {D F : Type 0} (d : disk.Ghosts D F) (f : file.Ghosts F) where
-  -- The lines lead client 1 from this state to the one that the store holds, on the course behind them. The last has this mark.
-  pub record LedTo (new : Store D F f) (m : State) (c : Course) (commands : List Command) (lines : List Line) (last : Mark) : Type 0 where
+  -- The lines lead from this state to the one that the store holds, on the course behind them. The last one of client 1 has this mark.
+  pub record LedTo (new : Store D F f) (m : State) (c : Course) (lines : List Line) (last : Mark) : Type 0 where
     pub end : Point
-    pub run : IsSoloRun m commands lines end
+    pub legal : Leads (start m) lines end
     pub number_is : end.number ≡ last.number
     pub last_is : end.last (Client 1) ≡ last
     pub runner_is : end.last Runner ≡ no_mark
@@ -33,7 +33,8 @@ module _ {D F : Type 0} (d : disk.Ghosts D F) (f : file.Ghosts F) where
 
   -- client 1 has made these commands over a store
   pub record HasRun (old new : Store D F f) (commands : List Command) (lines : List Line) (last : Mark) : Type 0 where
-    pub led : (m : State) (c : Course) → HoldsStore d f old m c → m.flush ≡ None → LedTo new m c commands lines last
+    pub led : (m : State) (c : Course) → HoldsStore d f old m c → m.flush ≡ None → LedTo new m c lines last
+    pub asked : AreAskedSoFar commands lines
     pub ready : IsReady d f new
     pub names : new.names ≡ old.names
     pub sound : AreSoundUnless (store_faults d f old) (store_faults d f new) lines
@@ -42,16 +43,17 @@ module _ {D F : Type 0} (d : disk.Ghosts D F) (f : file.Ghosts F) where
     pub count : last.number + last.sub ≤ length lines
     pub few : length lines ≤ 2 * length commands
 
-  -- The lines are a history of client 1 and the runner from this state to the one that the store holds.
-  pub record EndsIn (new : Store D F f) (m : State) (c : Course) (commands : List Command) (lines : List Line) : Type 0 where
+  -- The lines lead from this state to the one that the store holds, on the course behind them.
+  pub record EndsIn (new : Store D F f) (m : State) (c : Course) (lines : List Line) : Type 0 where
     pub end : Point
-    pub history : IsRunHistory m commands lines end
+    pub legal : Leads (start m) lines end
     pub idle : end.state.flush ≡ None
     pub holds : HoldsStore d f new end.state (course_behind (start m) c lines)
 
   -- client 1 has made these commands, and the runner its sync
   pub record HasSession (old new : Store D F f) (commands : List Command) (lines : List Line) : Type 0 where
-    pub ends : (m : State) (c : Course) → HoldsStore d f old m c → m.flush ≡ None → EndsIn new m c commands lines
+    pub ends : (m : State) (c : Course) → HoldsStore d f old m c → m.flush ≡ None → EndsIn new m c lines
+    pub asked : IsAskedRun commands lines
     pub ready : IsReady d f new
     pub names : new.names ≡ old.names
     pub sound : AreSoundUnless (store_faults d f old) (store_faults d f new) lines
