@@ -2,7 +2,7 @@
 use Rattle.std.proofs.Common.{◌≡◌, ℕ, zero, suc, ◌+◌, ◌*◌, ◌^◌, ◌<◌, ◌≤◌, ◌==◌, true, false, List, [], ◌∷◌, ◌++◌, get_or, length, map, Some, refl, sym, ap, subst, arith, inl, inr}
 use Rattle.std.specs.Prelude.{nat_lt, not, slice_get}
 use Rattle.std.proofs.Math.Nat.{pow-suc}
-use Rattle.std.proofs.lemmas.Bool.{cases_Bool, ne_eqb}
+use Rattle.std.proofs.lemmas.Bool.{cases_Bool, lt-ltb, ne_eqb}
 use Rattle.ts_key.specs.declared.version.Version.{Version}
 use Rattle.memtable.specs.Memtables.{Memtable, joined, versions_of_memtable}
 use Rattle.sorted_run.specs.Sorts.{sorted}
@@ -23,7 +23,8 @@ runs_some m (suc count) is few =
     let up : 1 ≤ 2 ^ count = pow_some count in
     let double : 2 ^ suc count ≡ 2 ^ count * 2 = pow-suc 2 count in
     let q : (length (versions_of_memtable m) == 0) ≡ false = ne_eqb (length (versions_of_memtable m)) 0 (λ z. omega (arith, few, up, double, z)) in
-    rw q refl where
+    let more : nat_lt 0 (suc count) ≡ true = lt-ltb 0 (suc count) (omega arith) in
+    rw (q, more) refl where
   pow_some : (k : ℕ) → 1 ≤ 2 ^ k
   pow_some zero = omega arith
   pow_some (suc k) = let r = pow_some k in let d : 2 ^ suc k ≡ 2 ^ k * 2 = pow-suc 2 k in omega (arith, r, d)
