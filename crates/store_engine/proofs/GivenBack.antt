@@ -37,6 +37,7 @@ use Rattle.store_engine.specs.Together.{AreNamed}
 use Rattle.store_engine.specs.declared.engine.Engine.{Engine}
 use Rattle.store_engine.specs.declared.fault.EngineFault.{EngineFault}
 use Rattle.store_engine.proofs.Aside.{aside_current, aside_now, aside_of, aside_one, aside_ran, aside_running, table_dead}
+use Rattle.store_engine.proofs.Counts.{more_faults}
 use Rattle.store_engine.proofs.Raised.{reserved_held, reserved_now, reserved_of}
 use Rattle.store_engine.proofs.Raising.{kept_before, kept_faults}
 
@@ -47,9 +48,6 @@ log_no_table n number log is = let e = is ∙ log.1 in cc
 
 manifest_no_table : (n : FileName) (number : ℕ) → IsManifestName n → Table number ≡ n → ⊥
 manifest_no_table n number either is = elim either [ inl q ↦ let e = is ∙ q in cc | inr q ↦ let e = is ∙ q in cc ]
-
-more_faults : (most a w k g : ℕ) → min (min (min (a + g) most + w) most + k) most ≡ min (min (min (a + w) most + k) most + g) most
-more_faults most a w k g = omega arith
 
 module _ {D F : Type 0} (d : disk.Ghosts D F) (f : file.Ghosts F) (now_last : IsNowLast d f) where
   -- no held file bears the name of a table

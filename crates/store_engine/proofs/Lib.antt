@@ -25,6 +25,7 @@ pub mod Removing
 pub mod Aside
 pub mod FlushEdits
 pub mod DroppedLogs
+pub mod JobCalls
 pub mod GivenBack
 pub mod Installed
 pub mod InstallCalls

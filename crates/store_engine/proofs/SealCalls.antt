@@ -13,6 +13,7 @@ use Rattle.udt_disk.specs.Joint.{Ran}
 use Rattle.udt_disk.specs.Joint.Ran.{rests}
 use Rattle.udt_disk.specs.Moments.{MayLeave}
 use Rattle.udt_disk.specs.Touches.{Touches}
+use Rattle.udt_disk.proofs.TouchLemmas.{touches_nothing}
 use Rattle.udt_disk.specs.declared.file.DiskFile as file
 use Rattle.udt_disk.specs.declared.disk.Disk as disk
 use Rattle.wal.specs.declared.numbered.Numbered.{Numbered}
@@ -21,13 +22,14 @@ use Rattle.wal.specs.Wals.{MayGoOn, wal_file, wal_pending}
 use Rattle.memtable.specs.Memtables.{versions_of_memtable}
 use Rattle.udt_model.specs.declared.reply.Reply.TheVariants as replies
 use Rattle.udt_model.specs.Acts.Act.{flush_start}
+use Rattle.udt_model.specs.Jobs.{unflushed_of}
 use Rattle.udt_model.specs.State.{State}
 use Rattle.udt_model.specs.Crashes.{Course, IsOutcome, course_after}
 use Rattle.udt_model.specs.Steps.{IsReplyTo, after}
 use Rattle.manifest_edit.specs.declared.edit.Edit.{Edit}
 use Rattle.manifest_fold.specs.declared.fold.Folded.{Folded}
 use Rattle.manifest_fold.specs.declared.limits.TheConstants.{FILE_NUMBER_LIMIT}
-use Rattle.manifest_fold.specs.Folds.{fold_with, newest_log}
+use Rattle.manifest_fold.specs.Folds.{fold_with, is_live, newest_log}
 use Rattle.manifest.specs.Manifest.{manifest_file, manifest_folded}
 use Rattle.super_version.specs.Changes.{ChangesFamily, family_with_seal}
 use Rattle.super_version.specs.declared.family.FamilyState.{FamilyState}
@@ -56,7 +58,8 @@ use Rattle.store_engine.specs.Engines.{HoldsAsBefore, HoldsNow, IsCurrent, IsEng
 use Rattle.store_engine.specs.Now.{IsNow, versions_held}
 use Rattle.store_engine.specs.Older.{CoversOlder}
 use Rattle.store_engine.specs.Replies.{is_disk_fault}
-use Rattle.store_engine.specs.Sealing.{IsRolled, IsRolledAs, IsSealOf, MayRoll, PreparesRoll, SealsActive, ShowsSeal, ShowsSealed, TellsSeal, after_seal, course_after_seal, rolled_count, version_after}
+use Rattle.store_engine.specs.Jobs.{IsJobNumber}
+use Rattle.store_engine.specs.Sealing.{IsRolled, IsRolledAs, IsRolledName, IsSealOf, IsSealed, MayRoll, PreparesRoll, SealsActive, ShowsSeal, ShowsSealed, TellsSeal, after_seal, course_after_seal, rolled_count, version_after}
 use Rattle.store_engine.specs.Sealing.SealsActive.{sealed, stopped, unmade, unreserved}
 use Rattle.store_engine.specs.Steps.{ReservesEdit}
 use Rattle.store_engine.specs.declared.engine.Engine.{Engine}
@@ -65,14 +68,15 @@ use Rattle.store_engine.specs.declared.fault.EngineFault.TheVariants.{DiskFault,
 use Rattle.store_engine.specs.declared.older.OlderLogs.{OlderLogs}
 use Rattle.store_engine.specs.declared.seal.Sealed.{Sealed}
 use Rattle.store_engine.specs.declared.seal.Sealed.TheVariants as seals
-use Rattle.store_engine.proofs.Answering.{as_before, disk_disk, none_disk}
+use Rattle.store_engine.proofs.Answering.{as_before, disk_cause, disk_disk, none_cause, none_disk, one_stays}
+use Rattle.store_engine.proofs.Besides.{holds_beside}
 use Rattle.store_engine.proofs.Covering.{covers_new_log, covers_rolled, covers_synced}
 use Rattle.store_engine.proofs.Current.{get_changed, length_changed}
 use Rattle.store_engine.proofs.NowRaised.{same_or_not}
-use Rattle.store_engine.proofs.NowSealed.{held_count, now_sealed, seal_fails, seal_some, seal_there}
+use Rattle.store_engine.proofs.NowSealed.{held_count, now_sealed, now_waiting, seal_fails, seal_full, seal_not_there, seal_nothing, seal_some, seal_there, seal_unknown}
 use Rattle.store_engine.proofs.Raised.{reserved_held, reserved_of}
-use Rattle.store_engine.proofs.Raising.{kept_before}
-use Rattle.store_engine.proofs.RollSteps.{above_next, rolls_fault, rolls_fold, rolls_goes, rolls_next, rolls_of, rolls_older, rolls_pending, rolls_ran}
+use Rattle.store_engine.proofs.Raising.{kept_before, kept_faults, kept_folder}
+use Rattle.store_engine.proofs.RollSteps.{rolls_cause, rolls_failed, rolls_fault, rolls_fold, rolls_goes, rolls_live, rolls_more, rolls_next, rolls_of, rolls_older, rolls_one, rolls_pending, rolls_ran, rolls_running, rolls_touches}
 
 -- ---- the manifest and the next version
 
@@ -120,6 +124,64 @@ module _ {D F : Type 0} (d : disk.Ghosts D F) (f : file.Ghosts F) (now_last : Is
     runs = h.runs;
     unfailed = h.unfailed;
   }
+
+  module _ (old : Engine D F f) (run : IsRunning old) where
+    -- a refusal
+    pub refused_called : (fault : EngineFault) → is_disk_fault fault ≡ false → IsSealed d f old old (Err fault)
+    refused_called fault no_disk = record {
+      one = λ one. one;
+      next = λ not. omega arith;
+      jobs = λ n job. job;
+      untouched = λ not none. refl;
+      pending = λ one. absurd (omega (arith, one));
+      touches = touches_nothing d (IsRolledName (f.name (wal_file old.wal)) old.next) old.disk;
+      running = λ not. run;
+      failed = run.runs ∙ sym no_disk;
+      counted = none_cause fault (engine_faults d f old) (engine_faults d f old) no_disk refl;
+    }
+
+    -- and a seal without a roll
+    pub unrolled_called : (done : Sealed) → rolled_count (Ok done) ≡ 0 → IsSealed d f old old (Ok done)
+    unrolled_called done none = record {
+      one = λ one. one;
+      next = λ not. omega (arith, none);
+      jobs = λ n job. job;
+      untouched = λ not is. refl;
+      pending = λ one. absurd (omega (arith, one, none));
+      touches = touches_nothing d (IsRolledName (f.name (wal_file old.wal)) old.next) old.disk;
+      running = λ not. run;
+      failed = run.runs;
+      counted = refl;
+    }
+
+  -- ---- the answers without a roll
+
+  module _ (engine : Engine D F f) (now : SuperVersion) (m : State) (c : Course) (family : Family) (h : HoldsNow d f engine now m c) (idle : m.flush ≡ None) where
+    pub unknown_tells : slice_get now.families family.0 ≡ None → IsReplyTo m (flush_start family) replies.Unknown
+    unknown_tells there = seal_unknown m family h.runs idle (seal_not_there now m h.shows family there)
+
+    module _ (g : FamilyState) (there : slice_get now.families family.0 ≡ Some g) where
+      pub nothing_tells : versions_held g ≡ [] → IsReplyTo m (flush_start family) replies.Nothing
+      nothing_tells none =
+          let of = seal_there now m h.shows family g there in
+          seal_nothing m family h.runs idle of.0 of.1 (sym (held_count now m h.shows family g there) ∙ ap (λ (vs : List Version). length vs) none)
+
+      pub nothing_holds : (number : ℕ) → versions_held g ≡ [] → HoldsNow d f engine now (after m number (flush_start family) replies.Nothing) (course_after m number c (flush_start family) replies.Nothing)
+      nothing_holds number none = holds_beside m c number (flush_start family) replies.Nothing tt d f engine now h (nothing_tells none)
+
+      full_known : 1 ≤ length (versions_held g) → 1 ≤ length (unflushed_of m family)
+      full_known some = let count = held_count now m h.shows family g there in omega (arith, count, some)
+
+      pub full_tells : (next : ℕ) → next ≡ FILE_NUMBER_LIMIT → 1 ≤ length (versions_held g) → IsReplyTo m (flush_start family) (replies.Files next)
+      full_tells next is some =
+          let of = seal_there now m h.shows family g there in
+          subst (λ n. IsReplyTo m (flush_start family) (replies.Files n)) (sym is) (seal_full m family h.runs idle of.0 of.1 (full_known some))
+
+      pub waiting_tells : 1 ≤ length (versions_held g) → IsReplyTo m (flush_start family) (replies.OkAt m.last.0)
+      waiting_tells some = let of = seal_there now m h.shows family g there in seal_some m family h.runs idle of.0 of.1 (full_known some)
+
+      pub waiting_holds : (number : ℕ) → versions_of_memtable g.active ≡ [] → 1 ≤ length (versions_held g) → HoldsNow d f engine now (after m number (flush_start family) (replies.OkAt m.last.0)) (course_after m number c (flush_start family) (replies.OkAt m.last.0))
+      waiting_holds number empty some = waiting_now engine now m c number family h (waiting_tells some) (now_waiting now m h.shows family number g there empty)
 
   module _ (now : SuperVersion) (family : Family) (old new : Engine D F f) (run : IsRunning old) (current : IsCurrent old now) (g : FamilyState) (there : slice_get now.families family.0 ≡ Some g) (some : 1 ≤ length (versions_of_memtable g.active)) (low : old.next < FILE_NUMBER_LIMIT) where
     rolled_answer : (done : Sealed) → IsRolledAs family now done → IsSealOf g old.next (Ok done)
@@ -181,6 +243,74 @@ module _ {D F : Type 0} (d : disk.Ghosts D F) (f : file.Ghosts F) (now_last : Is
     active_current result (unreserved edit fault r) = tt
     active_current result (stopped edit older mid fault p r) = tt
     active_current result (sealed edit older mid done p r shows) = current_by edit older mid done p r shows
+
+    -- ---- what it leaves
+
+    module _ (edit : Edit) (older : OlderLogs) (mid : Engine D F f) (ended : Result (Unit {0}) EngineFault) (p : PreparesRoll f now edit older old mid) (r : IsRolled d f edit older mid new ended) where
+      prepared_one : IsOneFolder d f old → IsOneFolder d f new
+      prepared_one one = rolls_one d f now_last edit older mid new ended r (one_stays d f old mid (kept_folder d f now_last old mid edit (Ok tt) p.reserves) one)
+
+      prepared_jobs : (n : ℕ) → IsJobNumber old n → IsJobNumber new n
+      prepared_jobs n job = record {
+        given = let a = rolls_more d f now_last edit older mid new ended r in let b = p.reserves.next in let l = job.given in omega (arith, a, b, l);
+        free = rolls_live d f now_last edit older mid new ended r (ap (λ (e : Edit). e.family) p.edit_is) n ∙ ap (λ (z : Folded). is_live z.families n) p.reserves.fold ∙ job.free;
+      }
+
+      prepared_touches : Touches d (IsRolledName (f.name (wal_file old.wal)) old.next) old.disk new.disk
+      prepared_touches =
+          subst (λ x. Touches d (IsRolledName (f.name (wal_file old.wal)) old.next) x new.disk) p.reserves.disk
+          (subst (λ n. Touches d (IsRolledName (f.name (wal_file old.wal)) n) mid.disk new.disk) p.reserves.next
+          (subst (λ w. Touches d (IsRolledName (f.name (wal_file w)) mid.next) mid.disk new.disk) p.reserves.wal (rolls_touches d f now_last edit older mid new ended r)))
+
+      prepared_cause : HasCause (engine_faults d f old) (engine_faults d f new) ended
+      prepared_cause = subst (λ n. HasCause n (engine_faults d f new) ended) (kept_faults d f now_last old mid edit (Ok tt) p.reserves) (rolls_cause d f now_last edit older mid new ended r)
+
+    counts_one : (done : Sealed) → IsRolledAs family now done → rolled_count (Ok done) ≡ 1
+    counts_one seals.Nothing shows = absurd shows
+    counts_one seals.Waiting shows = absurd shows
+    counts_one (seals.Rolled version mems) shows = refl
+
+    pub active_called : (result : Result Sealed EngineFault) → SealsActive d f now family old new result → IsSealed d f old new result
+    active_called result (unmade fault is same) = subst (λ e. IsSealed d f old e (Err fault)) (sym same) (refused_called old run fault (none_disk fault is))
+    active_called result (unreserved edit fault r) =
+        let no_disk = none_disk fault r.fault in
+        record {
+          one = one_stays d f old new (kept_folder d f now_last old new edit (Err fault) r);
+          next = λ not. let e = r.next in omega (arith, e);
+          jobs = λ n job. record { given = let e = r.next in let l = job.given in omega (arith, e, l); free = ap (λ (z : Folded). is_live z.families n) r.fold ∙ job.free };
+          untouched = λ not none. reserved_held d f now_last old new edit (Err fault) r;
+          pending = λ one. absurd (omega (arith, one));
+          touches = subst (λ x. Touches d (IsRolledName (f.name (wal_file old.wal)) old.next) old.disk x) (sym r.disk) (touches_nothing d (IsRolledName (f.name (wal_file old.wal)) old.next) old.disk);
+          running = λ not. r.running;
+          failed = r.running.runs ∙ sym no_disk;
+          counted = none_cause fault (engine_faults d f old) (engine_faults d f new) no_disk (kept_faults d f now_last old new edit (Err fault) r);
+        }
+    active_called result (stopped edit older mid fault p r) =
+        let disk_fault = stops_disk edit older mid fault r in
+        record {
+          one = prepared_one edit older mid (Err fault) p r;
+          next = λ not. absurd (false≢true (sym not ∙ disk_fault));
+          jobs = prepared_jobs edit older mid (Err fault) p r;
+          untouched = λ not none. absurd (false≢true (sym not ∙ disk_fault));
+          pending = λ one. absurd (omega (arith, one));
+          touches = prepared_touches edit older mid (Err fault) p r;
+          running = λ not. absurd (false≢true (sym not ∙ disk_fault));
+          failed = rolls_failed d f now_last edit older mid new (Err fault) r;
+          counted = disk_cause fault (engine_faults d f old) (engine_faults d f new) (rolls_fault d f now_last edit older mid new (Err fault) r) (prepared_cause edit older mid (Err fault) p r).failed;
+        }
+    active_called result (sealed edit older mid done p r shows) =
+        let one = counts_one done shows in
+        record {
+          one = prepared_one edit older mid (Ok tt) p r;
+          next = λ not. let a = rolls_next d f now_last edit older mid new (Ok tt) r in let b = p.reserves.next in omega (arith, a, b, one);
+          jobs = prepared_jobs edit older mid (Ok tt) p r;
+          untouched = λ not none. absurd (omega (arith, one, none));
+          pending = λ is. rolls_pending d f now_last edit older mid new (Ok tt) r;
+          touches = prepared_touches edit older mid (Ok tt) p r;
+          running = λ not. rolls_running d f now_last edit older mid new (Ok tt) r;
+          failed = rolls_failed d f now_last edit older mid new (Ok tt) r;
+          counted = (prepared_cause edit older mid (Ok tt) p r).kept;
+        }
 
     -- ---- what it holds
 

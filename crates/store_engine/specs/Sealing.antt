@@ -120,6 +120,7 @@ IsRolledName old number n = (n ≡ Log number) ⊎ (n ≡ old)
 pub record IsLogRolled {D F : Type 0} (d : disk.Ghosts D F) (f : file.Ghosts F) (older : OlderLogs) (old new : Engine D F f) (result : Result (Unit {0}) EngineFault) : Type 0 where
   pub manifest : new.manifest ≡ old.manifest
   pub next : OnOk result (new.next ≡ old.next + 1)
+  pub more : old.next ≤ new.next
   pub older_is : OnOk result (new.older ≡ older)
   pub holds : OnOk result (IsTrue (d.is_told old.disk) → Holds f new.wal [] [])
   pub goes_on : OnOk result ((first : ℕ) → MayGoOn f new.wal first)

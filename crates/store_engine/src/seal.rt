@@ -14,11 +14,11 @@ ghost use Rattle.store_engine.specs.Sealing.{AnswersSeal, IsLogRolled, IsRolled,
 ghost use Rattle.store_engine.specs.Steps.{IsEdited};
 ghost use Rattle.store_engine.specs.Together.{IsReadyFor};
 
+use crate::NoMemory;
 use crate::engine::Engine;
 use crate::fault::EngineFault;
 use crate::older::OlderLogs;
 use crate::unflushed::{has_unflushed, has_versions};
-use crate::NoMemory;
 use manifest_edit::Edit;
 use manifest_fold::FILE_NUMBER_LIMIT;
 use memtable::Mem;
