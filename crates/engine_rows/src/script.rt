@@ -4,6 +4,7 @@ ghost use Rattle.std.specs.Prelude.{IfOk, OnOk};
 ghost use Rattle.std.specs.Arc.{arc_value};
 ghost use Rattle.store_engine.specs.Engines.{IsCurrent, IsRunning};
 
+use crate::flushes::{Flush, flushed};
 use recovery::{OpenFault, Parts, open_store};
 use std::alloc::{AllocError, Global};
 use std::sync::Arc;
@@ -32,6 +33,8 @@ pub enum Step {
     },
     /// Makes a file for a job, and gives it back.
     JobFile,
+    /// Makes a file for a flush, and installs its table.
+    Flush(Flush),
 }
 
 /// The puts of a step.
@@ -173,6 +176,7 @@ fn stepped(
         Step::Sync => synced(engine, now),
         Step::Seal { family } => sealed(alloc, engine, now, Family(family)),
         Step::JobFile => with_job_file(engine, now),
+        Step::Flush(flush) => flushed(alloc, engine, now, flush),
     }
 }
 
