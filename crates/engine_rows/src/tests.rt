@@ -1,5 +1,7 @@
 //! The folders that scripts leave.
 
+mod installs;
+
 use crate::script::{Step, history, version_of};
 use manifest::Head;
 use manifest_edit::{Edit, write_edit};
@@ -49,24 +51,29 @@ const SEAL: &[Step] = &[Step::Seal { family: 0 }];
 const JOB_FILE: &[Step] = &[Step::JobFile];
 
 /// A family of a new store.
-fn head_of(alloc: Global, name: &[u8]) -> Result<FamilyHead, Fail> {
+fn head_of(alloc: Global, name: &[u8], form: Form) -> Result<FamilyHead, Fail> {
     Ok(FamilyHead {
         name: Name::of(alloc, name)?,
-        form: Form::Persist,
+        form,
         floor: Ts(0),
     })
 }
 
-/// A folder with a new store of two families, or None where its making failed.
-fn made(alloc: Global, troubles: Vec<Trouble>) -> Result<Option<MemDisk>, Fail> {
+/// A folder with a new store of two families of a form, or None where its making failed.
+fn made_in(alloc: Global, form: Form, troubles: Vec<Trouble>) -> Result<Option<MemDisk>, Fail> {
     let mut disk = MemDisk::new(alloc, troubles)?;
     let head = Head {
-        families: Items::of(vec![in alloc; head_of(alloc, b"d")?, head_of(alloc, b"e")?]?),
+        families: Items::of(vec![in alloc; head_of(alloc, b"d", form)?, head_of(alloc, b"e", form)?]?),
     };
     if !head.is_allowed() || make_store(alloc, &mut disk, &head).is_err() {
         return Ok(None);
     }
     Ok(Some(disk))
+}
+
+/// The same of two that keep timestamps.
+fn made(alloc: Global, troubles: Vec<Trouble>) -> Result<Option<MemDisk>, Fail> {
+    made_in(alloc, Form::Persist, troubles)
 }
 
 /// The floor of a family.
