@@ -25,16 +25,19 @@ use Rattle.ts_iterator.proofs.Steps.{head_at}
 clash : (b : Bool) → b ≡ true → b ≡ false → ⊥
 clash b x y = cc
 
+drop_none : (k : ℕ) → drop {A = Item} k [] ≡ []
+drop_none zero = refl
+drop_none (suc k) = refl
+
 drop_more : (n m : ℕ) (vs : List Item) → drop (n + m) vs ≡ drop m (drop n vs)
-drop_more zero m vs = refl
-drop_more (suc n) zero [] = refl
-drop_more (suc n) (suc m) [] = refl
-drop_more (suc n) m (v ∷ vs) = drop_more n m vs
+drop_more zero m vs = let z : zero + m ≡ m = omega arith in ap (λ (k : ℕ). drop k vs) z
+drop_more (suc n) m [] = drop_none (suc n + m) ∙ sym (drop_none m)
+drop_more (suc n) m (v ∷ vs) = let z : suc n + m ≡ suc (n + m) = omega arith in ap (λ (k : ℕ). drop k (v ∷ vs)) z ∙ drop_more n m vs
 
 -- up to a version that stands before it all do
 cut : (to : SortKey) (vs : List Item) (n : ℕ) (v : Item) → IsOrdered vs → slice_get vs n ≡ Some v → is_before v.sort_key to ≡ true → below to vs ≡ n + below to (drop n vs)
 cut to [] n v so e h = absurd cc
-cut to (x ∷ xs) zero v so e h = refl
+cut to (x ∷ xs) zero v so e h = omega arith
 cut to (x ∷ xs) (suc n) v so e h =
     let upto : is_before v.sort_key x.sort_key ≡ false = In_after (λ w. is_before w.sort_key x.sort_key ≡ false) v xs so.0 (get_In xs n v e) in
     let y : is_before x.sort_key to ≡ true = upto_before x.sort_key v.sort_key to upto h in

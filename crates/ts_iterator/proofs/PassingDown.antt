@@ -198,7 +198,7 @@ module _ (floor : Ts) (low : List ℕ) (high : Option (List ℕ)) (t s : ℕ) wh
   -- ---- versions of a key whose newest is found
 
   module _ (f v : Item) (same : f.sort_key.key ≡ v.sort_key.key) (inside : is_below v.sort_key.key low ≡ false) (counts : out f ≡ false) where
-    Own : Item → Type 0
+    abbrev Own : Item → Type 0
     Own y = y.sort_key.key ≡ v.sort_key.key
 
     at_own : (b y : Item) (more : List Item) → Own b → Own y → out y ≡ false → rows (Some b) (y ∷ more) ≡ rows (Some y) more
@@ -212,7 +212,7 @@ module _ (floor : Ts) (low : List ℕ) (high : Option (List ℕ)) (t s : ℕ) wh
         let i : is_below y.sort_key.key low ≡ false = subst (λ (a : List ℕ). is_below a low ≡ false) (sym q) inside in
         rw (i, o) refl
 
-    Gives : List Item → List Item → Type 0
+    abbrev Gives : List Item → List Item → Type 0
     Gives rest more = (b : Item) → Own b → rows (Some b) more ≡ rows (Some f) rest
 
     still : (rest : List Item) (y : Item) (more : List Item) → Own y → Gives rest more → Gives rest (y ∷ more)
@@ -261,12 +261,12 @@ module _ (key : List ℕ) (t s : ℕ) (vs : List Item) where
       upto zero v e h = absurd cc
       upto (suc n) v e h =
           let to : SortKey = record { key = key; ts = t; seq = s } in
-          let not : is_before v.sort_key to ≡ false = elim (cases_Bool (is_before v.sort_key to)) [ inl y ↦ absurd (clash (is_item_seen key t s v) h (unseen key t s v y)) | inr y ↦ y ] in
-          let l = below_upto to vs n v so (sym e) not in
+          let behind : is_before v.sort_key to ≡ false = elim (cases_Bool (is_before v.sort_key to)) [ inl y ↦ absurd (clash (is_item_seen key t s v) h (unseen key t s v y)) | inr y ↦ y ] in
+          let l = below_upto to vs n v so (sym e) behind in
           omega (arith, l, is)
 
   pub walk_goes_on : (place next : ℕ) (w : Item) → Some w ≡ standing vs place → is_item_seen key t s w ≡ false → next ≡ onward (length vs) place → IsUptoSeen key t s vs place → IsUptoSeen key t s vs next
-  walk_goes_on place next w at no is h = λ p v e seen.
+  walk_goes_on place next w at unseen_here is h = λ p v e seen.
       let o = goes_on vs place next w at is in
       let l = h p v e seen in
       elim (cases_lt place p) [
@@ -274,8 +274,8 @@ module _ (key : List ℕ) (t s : ℕ) (vs : List Item) where
         | inr g ↦
             let q : place ≡ p = omega (arith, g, l) in
             let same : Some w ≡ Some v = at ∙ ap (standing vs) q ∙ sym e in
-            let is : w ≡ v = cc in
-            absurd (clash (is_item_seen key t s v) seen (ap (is_item_seen key t s) (sym is) ∙ no))
+            let same_item : w ≡ v = cc in
+            absurd (clash (is_item_seen key t s v) seen (ap (is_item_seen key t s) (sym same_item) ∙ unseen_here))
       ]
 
   pub walk_stays_in : (place : ℕ) → 1 ≤ place → None ≡ standing vs place → IsUptoSeen key t s vs place → (p : ℕ) (v : Item) → Some v ≡ standing vs p → is_item_seen key t s v ≡ true → ⊥

@@ -22,6 +22,7 @@ pub(crate) struct Down<'a, C> {
     cursor: C,
     /// The last version found that the read sees, where its row is still to be given.
     best: Option<(KeyRef<'a>, Hit<'a>)>,
+    passed: Passed<'a>,
     low: Option<Key>,
     high: Option<Key>,
     floor: Ts,
@@ -128,6 +129,7 @@ impl<'a, C: Cursor<'a> + Drop> Down<'a, C> {
         Down {
             cursor,
             best: None,
+            passed: Passed::none(),
             low,
             high,
             floor,
@@ -137,13 +139,13 @@ impl<'a, C: Cursor<'a> + Drop> Down<'a, C> {
     }
 
     /// Goes back past a version that gives nothing; where many of its key were passed, past all that are above the timestamp.
-    fn pass_over(&mut self, key: &KeyRef<'a>, many: bool)
+    fn pass_over(&mut self, key: &KeyRef<'a>)
         ensures lower { (v : Item) → StandsIn C.items C.place self.old key.now v → C.place self.new.cursor < C.place self.old.cursor }
         ensures rest { (v : Item) → StandsIn C.items C.place self.old key.now v
             → (is_past_bound self.old.high v.sort_key.key || not (is_item_within self.old.t.0 self.old.s.0 v)) ≡ true
             → rest_down C.items C.place self.new ≡ rest_down C.items C.place self.old }
     {
-        if many && self.t.0 < key.ts.0 {
+        if self.passed.are_many() && self.t.0 < key.ts.0 {
             go_before(&mut self.cursor, key);
         } else {
             self.cursor.prev();
@@ -151,16 +153,17 @@ impl<'a, C: Cursor<'a> + Drop> Down<'a, C> {
     }
 
     /// Goes back past the last version found; where many of its key were passed, past all others that the read sees.
-    fn pass_found(&mut self, key: &KeyRef<'a>, hit: Hit<'a>, many: bool)
+    fn pass_found(&mut self, key: &KeyRef<'a>, hit: Hit<'a>)
         ensures lower { (v : Item) → StandsIn C.items C.place self.old key.now v → C.place self.new.cursor < C.place self.old.cursor }
         ensures rest { (v : Item) → StandsIn C.items C.place self.old key.now v
-            → v ≡ shown (key.now, hit)
+            → v ≡ shown (key.now, hit.entry)
             → (is_past_bound self.old.high v.sort_key.key || not (is_item_within self.old.t.0 self.old.s.0 v)) ≡ false
             → rest_down C.items C.place self.new ≡ rest_down_from C.items self.old (Some v) (C.place self.old.cursor - 1) }
     {
-        self.best = Some((*key, hit));
-        if many {
+        if self.passed.are_many() {
             self.best = go_to_newest(&mut self.cursor, key.key, self.t, self.s);
+        } else {
+            self.best = Some((*key, hit));
         }
         self.cursor.prev();
     }
@@ -173,7 +176,6 @@ impl<'a, C: Cursor<'a> + Drop> Down<'a, C> {
             (λ row. rest_down C.items C.place self.old ≡ row ∷ rest_down C.items C.place self.new))
             (λ _. rest_down C.items C.place self.new ≡ rest_down C.items C.place self.old) }
     {
-        let mut passed = Passed::none();
         loop {
             let Some((key, hit)) = self.cursor.at() else {
                 let row = row_at_end(alloc, self.floor, self.best)?;
@@ -185,13 +187,13 @@ impl<'a, C: Cursor<'a> + Drop> Down<'a, C> {
                 self.best = None;
                 return Ok(row);
             }
-            passed = passed.with(key.key);
+            self.passed = self.passed.with(key.key);
             if is_passed_over(&self.high, &key, self.t, self.s) {
-                self.pass_over(&key, passed.are_many());
+                self.pass_over(&key);
                 continue;
             }
             let row = row_before(alloc, self.floor, self.best, &key)?;
-            self.pass_found(&key, hit, passed.are_many());
+            self.pass_found(&key, hit);
             if let Some(row) = row {
                 return Ok(Some(row));
             }

@@ -22,6 +22,7 @@ pub(crate) struct Up<'a, C> {
     cursor: C,
     /// The key whose row was given, or that has none.
     decided: Option<&'a [u8]>,
+    passed: Passed<'a>,
     high: Option<Key>,
     floor: Ts,
     t: Ts,
@@ -77,6 +78,7 @@ impl<'a, C: Cursor<'a> + Drop> Up<'a, C> {
         Up {
             cursor,
             decided: None,
+            passed: Passed::none(),
             high,
             floor,
             t,
@@ -92,7 +94,6 @@ impl<'a, C: Cursor<'a> + Drop> Up<'a, C> {
             (λ row. rest_up C.items C.place self.old ≡ row ∷ rest_up C.items C.place self.new))
             (λ _. rest_up C.items C.place self.new ≡ rest_up C.items C.place self.old) }
     {
-        let mut passed = Passed::none();
         loop {
             let Some((key, hit)) = self.cursor.at() else {
                 return Ok(None);
@@ -101,9 +102,9 @@ impl<'a, C: Cursor<'a> + Drop> Up<'a, C> {
                 return Ok(None);
             }
             if is_passed_over(self.decided, &key, self.t, self.s) {
-                passed = passed.with(key.key);
+                self.passed = self.passed.with(key.key);
                 let end = end_of(self.decided, &key, self.t, self.s);
-                if is_worth_a_seek(passed, &key, &end) {
+                if is_worth_a_seek(self.passed, &key, &end) {
                     self.cursor.seek(&end);
                 } else {
                     self.cursor.next();

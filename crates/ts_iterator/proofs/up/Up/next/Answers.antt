@@ -1,10 +1,14 @@
-use Rattle.std.proofs.Common.{◌≡◌, List, [], ◌∷◌, ◌++◌, Some, length, refl, sym, ap, ◌∙◌, arith}
+use Rattle.std.proofs.Common.{◌≡◌, true, List, [], ◌∷◌, ◌++◌, ◌+◌, Some, length, refl, sym, ap, ◌∙◌, arith}
 use Rattle.std.specs.Option.{option_copied}
 use Rattle.ts_key.specs.Items.{Item, shown}
+use Rattle.ts_key.specs.Counts.{count_of_within}
+use Rattle.ts_key.specs.Lists.{below}
+use Rattle.ts_key.specs.Order.{SortKey, is_before}
 use Rattle.udt_model.specs.declared.reply.Row.{Row}
 use Rattle.ts_iterator.specs.Rests.{rest_up}
-use Rattle.ts_iterator.specs.Rows.{given_by, row_at, rows_up}
+use Rattle.ts_iterator.specs.Rows.{end_of, given_by, row_at, rows_up}
 use Rattle.ts_iterator.specs.Walks.{ahead}
+use Rattle.ts_iterator.proofs.Passing.{further, skips}
 use Rattle.ts_iterator.proofs.Steps.{ahead_none, past_high, skipped, given, goes_on}
 use Rattle.ts_iterator.proofs.up.Up.next.Goals as goal
 
@@ -74,3 +78,30 @@ returns-in-Put g c =
     ∙ ap (λ k. given_by k (row_at x.floor v) ++ rows_up x.floor x.high x.t.0 x.s.0 (Some v.sort_key.key) (ahead q vs)) c.in-Put.is
     ∙ ap (λ (r : Row). r ∷ rows_up x.floor x.high x.t.0 x.s.0 (Some v.sort_key.key) (ahead q vs)) (sym c.in_ok-row-in-Put.ensures)
     ∙ ap (λ (ys : List Item). c.in_ok-row-in-Put.row ∷ rows_up x.floor x.high x.t.0 x.s.0 (Some v.sort_key.key) (ahead q ys)) (sym c.next-in-Put.ensures.same)
+
+pub loop-key-smaller-then-is_worth_a_seek : goal.loop-key-smaller-then-is_worth_a_seek
+loop-key-smaller-then-is_worth_a_seek g c =
+    let x = c.loop-key.self in
+    let vs = g.C.Placed.items x.cursor in
+    let p = g.C.Placed.place x.cursor in
+    let v = shown (record { 0 = c.in-Some.key; 1 = c.in-Some.hit }) in
+    let to = end_of (option_copied x.decided) v.sort_key.key x.t.0 x.s.0 in
+    let before : is_before v.sort_key to ≡ true = ap (is_before v.sort_key) (sym c.end_of-end.ensures) ∙ c.is_worth_a_seek.ensures c.if-is_worth_a_seek.true in
+    let l = further x.floor x.high x.t.0 x.s.0 (option_copied x.decided) vs (g.C.Placed.ordered x.cursor) v (sym c.is_past.ensures ∙ c.if-is_past.false) before p c.in-Some.ensures in
+    let n = count_of_within (λ w. is_before w.sort_key to) vs in
+    let place : g.C.Placed.place c.seek.new.self ≡ below to vs + 1 = c.seek.ensures.place ∙ ap (λ (k : SortKey). below k vs + 1) c.end_of-end.ensures in
+    omega (arith, l, n, place, ap length c.seek.ensures.same)
+
+pub loop-key-preserved-then-is_worth_a_seek : goal.loop-key-preserved-then-is_worth_a_seek
+loop-key-preserved-then-is_worth_a_seek g c =
+    let x = c.loop-key.self in
+    let vs = g.C.Placed.items x.cursor in
+    let p = g.C.Placed.place x.cursor in
+    let q = g.C.Placed.place c.seek.new.self in
+    let v = shown (record { 0 = c.in-Some.key; 1 = c.in-Some.hit }) in
+    let to = end_of (option_copied x.decided) v.sort_key.key x.t.0 x.s.0 in
+    let before : is_before v.sort_key to ≡ true = ap (is_before v.sort_key) (sym c.end_of-end.ensures) ∙ c.is_worth_a_seek.ensures c.if-is_worth_a_seek.true in
+    let place : q ≡ below to vs + 1 = c.seek.ensures.place ∙ ap (λ (k : SortKey). below k vs + 1) c.end_of-end.ensures in
+    ap (λ (ys : List Item). rows_up x.floor x.high x.t.0 x.s.0 (option_copied x.decided) (ahead q ys)) c.seek.ensures.same
+    ∙ skips x.floor x.high x.t.0 x.s.0 (option_copied x.decided) vs (g.C.Placed.ordered x.cursor) v (sym c.is_past.ensures ∙ c.if-is_past.false) before p q c.in-Some.ensures place
+    ∙ c.loop-key.invariant
