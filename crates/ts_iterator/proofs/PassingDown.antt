@@ -18,7 +18,7 @@ use Rattle.ts_key.specs.Items.{Item}
 use Rattle.ts_key.specs.Lists.{IsOrdered, below, onward, standing}
 use Rattle.ts_key.specs.Ordered.{none_low}
 use Rattle.ts_key.specs.Counts.{count_of_within, get_In, get_inside, In_after}
-use Rattle.ts_key.specs.Firsts.{key_upto, lower, slice_self, unseen}
+use Rattle.ts_key.specs.Firsts.{key_upto, lower, seen_of_key, slice_self, unseen}
 use Rattle.ts_key.specs.Visible.{is_item_seen, is_item_within}
 use Rattle.udt_model.specs.declared.reply.Row.{Row}
 use Rattle.udt_model.specs.Orders.{is_below}
@@ -42,6 +42,14 @@ or_none : (a b : Bool) → (a || not b) ≡ false → b ≡ true
 or_none true b e = absurd cc
 or_none false true e = refl
 or_none false false e = absurd cc
+
+first_none : (a b : Bool) → (a || b) ≡ false → a ≡ false
+first_none true b e = absurd cc
+first_none false b e = refl
+
+second_true : (a b : Bool) → (a && b) ≡ true → b ≡ true
+second_true true b e = e
+second_true false b e = absurd cc
 
 -- ---- places of keys
 
@@ -250,6 +258,23 @@ module _ (floor : Ts) (low : List ℕ) (high : Option (List ℕ)) (t s : ℕ) wh
         ∙ ap (rows (Some f)) (behind_upto vs m (omega (arith, y)) ∙ sym (append-nil (reverse (take m vs))))
         ∙ found_is vs m n [] so (sym d) (sym e) (omega (arith, l))
         ∙ ap (rows (Some v)) (append-nil (reverse (take n vs)) ∙ sym (behind_upto vs n (omega (arith, x))) ∙ ap (λ (k : ℕ). back_from k vs) (sym back))
+
+  -- ---- what the read sees
+
+  -- a version that counts is seen by its key
+  pub counts_seen : (key : List ℕ) (v : Item) → v.sort_key.key ≡ key → out v ≡ false → is_item_seen key t s v ≡ true
+  counts_seen key v e o =
+      let own : bytes_eq v.sort_key.key key ≡ true = (bytes_eq-Decides v.sort_key.key key).1 e in
+      let within = or_none (is_past high v.sort_key.key) (is_item_within t s v) o in
+      rw (own, within) refl
+
+  -- one of the key that is seen counts, where another of the key does
+  pub seen_counts : (key : List ℕ) (f v : Item) → is_item_seen key t s f ≡ true → v.sort_key.key ≡ key → out v ≡ false → out f ≡ false
+  seen_counts key f v h e o =
+      let same : f.sort_key.key ≡ v.sort_key.key = seen_of_key key t s f h ∙ sym e in
+      let within = second_true (bytes_eq f.sort_key.key key) (is_item_within t s f) h in
+      let under : is_past high f.sort_key.key ≡ false = ap (is_past high) same ∙ first_none (is_past high v.sort_key.key) (not (is_item_within t s v)) o in
+      rw (under, within) refl
 
 -- ---- the walk to the newest
 

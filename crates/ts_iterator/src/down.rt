@@ -80,6 +80,26 @@ fn go_to_newest<'a, C: Cursor<'a>>(
     }
 }
 
+/// Stays at this version, which the read sees, or where many of its key were passed goes to the newest that it sees.
+fn go_to_best<'a, C: Cursor<'a>>(
+    cursor: &mut C,
+    key: &KeyRef<'a>,
+    hit: Hit<'a>,
+    many: bool,
+    t: Ts,
+    s: Seq,
+) -> Option<(KeyRef<'a>, Hit<'a>)>
+    ensures same { C.items cursor.new ≡ C.items cursor.old }
+    ensures best { (v : Item) → Some v ≡ standing (C.items cursor.old) (C.place cursor.old) → v ≡ shown (key.now, hit.entry)
+        → is_item_seen key.now.key.now t.0 s.0 v ≡ true
+        → StandsUpto key.now.key.now t.0 s.0 (C.items cursor.old) (C.place cursor.old) (C.place cursor.new) (shown_by result) }
+{
+    if many {
+        return go_to_newest(cursor, key.key, t, s);
+    }
+    Some((*key, hit))
+}
+
 /// The row of the last version found, where the next one that the read sees is of another key.
 fn row_before(
     alloc: Global,
@@ -154,17 +174,15 @@ impl<'a, C: Cursor<'a> + Drop> Down<'a, C> {
 
     /// Goes back past the last version found; where many of its key were passed, past all others that the read sees.
     fn pass_found(&mut self, key: &KeyRef<'a>, hit: Hit<'a>)
-        ensures lower { (v : Item) → StandsIn C.items C.place self.old key.now v → C.place self.new.cursor < C.place self.old.cursor }
-        ensures rest { (v : Item) → StandsIn C.items C.place self.old key.now v
-            → v ≡ shown (key.now, hit.entry)
+        ensures lower { (v : Item) → StandsIn C.items C.place self.old key.now v → v ≡ shown (key.now, hit.entry)
+            → (is_past_bound self.old.high v.sort_key.key || not (is_item_within self.old.t.0 self.old.s.0 v)) ≡ false
+            → C.place self.new.cursor < C.place self.old.cursor }
+        ensures rest { (v : Item) → StandsIn C.items C.place self.old key.now v → v ≡ shown (key.now, hit.entry)
             → (is_past_bound self.old.high v.sort_key.key || not (is_item_within self.old.t.0 self.old.s.0 v)) ≡ false
             → rest_down C.items C.place self.new ≡ rest_down_from C.items self.old (Some v) (C.place self.old.cursor - 1) }
     {
-        if self.passed.are_many() {
-            self.best = go_to_newest(&mut self.cursor, key.key, self.t, self.s);
-        } else {
-            self.best = Some((*key, hit));
-        }
+        let many = self.passed.are_many();
+        self.best = go_to_best(&mut self.cursor, key, hit, many, self.t, self.s);
         self.cursor.prev();
     }
 

@@ -43,7 +43,7 @@ loop-key-preserved-then-is_passed_over g c =
 pub loop-key-smaller : goal.loop-key-smaller
 loop-key-smaller g c =
     let v = shown (record { 0 = c.in-Some.key; 1 = c.in-Some.hit }) in
-    c.pass_found.ensures.lower v (record { at = c.in-Some.ensures; own = refl; inside = sym c.is_below.ensures ∙ c.if-is_below.false })
+    c.pass_found.ensures.lower v (record { at = c.in-Some.ensures; own = refl; inside = sym c.is_below.ensures ∙ c.if-is_below.false }) refl (sym (c.is_passed_over.ensures v refl) ∙ c.if-is_passed_over.false)
 
 pub returns-in-Some-row : goal.returns-in-Some-row
 returns-in-Some-row g c =

@@ -37,8 +37,8 @@ returns-then-self-key-clause-rest g c = λ v h out.
     ∙ over_front x.floor (least_key x.low) x.high x.t.0 x.s.0 best v h.inside above from vs p q (g.C.Placed.ordered x.cursor) h.at place
     ∙ passes x.floor (least_key x.low) x.high x.t.0 x.s.0 best vs p v h.at h.inside out
 
-pub returns-else-many-clause-rest : goal.returns-else-many-clause-rest
-returns-else-many-clause-rest g c = λ v h out.
+pub returns-else-are_many-clause-rest : goal.returns-else-are_many-clause-rest
+returns-else-are_many-clause-rest g c = λ v h out.
     let x = c.args.self.now in
     let vs = g.C.Placed.items x.cursor in
     let p = g.C.Placed.place x.cursor in

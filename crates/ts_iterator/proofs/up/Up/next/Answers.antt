@@ -29,15 +29,15 @@ returns-then-is_past g c =
     let e : rest_up g.C.Placed.items g.C.Placed.place x ≡ [] = past_high x.floor x.high x.t.0 x.s.0 (option_copied x.decided) vs p p v c.in-Some.ensures (sym c.is_past.ensures ∙ c.if-is_past.true) in
     (sym c.loop-key.invariant ∙ e, e)
 
-pub loop-key-smaller-then-is_passed_over : goal.loop-key-smaller-then-is_passed_over
-loop-key-smaller-then-is_passed_over g c =
+pub loop-key-smaller-else-is_worth_a_seek : goal.loop-key-smaller-else-is_worth_a_seek
+loop-key-smaller-else-is_worth_a_seek g c =
     let x = c.loop-key.self in
     let v = shown (record { 0 = c.in-Some.key; 1 = c.in-Some.hit }) in
     let o = goes_on (g.C.Placed.items x.cursor) (g.C.Placed.place x.cursor) (g.C.Placed.place c.next.new.self) v c.in-Some.ensures c.next.ensures.place in
     omega (arith, o.0, o.1, ap length c.next.ensures.same)
 
-pub loop-key-preserved-then-is_passed_over : goal.loop-key-preserved-then-is_passed_over
-loop-key-preserved-then-is_passed_over g c =
+pub loop-key-preserved-else-is_worth_a_seek : goal.loop-key-preserved-else-is_worth_a_seek
+loop-key-preserved-else-is_worth_a_seek g c =
     let x = c.loop-key.self in
     let vs = g.C.Placed.items x.cursor in
     let p = g.C.Placed.place x.cursor in
