@@ -29,6 +29,9 @@ module _ {D F : Type 0} (d : disk.Ghosts D F) (f : file.Ghosts F) where
   pub goes_on_of : (store : Store D F f) → store.halted ≡ None → IsReady d f store → IsRunning (engine_of store) × IsCurrent (engine_of store) (now_of store)
   goes_on_of store works ready = subst (λ o. GoesOnUnless d f o (engine_of store) (now_of store)) works ready.goes_on
 
+  pub goes_on_live : (o : Option ℕ) (engine : Engine D F f) (now : SuperVersion) → o ≡ None → IsRunning engine → IsCurrent engine now → GoesOnUnless d f o engine now
+  goes_on_live o engine now works running current = subst (λ o. GoesOnUnless d f o engine now) (sym works) (running, current)
+
   -- ---- what both have
 
   since_shows : (o : Option ℕ) (engine : Engine D F f) (now : SuperVersion) (m : State) (c : Course) → HoldsSince d f o engine now m c → IsNow now m
@@ -61,5 +64,6 @@ module _ {D F : Type 0} (d : disk.Ghosts D F) (f : file.Ghosts F) where
     store_leaves store m c h = since_leaves store.halted (engine_of store) (now_of store) m c h.holds
 
     -- no call is made on the disk
-    pub rests_under : (store : Store D F f) (m : State) (c : Course) (number : ℕ) (act : Act) → HoldsStore d f store m c → RanUnder d f m c number act (engine_of store) (engine_of store)
-    rests_under store m c number act h = rests (λ folder image. let left = store_leaves store m c h folder image in (left.0, left.1, inl left.2))
+    pub rests_under : (store : Store D F f) (engine : Engine D F f) (m : State) (c : Course) (number : ℕ) (act : Act) → HoldsStore d f store m c → held engine ≡ held (engine_of store) → RanUnder d f m c number act (engine_of store) engine
+    rests_under store engine m c number act h same =
+        subst (λ j. Rattle.udt_disk.specs.Joint.Ran d f _ (held (engine_of store)) j) (sym same) (rests (λ folder image. let left = store_leaves store m c h folder image in (left.0, left.1, inl left.2)))

@@ -36,6 +36,6 @@ module _ {D F : Type 0} (d : disk.Ghosts D F) (f : file.Ghosts F) where
     pub holds : (m : State) (c : Course) → HoldsStore d f old m c → HoldsStore d f new (state_behind m number event reply) (course_behind_event m number c event reply)
     pub moments : (m : State) (c : Course) → HoldsStore d f old m c → RanUnderEvent m c number (act_in m event) (engine_of old) (engine_of new)
     pub ready : IsReady d f new
-    pub names : new.names ≡ old.names
+    pub names : new.names.items ≡ old.names.items
     pub counted : IsReplyCause reply (store_faults d f old) (store_faults d f new)
     pub given : IsTrue (is_given reply)
