@@ -1,15 +1,18 @@
 -- What a store holds, by its halves: while its disk works, and since it failed.
 use Rattle.std.proofs.Common.{◌≡◌, ℕ, List, refl, sym, ap, ◌∙◌, subst, inl, Option, Some, None}
 use Rattle.std.specs.Prelude.{IsTrue}
+use Rattle.udt_disk.specs.Joint.{Ran}
 use Rattle.udt_disk.specs.Joint.Ran.{rests}
 use Rattle.udt_disk.specs.declared.file.DiskFile as file
 use Rattle.udt_disk.specs.declared.disk.Disk as disk
 use Rattle.udt_model.specs.State.{State}
 use Rattle.udt_model.specs.Acts.{Act}
-use Rattle.udt_model.specs.Crashes.{Course}
+use Rattle.udt_model.specs.Crashes.{Course, IsOutcomeUnder}
 use Rattle.floor_laws.specs.Sound.{IsSoundState}
 use Rattle.super_version.specs.declared.version.SuperVersion.{SuperVersion}
 use Rattle.engine_laws.specs.Joints.{IsNowLast}
+use Rattle.engine_laws.specs.Standing.{StandsForSome}
+use Rattle.recovery.specs.Tables.{ReadsAsTable}
 use Rattle.store_engine.specs.Calls.{LeavesOutcomes, RanOn, RanUnder}
 use Rattle.store_engine.specs.Engines.{HoldsNow, IsCurrent, IsRunning, held}
 use Rattle.store_engine.specs.Now.{IsNow}
@@ -66,4 +69,4 @@ module _ {D F : Type 0} (d : disk.Ghosts D F) (f : file.Ghosts F) where
     -- no call is made on the disk
     pub rests_under : (store : Store D F f) (engine : Engine D F f) (m : State) (c : Course) (number : ℕ) (act : Act) → HoldsStore d f store m c → held engine ≡ held (engine_of store) → RanUnder d f m c number act (engine_of store) engine
     rests_under store engine m c number act h same =
-        subst (λ j. Rattle.udt_disk.specs.Joint.Ran d f _ (held (engine_of store)) j) (sym same) (rests (λ folder image. let left = store_leaves store m c h folder image in (left.0, left.1, inl left.2)))
+        subst (λ j. Ran d f (λ folder. StandsForSome ReadsAsTable folder (IsOutcomeUnder m c number act)) (held (engine_of store)) j) (sym same) (rests (λ folder image. let left = store_leaves store m c h folder image in (left.0, left.1, inl left.2)))
