@@ -6,5 +6,6 @@ pub mod Reads
 pub mod Holding
 pub mod Stepping
 pub mod Faults
+pub mod Accepted
 pub mod Counting
 pub mod Answers
