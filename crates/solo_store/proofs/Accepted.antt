@@ -55,7 +55,7 @@ module _ {D F : Type 0} (d : disk.Ghosts D F) (f : file.Ghosts F) where
         → ((m : State) (c : Course) → HoldsNow d f (engine_of old) (now_of old) m c → HoldsNow d f (engine_of new) (now_of new) (after m number act reply) (course_after m number c act reply))
         → ((m : State) (c : Course) → HoldsNow d f (engine_of old) (now_of old) m c → RanUnder d f m c number act (engine_of old) (engine_of new))
         → IsStep d f old new number event reply
-    taken_step reply given steps counted legal holds moments = acted_step d f old new number event act reply asks (plain_own act plain) steps (record {
+    taken_step reply given steps counted legal holds moments = acted_step d f old new number event act reply asks (plain_own act plain) steps (λ keeps. goes.flush) (record {
       legal = λ m c h. legal m c (live_of d f old m c goes.works h);
       flush = λ m c h. flush_after m number act reply plain ∙ (h.flush ∙ ap (option_map job_of) (sym goes.flush));
       holds = λ m c h. since_live d f new.halted (engine_of new) (now_of new) (after m number act reply) (course_after m number c act reply) goes.halted (holds m c (live_of d f old m c goes.works h));

@@ -138,7 +138,7 @@ module _ {D F : Type 0} (d : disk.Ghosts D F) (f : file.Ghosts F) where
 
     module _ (event : Event) (asks : Asks old.names.items event act) (may : IsRefusable event act) where
       pub fault_step : (fault : EngineFault) → Faulted old engine number act fault → new ≡ record old { engine = engine; halted = halted_behind old.halted number fault } → IsStep d f old new number event (told_of_fault fault)
-      fault_step faults.DiskFault faulted is = acted_step d f old new number event act Fault asks may.own refl (failed_acted faulted may.job is)
+      fault_step faults.DiskFault faulted is = acted_step d f old new number event act Fault asks may.own refl (λ keeps. ap (λ (s : Store D F f). s.flush) is) (failed_acted faulted may.job is)
       fault_step faults.NoMemory faulted is = want_step d f old new number event act asks may.own (refused_keeps faults.NoMemory refl faulted is) (may.still faults.NoMemory refl) may.takes may.runs
       fault_step fault faulted is =
           still_step d f old new number event act asks may.own (refused_keeps fault refl faulted is) (told_of_fault fault) (may.still fault refl) (λ before now e. e) refl refl

@@ -15,7 +15,7 @@ use Rattle.engine_laws.specs.Joints.{IsNowLast}
 use Rattle.store_engine.specs.Calls.{RanUnder}
 use Rattle.solo_store.specs.Acting.{course_behind_event, state_behind}
 use Rattle.solo_store.specs.Replies.{is_given}
-use Rattle.solo_store.specs.Steps.{IsReplyCause, IsStep, RanUnderEvent}
+use Rattle.solo_store.specs.Steps.{IsReplyCause, IsStep, RanUnderEvent, keeps_flush}
 use Rattle.solo_store.specs.Stores.{HoldsSince, HoldsStore, IsReady, engine_of, job_of, now_of, store_faults}
 use Rattle.solo_store.specs.declared.store.RunningFlush.{RunningFlush}
 use Rattle.solo_store.specs.declared.store.Store.{Store}
@@ -36,8 +36,8 @@ module _ {D F : Type 0} (d : disk.Ghosts D F) (f : file.Ghosts F) where
     pub given : IsTrue (is_given reply)
 
   pub acted_step : (old new : Store D F f) (number : ℕ) (event : Event) (act : Act) (reply : Reply) → Asks old.names.items event act → IsTrue (is_own act) → IsTrue (steps_with (is_read event) reply)
-      → IsActed old new number act reply → IsStep d f old new number event reply
-  acted_step old new number event act reply asks own steps acted = record {
+      → (IsTrue (keeps_flush event) → new.flush ≡ old.flush) → IsActed old new number act reply → IsStep d f old new number event reply
+  acted_step old new number event act reply asks own steps flush acted = record {
     legal = λ m c h. legal_told old.names.items event act asks m h.names reply (acted.legal m c h);
     holds = λ m c h.
         let store : HoldsStore d f new (after m number act reply) (course_after m number c act reply) = record {
@@ -51,6 +51,7 @@ module _ {D F : Type 0} (d : disk.Ghosts D F) (f : file.Ghosts F) where
     moments = λ m c h. subst (λ (o : Option Act). RanUnderEvent d f m c number o (engine_of old) (engine_of new)) (sym (asks.bound m h.names)) (acted.moments m c h);
     ready = acted.ready;
     names = acted.names;
+    flush = flush;
     counted = acted.counted;
     given = acted.given;
   }
@@ -78,7 +79,7 @@ module _ {D F : Type 0} (d : disk.Ghosts D F) (f : file.Ghosts F) where
     -- a reply that changes nothing
     pub still_step : (reply : Reply) → IsTrue (is_still act reply) → ((before now : ℕ) → now ≡ before → IsReplyCause reply before now) → IsTrue (is_given reply) → IsTrue (steps_with (is_read event) reply)
         → ((m : State) (c : Course) → HoldsStore d f old m c → IsReplyTo m act reply) → IsStep d f old new number event reply
-    still_step reply still counts given steps legal = acted_step old new number event act reply asks own steps (record {
+    still_step reply still counts given steps legal = acted_step old new number event act reply asks own steps (λ is. keeps.flush) (record {
       legal = legal;
       flush = λ m c h. ap (λ (n : State). n.flush) (after_still m number act reply still) ∙ (h.flush ∙ ap (option_map job_of) (sym keeps.flush));
       holds = λ m c h.
@@ -107,6 +108,7 @@ module _ {D F : Type 0} (d : disk.Ghosts D F) (f : file.Ghosts F) where
       moments = λ m c h. subst (λ (o : Option Act). RanUnderEvent d f m c number o (engine_of old) (engine_of new)) (sym (asks.bound m h.names)) (keeps.moments m c number act h);
       ready = keeps.ready;
       names = keeps.names;
+      flush = λ is. keeps.flush;
       counted = keeps.faults;
       given = refl;
     }
