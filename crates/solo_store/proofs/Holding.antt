@@ -1,15 +1,18 @@
 -- What a store holds, by its halves: while its disk works, and since it failed.
 use Rattle.std.proofs.Common.{◌≡◌, ℕ, List, refl, sym, ap, ◌∙◌, subst, inl, Option, Some, None}
 use Rattle.std.specs.Prelude.{IsTrue}
+use Rattle.udt_disk.specs.Joint.{Ran}
 use Rattle.udt_disk.specs.Joint.Ran.{rests}
 use Rattle.udt_disk.specs.declared.file.DiskFile as file
 use Rattle.udt_disk.specs.declared.disk.Disk as disk
 use Rattle.udt_model.specs.State.{State}
 use Rattle.udt_model.specs.Acts.{Act}
-use Rattle.udt_model.specs.Crashes.{Course}
+use Rattle.udt_model.specs.Crashes.{Course, IsOutcomeUnder}
 use Rattle.floor_laws.specs.Sound.{IsSoundState}
 use Rattle.super_version.specs.declared.version.SuperVersion.{SuperVersion}
 use Rattle.engine_laws.specs.Joints.{IsNowLast}
+use Rattle.engine_laws.specs.Standing.{StandsForSome}
+use Rattle.recovery.specs.Tables.{ReadsAsTable}
 use Rattle.store_engine.specs.Calls.{LeavesOutcomes, RanOn, RanUnder}
 use Rattle.store_engine.specs.Engines.{HoldsNow, IsCurrent, IsRunning, held}
 use Rattle.store_engine.specs.Now.{IsNow}
@@ -28,6 +31,9 @@ module _ {D F : Type 0} (d : disk.Ghosts D F) (f : file.Ghosts F) where
 
   pub goes_on_of : (store : Store D F f) → store.halted ≡ None → IsReady d f store → IsRunning (engine_of store) × IsCurrent (engine_of store) (now_of store)
   goes_on_of store works ready = subst (λ o. GoesOnUnless d f o (engine_of store) (now_of store)) works ready.goes_on
+
+  pub goes_on_live : (o : Option ℕ) (engine : Engine D F f) (now : SuperVersion) → o ≡ None → IsRunning engine → IsCurrent engine now → GoesOnUnless d f o engine now
+  goes_on_live o engine now works running current = subst (λ o. GoesOnUnless d f o engine now) (sym works) (running, current)
 
   -- ---- what both have
 
@@ -61,5 +67,6 @@ module _ {D F : Type 0} (d : disk.Ghosts D F) (f : file.Ghosts F) where
     store_leaves store m c h = since_leaves store.halted (engine_of store) (now_of store) m c h.holds
 
     -- no call is made on the disk
-    pub rests_under : (store : Store D F f) (m : State) (c : Course) (number : ℕ) (act : Act) → HoldsStore d f store m c → RanUnder d f m c number act (engine_of store) (engine_of store)
-    rests_under store m c number act h = rests (λ folder image. let left = store_leaves store m c h folder image in (left.0, left.1, inl left.2))
+    pub rests_under : (store : Store D F f) (engine : Engine D F f) (m : State) (c : Course) (number : ℕ) (act : Act) → HoldsStore d f store m c → held engine ≡ held (engine_of store) → RanUnder d f m c number act (engine_of store) engine
+    rests_under store engine m c number act h same =
+        subst (λ j. Ran d f (λ folder. StandsForSome ReadsAsTable folder (IsOutcomeUnder m c number act)) (held (engine_of store)) j) (sym same) (rests (λ folder image. let left = store_leaves store m c h folder image in (left.0, left.1, inl left.2)))

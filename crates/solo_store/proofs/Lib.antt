@@ -1,3 +1,11 @@
 pub mod Naming
+pub mod Behind
+pub mod Asking
+pub mod Refusing
 pub mod Reads
 pub mod Holding
+pub mod Stepping
+pub mod Faults
+pub mod Accepted
+pub mod Counting
+pub mod Answers

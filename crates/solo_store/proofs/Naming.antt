@@ -3,6 +3,7 @@ use Rattle.std.proofs.Common.{◌≡◌, ℕ, ◌+◌, ◌<◌, ◌≤◌, Bool,
 use Rattle.std.specs.Prelude.{All, if◌then◌else◌, nat_le}
 use Rattle.std.specs.Str.{bytes_eq}
 use Rattle.std.proofs.lemmas.Bool.{cases_Bool}
+use Rattle.std.proofs.lemmas.List.{length-map}
 use Rattle.std.proofs.lemmas.List.Elements.{All-head, All-tail, All-nil, All-cons}
 use Rattle.ts_key.specs.Batches.{IsBatch, IsStamped}
 use Rattle.ts_key.specs.declared.batch.WriteOp.{WriteOp}
@@ -27,7 +28,7 @@ place_is n k (h ∷ hs) name e = elim (cases_Bool (bytes_eq h.name name)) [
 -- the number of the family is the model's
 pub family_same : (m : State) (names : List (List ℕ)) (name : List ℕ) → names ≡ names_in m → family_of (heads_of m) name ≡ family_named names name
 family_same m names name e =
-    place_is 0 (length (heads_of m)) (heads_of m) name refl ∙ ap (λ (ns : List (List ℕ)). family_named ns name) (sym e)
+    place_is 0 (length (heads_of m)) (heads_of m) name (omega (arith)) ∙ ap (λ (ns : List (List ℕ)). family_named ns name) (sym e)
 
 op_same : (m : State) (names : List (List ℕ)) (o : NamedOp) → names ≡ names_in m → op_of (heads_of m) o ≡ op_named names o
 op_same m names o e = ap (λ (c : Family). let w : WriteOp = record { family = c; key = o.key; ts = o.ts; op = o.op } in w) (family_same m names o.family e)
@@ -41,7 +42,7 @@ ops_same m names (o ∷ os) e =
 -- ---- batches
 
 pub length-named : (names : List (List ℕ)) (os : List NamedOp) → length (map (op_named names) os) ≡ length os
-length-named names os = simp length-map
+length-named names os = length-map os (op_named names)
 
 stamped_named : (names : List (List ℕ)) (os : List NamedOp) → All (λ (o : NamedOp). o.ts.0 ≤ STAMP_LIMIT) os → All IsStamped (map (op_named names) os)
 stamped_named names [] all = All-nil IsStamped

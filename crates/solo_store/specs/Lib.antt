@@ -1,4 +1,5 @@
 pub mod Names
+pub mod Acting
 pub mod Replies
 pub mod Stores
 pub mod Steps

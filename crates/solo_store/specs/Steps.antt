@@ -1,31 +1,48 @@
 -- What an event does to a store, and what it answers.
-use Rattle.std.specs.Prelude.{◌≡◌, ℕ, IsTrue, Option, Some, None}
+use Rattle.std.specs.Prelude.{◌≡◌, ℕ, ◌≤◌, Bool, true, false, IsTrue, List, Option, Some, None}
 use Rattle.udt_disk.specs.Causes.{IsCause}
 use Rattle.udt_disk.specs.declared.file.DiskFile as file
 use Rattle.udt_disk.specs.declared.disk.Disk as disk
 use Rattle.udt_model.specs.declared.event.Event.{Event}
+use Rattle.udt_model.specs.declared.event.Event.TheVariants.{FlushEnd, FlushStart}
 use Rattle.udt_model.specs.declared.reply.Reply.{Reply}
+use Rattle.udt_model.specs.declared.reply.Reply.TheVariants.{OkAt, Table}
 use Rattle.udt_model.specs.Acts.{Act}
-use Rattle.udt_model.specs.Crashes.{Course, course_after_or}
-use Rattle.udt_model.specs.Lines.{IsReply, after_event, says_fault}
-use Rattle.udt_model.specs.Names.{act_of, no_names}
-use Rattle.udt_model.specs.State.{State, heads_of}
+use Rattle.udt_model.specs.Crashes.{Course}
+use Rattle.udt_model.specs.Lines.{IsReply, says_fault}
+use Rattle.udt_model.specs.Names.{no_names}
+use Rattle.udt_model.specs.State.{State}
 use Rattle.store_engine.specs.Calls.{RanOn, RanUnder}
 use Rattle.store_engine.specs.declared.engine.Engine.{Engine}
+use Rattle.solo_store.specs.Acting.{act_in, course_behind_event, state_behind}
+use Rattle.solo_store.specs.Names.{family_named}
 use Rattle.solo_store.specs.Replies.{is_given}
 use Rattle.solo_store.specs.Stores.{HoldsStore, IsReady, engine_of, store_faults}
+use Rattle.solo_store.specs.declared.store.RunningFlush.{RunningFlush}
 use Rattle.solo_store.specs.declared.store.Store.{Store}
 
--- what an event of somebody without names asks
-abbrev pub act_in : State → Event → Option Act
-act_in m event = act_of (heads_of m) no_names event
+-- it neither starts nor ends a flush
+abbrev pub keeps_flush : Event → Bool
+keeps_flush (FlushStart family) = false
+keeps_flush (FlushEnd family start) = false
+keeps_flush event = true
 
--- the state and the course behind it
-abbrev pub state_behind : State → ℕ → Event → Reply → State
-state_behind m number event reply = after_event m number no_names event reply
+-- A fault of the disk is told exactly where its faults rose; but behind a table that went live files may stay that could not be removed.
+abbrev pub IsReplyCause : Reply → ℕ → ℕ → Type 0
+IsReplyCause (Table table kept floor) before now = before ≤ now
+IsReplyCause reply before now = IsCause (says_fault reply) before now
 
-abbrev pub course_behind_event : State → ℕ → Course → Event → Reply → Course
-course_behind_event m number c event reply = course_after_or m number c (act_in m event) reply
+-- the flush of this start, of the family of this name, runs
+pub record RunsFlush {D F : Type 0} {f : file.Ghosts F} (store : Store D F f) (start : ℕ) (name : List ℕ) : Type 0 where
+  pub flush : RunningFlush
+  pub runs : store.flush ≡ Some flush
+  pub of_start : flush.start ≡ start
+  pub of_family : flush.family ≡ family_named store.names.items name
+
+-- with this reply to its start a flush runs, and with any other the same one as before, if one did
+abbrev pub StartsFlush : {D F : Type 0} {f : file.Ghosts F} → Reply → Store D F f → Store D F f → ℕ → List ℕ → Type 0
+StartsFlush (OkAt through) old new number name = RunsFlush new number name
+StartsFlush reply old new number name = new.flush ≡ old.flush
 
 module _ {D F : Type 0} (d : disk.Ghosts D F) (f : file.Ghosts F) where
   -- at each moment between the two each folder that a crash may leave stands for an outcome, of the state on its course or of the event
@@ -34,12 +51,13 @@ module _ {D F : Type 0} (d : disk.Ghosts D F) (f : file.Ghosts F) where
   RanUnderEvent m c number (Some act) old new = RanUnder d f m c number act old new
 
   -- The event of this number was made. For each state that the store held the reply is legal, the store holds the state behind it, on its
-  -- course, and at each moment a crash left outcomes. A fault is told exactly where the disk failed: its faults rose.
+  -- course, and at each moment a crash left outcomes. The next event may be made.
   pub record IsStep (old new : Store D F f) (number : ℕ) (event : Event) (reply : Reply) : Type 0 where
     pub legal : (m : State) (c : Course) → HoldsStore d f old m c → IsReply 0 m no_names event reply
     pub holds : (m : State) (c : Course) → HoldsStore d f old m c → HoldsStore d f new (state_behind m number event reply) (course_behind_event m number c event reply)
     pub moments : (m : State) (c : Course) → HoldsStore d f old m c → RanUnderEvent m c number (act_in m event) (engine_of old) (engine_of new)
     pub ready : IsReady d f new
-    pub names : new.names ≡ old.names
-    pub counted : IsCause (says_fault reply) (store_faults d f old) (store_faults d f new)
+    pub names : new.names.items ≡ old.names.items
+    pub flush : IsTrue (keeps_flush event) → new.flush ≡ old.flush
+    pub counted : IsReplyCause reply (store_faults d f old) (store_faults d f new)
     pub given : IsTrue (is_given reply)

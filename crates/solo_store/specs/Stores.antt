@@ -1,10 +1,11 @@
 -- What a store holds.
-use Rattle.std.specs.Prelude.{◌≡◌, ℕ, ◌≤◌, [], length, Option, Some, None, ⊤}
+use Rattle.std.specs.Prelude.{◌≡◌, ℕ, ◌≤◌, [], length, option_map, Option, Some, None, ⊤}
 use Rattle.std.specs.Arc.{arc_value}
 use Rattle.ts_key.specs.declared.limits.TheConstants.{FAMILY_LIMIT}
 use Rattle.udt_disk.specs.declared.file.DiskFile as file
 use Rattle.udt_disk.specs.declared.disk.Disk as disk
-use Rattle.udt_model.specs.State.{State}
+use Rattle.wal.specs.Wals.{wal_pending}
+use Rattle.udt_model.specs.State.{Flush, State}
 use Rattle.udt_model.specs.Crashes.{Course}
 use Rattle.floor_laws.specs.Sound.{IsSoundState}
 use Rattle.super_version.specs.declared.version.SuperVersion.{SuperVersion}
@@ -13,7 +14,12 @@ use Rattle.store_engine.specs.Engines.{HoldsNow, IsCurrent, IsOneFolder, IsRunni
 use Rattle.store_engine.specs.Now.{IsNow}
 use Rattle.store_engine.specs.declared.engine.Engine.{Engine}
 use Rattle.solo_store.specs.Names.{names_in}
+use Rattle.solo_store.specs.declared.store.RunningFlush.{RunningFlush}
 use Rattle.solo_store.specs.declared.store.Store.{Store}
+
+-- the flush of the model that it is: there are no snapshots
+abbrev pub job_of : RunningFlush → Flush
+job_of flush = record { start = flush.start; family = flush.family; through = flush.through; floor = flush.floor; seqs = [] }
 
 module _ {D F : Type 0} {f : file.Ghosts F} where
   abbrev pub engine_of : Store D F f → Engine D F f
@@ -21,6 +27,10 @@ module _ {D F : Type 0} {f : file.Ghosts F} where
 
   abbrev pub now_of : Store D F f → SuperVersion
   now_of store = arc_value store.now
+
+  -- how many bytes wait in its log
+  abbrev pub store_pending : Store D F f → ℕ
+  store_pending store = wal_pending (engine_of store).wal
 
 module _ {D F : Type 0} (d : disk.Ghosts D F) (f : file.Ghosts F) where
   -- The disk failed under the event of this number. The super version shows the state still, and a crash leaves only outcomes.
@@ -34,11 +44,13 @@ module _ {D F : Type 0} (d : disk.Ghosts D F) (f : file.Ghosts F) where
   HoldsSince None engine now m c = HoldsNow d f engine now m c
   HoldsSince (Some since) engine now m c = HoldsHalted since engine now m c
 
-  -- The store holds the state on its course, also once the disk failed. It knows the names of the families, and has no snapshot.
+  -- The store holds the state on its course, also once the disk failed. It knows the names of the families and the flush that runs, and
+  -- has no snapshot.
   pub record HoldsStore (store : Store D F f) (m : State) (c : Course) : Type 0 where
     pub names : store.names.items ≡ names_in m
-    pub holds : HoldsSince store.halted (engine_of store) (now_of store) m c
+    pub flush : m.flush ≡ option_map job_of store.flush
     pub snaps : m.snaps ≡ []
+    pub holds : HoldsSince store.halted (engine_of store) (now_of store) m c
 
   -- the engine may go on with the super version, unless the disk failed
   abbrev pub GoesOnUnless : Option ℕ → Engine D F f → SuperVersion → Type 0

@@ -1,7 +1,9 @@
 //! The store of one client.
 
-ghost use Rattle.std.specs.Prelude.{◌≡◌, ◌<◌, ◌≤◌, ℕ, List, None, All, IfOk, IfErr, IsTrue, length};
-ghost use Rattle.ts_key.specs.declared.limits.TheConstants.{BATCH_LIMIT, STAMP_LIMIT};
+ghost use Rattle.std.specs.Prelude.{◌≡◌, ◌<◌, ◌≤◌, ℕ, None, Some, All, IfErr, IfOk, IsTrue, length, slice_get};
+ghost use Rattle.std.specs.Arc.{arc_value};
+ghost use Rattle.ts_key.specs.declared.limits.TheConstants.{BATCH_LIMIT, FAMILY_LIMIT, STAMP_LIMIT};
+ghost use Rattle.udt_disk.specs.Joint.{LeavesNow};
 ghost use Rattle.udt_disk.specs.Moments.{OnlyReads, alone};
 ghost use Rattle.udt_model.specs.declared.event.Event.TheVariants.{Floor as FloorEvent, Get as GetEvent, Raise as RaiseEvent, Sync as SyncEvent, Write as WriteEvent};
 ghost use Rattle.udt_model.specs.declared.event.NamedOp.{NamedOp as Named};
@@ -11,10 +13,11 @@ ghost use Rattle.engine_laws.specs.Standing.{FolderStands};
 ghost use Rattle.manifest.specs.Manifest.{manifest_folded};
 ghost use Rattle.recovery.specs.Opening.{AreLiveClean};
 ghost use Rattle.recovery.specs.Tables.{ReadsAsTable};
-ghost use Rattle.recovery.specs.declared.opening.Parts.{Parts as PartsOf};
 ghost use Rattle.store_engine.specs.Parts.{ArePartsOf};
-ghost use Rattle.solo_store.specs.Replies.{told_of_fault};
+ghost use Rattle.solo_store.specs.Names.{family_named as number_named};
+ghost use Rattle.solo_store.specs.Replies.{halted_behind, halted_told, told_of_fault};
 
+use crate::NoMemory;
 use crate::batch::batch_of;
 use crate::names::{any_unnamed, family_named, names_of};
 use crate::reading::reply_of_read;
@@ -25,43 +28,62 @@ use std::alloc::{AllocError, Global};
 use std::sync::Arc;
 use store_engine::{Engine, EngineFault};
 use super_version::SuperVersion;
-use ts_key::{Family, Key, Name, Ts};
+use ts_key::{Family, Key, Name, Seq, Ts};
 use udt_disk::Disk;
 use udt_model::{NamedOp, Reply};
 
-/// The store of one client: an engine with its super version, and the names of the families. Once the disk failed under an event, the
-/// store goes on reading, and refuses what works on the disk.
+/// A flush that runs: the number of its start, its family, and the last sequence and the floor there.
+#[derive(Clone, Copy)]
+pub(crate) struct RunningFlush {
+    pub(crate) start: u64,
+    pub(crate) family: Family,
+    pub(crate) through: Seq,
+    pub(crate) floor: Ts,
+}
+
+/// The store of one client: an engine with its super version, the names of the families, and the flush that runs. Once the disk failed
+/// under an event, the store goes on reading, and refuses what works on the disk.
 pub struct Store<D: Disk> {
-    engine: Engine<D>,
-    now: Arc<SuperVersion>,
-    names: Vec<Name>,
+    pub(crate) engine: Engine<D>,
+    pub(crate) now: Arc<SuperVersion>,
+    pub(crate) names: Vec<Name>,
+    pub(crate) flush: Option<RunningFlush>,
     /// The number of the event under which the disk failed.
-    halted: Option<u64>,
+    pub(crate) halted: Option<u64>,
 }
 
 impl<D: Disk> Store<D> {
     ghost use Rattle.store_engine.specs.Calls.{LeavesOutcomes};
     ghost use Rattle.solo_store.specs.Steps.{IsStep};
-    ghost use Rattle.solo_store.specs.Stores.{HoldsStore, IsReady, engine_of, store_faults};
+    ghost use Rattle.solo_store.specs.Stores.{HoldsStore, IsReady, engine_of, now_of, store_faults, store_pending};
 
     /// The number of the family of this name; where there is none, the one behind the last.
-    fn family_of(&self, name: &Name) -> Family {
+    pub(crate) fn family_of(&self, name: &Name) -> Family
+        requires { length self.now.names.items ≤ FAMILY_LIMIT }
+        ensures { result ≡ number_named self.now.names.items name.now }
+    {
         family_named(&self.names, name)
     }
 
     /// What is told of a fault of the engine. After one of the disk the store is halted.
-    fn refused(&mut self, number: u64, fault: EngineFault) -> Reply
-        ensures reply { result ≡ told_of_fault fault }
+    pub(crate) fn refused(&mut self, number: u64, fault: EngineFault) -> Reply
+        ensures told { result ≡ told_of_fault fault }
+        ensures halted { self.new ≡ record self.old { halted = halted_behind self.old.halted number fault } }
     {
-        if fault == EngineFault::DiskFault {
-            self.halted = Some(number);
+        match fault {
+            EngineFault::DiskFault => {
+                self.halted = Some(number);
+                Reply::Fault
+            }
+            fault => reply_of(fault),
         }
-        reply_of(fault)
     }
 
     /// What a halted store tells of an event that works on the disk, on a family.
-    fn halted_reply(&self, family: Family, since: u64) -> Reply {
-        match self.now.family(family) {
+    fn halted_reply(&self, family: Family, since: u64) -> Reply
+        ensures { result ≡ halted_told (slice_get (now_of self.now).families family.0) since }
+    {
+        match self.now.as_ref().family(family) {
             None => Reply::Unknown,
             Some(_) => Reply::Halted { since },
         }
@@ -72,7 +94,7 @@ impl<D: Disk> Store<D> {
         requires { IsReady D.Disk D.File.DiskFile self.now }
         ensures { (number : ℕ) → IsStep D.Disk D.File.DiskFile self.now self.now number (FloorEvent family.now) result }
     {
-        match self.now.family(self.family_of(family)) {
+        match self.now.as_ref().family(self.family_of(family)) {
             None => Reply::Unknown,
             Some(state) => Reply::Floor { floor: state.floor },
         }
@@ -100,9 +122,9 @@ impl<D: Disk> Store<D> {
         ensures { IsStep D.Disk D.File.DiskFile self.old self.new number (WriteEvent ops.now sync) result }
     {
         match self.halted {
+            None => self.take(alloc, number, ops, sync),
             Some(_) if any_unnamed(&self.names, ops) => Reply::Unknown,
             Some(since) => Reply::Halted { since },
-            None => self.take(alloc, number, ops, sync),
         }
     }
 
@@ -120,9 +142,9 @@ impl<D: Disk> Store<D> {
         };
         match self.engine.write(alloc, self.now.as_ref(), &batch, sync) {
             Ok(next) => {
-                let number = next.last.0;
+                let last = next.as_ref().last;
                 self.now = next;
-                Reply::OkAt { number }
+                Reply::OkAt { number: last.0 }
             }
             Err(fault) => self.refused(number, fault),
         }
@@ -149,7 +171,8 @@ impl<D: Disk> Store<D> {
     /// Puts every accepted write on the disk, as the event of this number. It takes no memory.
     pub fn sync(&mut self, number: u64) -> Reply
         requires { IsReady D.Disk D.File.DiskFile self.old }
-        ensures { IsStep D.Disk D.File.DiskFile self.old self.new number SyncEvent result }
+        ensures step { IsStep D.Disk D.File.DiskFile self.old self.new number SyncEvent result }
+        ensures synced { result ≡ Reply.Done → store_pending self.new ≡ 0 }
     {
         if let Some(since) = self.halted {
             return Reply::Halted { since };
@@ -162,11 +185,18 @@ impl<D: Disk> Store<D> {
 
     /// Gives the folder back. It writes nothing, so what waits is lost.
     pub fn close(self) -> D
+        requires { IsReady D.Disk D.File.DiskFile self }
+        ensures leaves { (m : State) (c : Course) → HoldsStore D.Disk D.File.DiskFile self m c → LeavesOutcomes D.Disk D.File.DiskFile m c (alone result) }
+        // All there is where nothing waits.
+        ensures whole { (m : State) (c : Course) → HoldsStore D.Disk D.File.DiskFile self m c → self.halted ≡ None
+            → store_pending self ≡ 0 → LeavesNow D.Disk D.File.DiskFile (λ folder. FolderStands ReadsAsTable folder (settled m)) (alone result) }
+        ensures counted { D.faults result ≡ store_faults D.Disk D.File.DiskFile self }
     {
         let Store {
             engine,
             now: _,
             names: _,
+            flush: _,
             halted: _,
         } = self;
         engine.close()

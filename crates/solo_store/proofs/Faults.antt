@@ -1,0 +1,145 @@
+-- The step of an event under which the engine answered a fault.
+use Rattle.std.proofs.Common.{◌≡◌, ℕ, Bool, false, true, List, Option, Some, None, refl, sym, ap, ◌∙◌, subst}
+use Rattle.std.specs.Prelude.{IfSome, IsTrue, Result, Err, option_map}
+use Rattle.std.proofs.lemmas.Bool.{false≢true, true≢false}
+use Rattle.ts_key.specs.declared.batch.WriteOp.{WriteOp}
+use Rattle.ts_key.specs.declared.numbers.Family.{Family}
+use Rattle.ts_key.specs.declared.numbers.Ts.{Ts}
+use Rattle.udt_disk.specs.Causes.{IsCause}
+use Rattle.udt_disk.specs.declared.file.DiskFile as file
+use Rattle.udt_disk.specs.declared.disk.Disk as disk
+use Rattle.udt_model.specs.declared.event.Event.{Event}
+use Rattle.udt_model.specs.declared.event.Event.TheVariants.{FlushStart, Raise, Write}
+use Rattle.udt_model.specs.declared.event.NamedOp.{NamedOp}
+use Rattle.udt_model.specs.declared.reply.Reply.{Reply}
+use Rattle.udt_model.specs.declared.reply.Reply.TheVariants.{Fault}
+use Rattle.udt_model.specs.Acts.{Act}
+use Rattle.udt_model.specs.Acts.Act.{flush_start, raise, write}
+use Rattle.udt_model.specs.Crashes.{Course, course_after}
+use Rattle.udt_model.specs.Lines.{is_read, takes_memory}
+use Rattle.udt_model.specs.State.{State}
+use Rattle.udt_model.specs.Steps.{IsReplyTo, after, is_running, without_job}
+use Rattle.floor_laws.specs.Sound.{IsSoundState}
+use Rattle.floor_laws.proofs.Told.{sound_after}
+use Rattle.super_version.specs.declared.version.SuperVersion.{SuperVersion}
+use Rattle.engine_laws.specs.Joints.{IsNowLast}
+use Rattle.store_engine.specs.Calls.{LeavesOutcomes, RanUnder}
+use Rattle.store_engine.specs.Engines.{HoldsAsBefore, HoldsNow, IsCurrent, IsOneFolder, IsRunning, engine_faults, held}
+use Rattle.store_engine.specs.Now.{IsNow}
+use Rattle.store_engine.specs.Replies.{is_disk_fault, reply_of_fault}
+use Rattle.store_engine.specs.Steps.{IsCalled}
+use Rattle.store_engine.specs.declared.engine.Engine.{Engine}
+use Rattle.store_engine.specs.declared.fault.EngineFault.{EngineFault}
+use Rattle.store_engine.specs.declared.fault.EngineFault.TheVariants as faults
+use Rattle.solo_store.specs.Replies.{halted_behind, told_of_fault}
+use Rattle.solo_store.specs.Steps.{IsStep}
+use Rattle.solo_store.specs.Stores.{HoldsHalted, HoldsSince, HoldsStore, IsReady, engine_of, job_of, now_of}
+use Rattle.solo_store.specs.declared.store.Store.{Store}
+use Rattle.solo_store.proofs.Asking.{Asks}
+use Rattle.solo_store.proofs.Behind.{is_own, is_still}
+use Rattle.solo_store.proofs.Holding.{goes_on_live, goes_on_of, live_of, rests_under, since_live, store_shows, store_sound}
+use Rattle.solo_store.proofs.Stepping.{IsActed, Keeps, acted_step, still_step, want_step}
+
+-- ---- acts that an engine may refuse
+
+-- The act is no read and no job's end, and a refusal changes nothing.
+pub record IsRefusable (event : Event) (act : Act) : Type 0 where
+  pub unread : is_read event ≡ false
+  pub takes : IsTrue (takes_memory event)
+  pub runs : (m : State) → IsTrue (is_running m act)
+  pub own : IsTrue (is_own act)
+  pub job : (m : State) → without_job m act ≡ m
+  pub still : (fault : EngineFault) → is_disk_fault fault ≡ false → IsTrue (is_still act (told_of_fault fault))
+
+write_still : (ops : List WriteOp) (sync : Bool) (fault : EngineFault) → is_disk_fault fault ≡ false → IsTrue (is_still (write ops sync) (told_of_fault fault))
+write_still ops sync faults.DiskFault no = absurd (true≢false no)
+write_still ops sync fault no = refl
+
+raise_still : (i : Family) (floor : Ts) (fault : EngineFault) → is_disk_fault fault ≡ false → IsTrue (is_still (raise i floor) (told_of_fault fault))
+raise_still i floor faults.DiskFault no = absurd (true≢false no)
+raise_still i floor fault no = refl
+
+start_still : (i : Family) (fault : EngineFault) → is_disk_fault fault ≡ false → IsTrue (is_still (flush_start i) (told_of_fault fault))
+start_still i faults.DiskFault no = absurd (true≢false no)
+start_still i fault no = refl
+
+pub refuses_write : (named : List NamedOp) (ops : List WriteOp) (sync : Bool) → IsRefusable (Write named sync) (write ops sync)
+refuses_write named ops sync = record { unread = refl; takes = refl; runs = λ m. refl; own = refl; job = λ m. refl; still = write_still ops sync }
+
+pub refuses_raise : (name : List ℕ) (i : Family) (floor : Ts) → IsRefusable (Raise name floor) (raise i floor)
+refuses_raise name i floor = record { unread = refl; takes = refl; runs = λ m. refl; own = refl; job = λ m. refl; still = raise_still i floor }
+
+pub refuses_start : (name : List ℕ) (i : Family) → IsRefusable (FlushStart name) (flush_start i)
+refuses_start name i = record { unread = refl; takes = refl; runs = λ m. refl; own = refl; job = λ m. refl; still = start_still i }
+
+-- ---- where the disk failed
+
+-- the super version shows the state still
+pub now_halted : (now : SuperVersion) (m : State) (number : ℕ) → IsNow now m → IsNow now (record m { halted = Some number })
+now_halted now m number shows = record {
+  last = shows.last;
+  count = shows.count;
+  families = λ i g h at there. shows.families i g h at there;
+  flush = λ job g is there. shows.flush job g is there;
+}
+
+module _ {D F : Type 0} (d : disk.Ghosts D F) (f : file.Ghosts F) where
+  -- What a call of the engine left that answered a fault.
+  pub record Faulted (old : Store D F f) (engine : Engine D F f) (number : ℕ) (act : Act) (fault : EngineFault) : Type 0 where
+    pub tells : (m : State) (c : Course) → HoldsNow d f (engine_of old) (now_of old) m c → IfSome (reply_of_fault fault) (IsReplyTo m act)
+    pub leaves : (m : State) (c : Course) → HoldsNow d f (engine_of old) (now_of old) m c → is_disk_fault fault ≡ true → LeavesOutcomes d f (after m number act Fault) (course_after m number c act Fault) (held engine)
+    pub moments : (m : State) (c : Course) → HoldsNow d f (engine_of old) (now_of old) m c → RanUnder d f m c number act (engine_of old) engine
+    pub refused : is_disk_fault fault ≡ false → HoldsAsBefore d f (engine_of old) engine
+    pub untouched : is_disk_fault fault ≡ false → held engine ≡ held (engine_of old)
+    pub running : is_disk_fault fault ≡ false → IsRunning engine
+    pub one : IsOneFolder d f (engine_of old) → IsOneFolder d f engine
+    pub counted : IsCause (is_disk_fault fault) (engine_faults d f (engine_of old)) (engine_faults d f engine)
+
+  module _ (last : IsNowLast d f) (old new : Store D F f) (engine : Engine D F f) (number : ℕ) (act : Act) (works : old.halted ≡ None) (ready : IsReady d f old) where
+    -- a refusal keeps what the store held
+    refused_keeps : (fault : EngineFault) → is_disk_fault fault ≡ false → Faulted old engine number act fault → new ≡ record old { engine = engine } → Keeps d f old new
+    refused_keeps fault no faulted is =
+        let before = faulted.refused no in
+        let goes = goes_on_of d f old works ready in
+        subst (λ (s : Store D F f). Keeps d f old s) (sym is) (record {
+          flush = refl;
+          holds = λ m c h. since_live d f old.halted engine (now_of old) m c works (before.holds (now_of old) m c (live_of d f old m c works h));
+          moments = λ m c n a h. rests_under d f last old engine m c n a h (faulted.untouched no);
+          ready = record {
+            goes_on = goes_on_live d f old.halted engine (now_of old) works (faulted.running no) (before.current (now_of old) goes.1);
+            one = faulted.one ready.one;
+            families = ready.families;
+            few = ready.few;
+          };
+          names = refl;
+          faults = subst (λ (b : Bool). IsCause b (engine_faults d f (engine_of old)) (engine_faults d f engine)) no faulted.counted;
+        })
+
+    -- the disk failed
+    failed_acted : Faulted old engine number act faults.DiskFault → ((m : State) → without_job m act ≡ m) → new ≡ record old { engine = engine; halted = Some number } → IsActed d f old new number act Fault
+    failed_acted faulted job is = subst (λ (s : Store D F f). IsActed d f old s number act Fault) (sym is) (record {
+      legal = λ m c h. faulted.tells m c (live_of d f old m c works h);
+      flush = λ m c h. ap (λ (n : State). n.flush) (job m) ∙ h.flush;
+      holds = λ m c h.
+          let live = live_of d f old m c works h in
+          let halted : HoldsHalted d f number engine (now_of old) (after m number act Fault) (course_after m number c act Fault) = record {
+            halted = refl;
+            shows = subst (λ (n : State). IsNow (now_of old) (record n { halted = Some number })) (sym (job m)) (now_halted (now_of old) m number (store_shows d f old m c h));
+            sound = sound_after m number act Fault (store_sound d f old m c h) (faulted.tells m c live);
+            leaves = faulted.leaves m c live refl;
+          } in
+          halted;
+      moments = λ m c h. faulted.moments m c (live_of d f old m c works h);
+      ready = record { goes_on = tt; one = faulted.one ready.one; families = ready.families; few = ready.few };
+      names = refl;
+      counted = faulted.counted;
+      given = refl;
+    })
+
+    module _ (event : Event) (asks : Asks old.names.items event act) (may : IsRefusable event act) where
+      pub fault_step : (fault : EngineFault) → Faulted old engine number act fault → new ≡ record old { engine = engine; halted = halted_behind old.halted number fault } → IsStep d f old new number event (told_of_fault fault)
+      fault_step faults.DiskFault faulted is = acted_step d f old new number event act Fault asks may.own refl (λ keeps. ap (λ (s : Store D F f). s.flush) is) (failed_acted faulted may.job is)
+      fault_step faults.NoMemory faulted is = want_step d f old new number event act asks may.own (refused_keeps faults.NoMemory refl faulted is) (may.still faults.NoMemory refl) may.takes may.runs
+      fault_step fault faulted is =
+          still_step d f old new number event act asks may.own (refused_keeps fault refl faulted is) (told_of_fault fault) (may.still fault refl) (λ before now e. e) refl refl
+          (λ m c h. faulted.tells m c (live_of d f old m c works h))

@@ -1,0 +1,114 @@
+-- From what a store did by numbers to the step of an event.
+use Rattle.std.proofs.Common.{◌≡◌, ℕ, Bool, false, true, List, Option, Some, None, refl, sym, ap, ◌∙◌, subst}
+use Rattle.std.specs.Prelude.{IsTrue, option_map}
+use Rattle.udt_disk.specs.declared.file.DiskFile as file
+use Rattle.udt_disk.specs.declared.disk.Disk as disk
+use Rattle.udt_model.specs.declared.event.Event.{Event}
+use Rattle.udt_model.specs.declared.reply.Reply.{Reply}
+use Rattle.udt_model.specs.declared.reply.Reply.TheVariants.{NoMemory}
+use Rattle.udt_model.specs.Acts.{Act}
+use Rattle.udt_model.specs.Crashes.{Course, course_after}
+use Rattle.udt_model.specs.Lines.{is_read, steps_with, takes_memory}
+use Rattle.udt_model.specs.State.{Flush, State}
+use Rattle.udt_model.specs.Steps.{IsReplyTo, after, is_running}
+use Rattle.engine_laws.specs.Joints.{IsNowLast}
+use Rattle.store_engine.specs.Calls.{RanUnder}
+use Rattle.solo_store.specs.Acting.{course_behind_event, state_behind}
+use Rattle.solo_store.specs.Replies.{is_given}
+use Rattle.solo_store.specs.Steps.{IsReplyCause, IsStep, RanUnderEvent, keeps_flush}
+use Rattle.solo_store.specs.Stores.{HoldsSince, HoldsStore, IsReady, engine_of, job_of, now_of, store_faults}
+use Rattle.solo_store.specs.declared.store.RunningFlush.{RunningFlush}
+use Rattle.solo_store.specs.declared.store.Store.{Store}
+use Rattle.solo_store.proofs.Asking.{Asks, course_told, course_wanted, legal_told, legal_want, state_told, state_want}
+use Rattle.solo_store.proofs.Behind.{after_still, course_still, is_own, is_still, names_after, snaps_after}
+use Rattle.solo_store.proofs.Holding.{rests_under}
+
+module _ {D F : Type 0} (d : disk.Ghosts D F) (f : file.Ghosts F) where
+  -- The act of this number was made, with a reply of the model's.
+  pub record IsActed (old new : Store D F f) (number : ℕ) (act : Act) (reply : Reply) : Type 0 where
+    pub legal : (m : State) (c : Course) → HoldsStore d f old m c → IsReplyTo m act reply
+    pub flush : (m : State) (c : Course) → HoldsStore d f old m c → (after m number act reply).flush ≡ option_map job_of new.flush
+    pub holds : (m : State) (c : Course) → HoldsStore d f old m c → HoldsSince d f new.halted (engine_of new) (now_of new) (after m number act reply) (course_after m number c act reply)
+    pub moments : (m : State) (c : Course) → HoldsStore d f old m c → RanUnder d f m c number act (engine_of old) (engine_of new)
+    pub ready : IsReady d f new
+    pub names : new.names.items ≡ old.names.items
+    pub counted : IsReplyCause reply (store_faults d f old) (store_faults d f new)
+    pub given : IsTrue (is_given reply)
+
+  pub acted_step : (old new : Store D F f) (number : ℕ) (event : Event) (act : Act) (reply : Reply) → Asks old.names.items event act → IsTrue (is_own act) → IsTrue (steps_with (is_read event) reply)
+      → (IsTrue (keeps_flush event) → new.flush ≡ old.flush) → IsActed old new number act reply → IsStep d f old new number event reply
+  acted_step old new number event act reply asks own steps flush acted = record {
+    legal = λ m c h. legal_told old.names.items event act asks m h.names reply (acted.legal m c h);
+    holds = λ m c h.
+        let store : HoldsStore d f new (after m number act reply) (course_after m number c act reply) = record {
+          names = acted.names ∙ (h.names ∙ sym (names_after m number act reply));
+          flush = acted.flush m c h;
+          snaps = snaps_after m number act reply own ∙ h.snaps;
+          holds = acted.holds m c h;
+        } in
+        subst (λ (n : State). HoldsStore d f new n (course_behind_event m number c event reply)) (sym (state_told old.names.items event act asks m h.names number reply steps))
+        (subst (λ (k : Course). HoldsStore d f new (after m number act reply) k) (sym (course_told old.names.items event act asks m h.names number c reply)) store);
+    moments = λ m c h. subst (λ (o : Option Act). RanUnderEvent d f m c number o (engine_of old) (engine_of new)) (sym (asks.bound m h.names)) (acted.moments m c h);
+    ready = acted.ready;
+    names = acted.names;
+    flush = flush;
+    counted = acted.counted;
+    given = acted.given;
+  }
+
+  -- The store holds what it held, and nothing was changed on the disk.
+  pub record Keeps (old new : Store D F f) : Type 0 where
+    pub flush : new.flush ≡ old.flush
+    pub holds : (m : State) (c : Course) → HoldsStore d f old m c → HoldsSince d f new.halted (engine_of new) (now_of new) m c
+    pub moments : (m : State) (c : Course) (number : ℕ) (act : Act) → HoldsStore d f old m c → RanUnder d f m c number act (engine_of old) (engine_of new)
+    pub ready : IsReady d f new
+    pub names : new.names.items ≡ old.names.items
+    pub faults : store_faults d f new ≡ store_faults d f old
+
+  pub keeps_itself : IsNowLast d f → (store : Store D F f) → IsReady d f store → Keeps store store
+  keeps_itself last store ready = record {
+    flush = refl;
+    holds = λ m c h. h.holds;
+    moments = λ m c number act h. rests_under d f last store (engine_of store) m c number act h refl;
+    ready = ready;
+    names = refl;
+    faults = refl;
+  }
+
+  module _ (old new : Store D F f) (number : ℕ) (event : Event) (act : Act) (asks : Asks old.names.items event act) (own : IsTrue (is_own act)) (keeps : Keeps old new) where
+    -- a reply that changes nothing
+    pub still_step : (reply : Reply) → IsTrue (is_still act reply) → ((before now : ℕ) → now ≡ before → IsReplyCause reply before now) → IsTrue (is_given reply) → IsTrue (steps_with (is_read event) reply)
+        → ((m : State) (c : Course) → HoldsStore d f old m c → IsReplyTo m act reply) → IsStep d f old new number event reply
+    still_step reply still counts given steps legal = acted_step old new number event act reply asks own steps (λ is. keeps.flush) (record {
+      legal = legal;
+      flush = λ m c h. ap (λ (n : State). n.flush) (after_still m number act reply still) ∙ (h.flush ∙ ap (option_map job_of) (sym keeps.flush));
+      holds = λ m c h.
+          subst (λ (n : State). HoldsSince d f new.halted (engine_of new) (now_of new) n (course_after m number c act reply)) (sym (after_still m number act reply still))
+          (subst (λ (k : Course). HoldsSince d f new.halted (engine_of new) (now_of new) m k) (sym (course_still m number c act reply still)) (keeps.holds m c h));
+      moments = λ m c h. keeps.moments m c number act h;
+      ready = keeps.ready;
+      names = keeps.names;
+      counted = counts (store_faults d f old) (store_faults d f new) keeps.faults;
+      given = given;
+    })
+
+    -- want of memory
+    pub want_step : IsTrue (is_still act NoMemory) → IsTrue (takes_memory event) → ((m : State) → IsTrue (is_running m act)) → IsStep d f old new number event NoMemory
+    want_step still takes runs = record {
+      legal = λ m c h. legal_want old.names.items event act asks m h.names (runs m) takes;
+      holds = λ m c h.
+          let store : HoldsStore d f new m c = record {
+            names = keeps.names ∙ h.names;
+            flush = h.flush ∙ ap (option_map job_of) (sym keeps.flush);
+            snaps = h.snaps;
+            holds = keeps.holds m c h;
+          } in
+          subst (λ (n : State). HoldsStore d f new n (course_behind_event m number c event NoMemory)) (sym (state_want old.names.items event act asks m h.names number still))
+          (subst (λ (k : Course). HoldsStore d f new m k) (sym (course_wanted old.names.items event act asks m h.names number c still)) store);
+      moments = λ m c h. subst (λ (o : Option Act). RanUnderEvent d f m c number o (engine_of old) (engine_of new)) (sym (asks.bound m h.names)) (keeps.moments m c number act h);
+      ready = keeps.ready;
+      names = keeps.names;
+      flush = λ is. keeps.flush;
+      counted = keeps.faults;
+      given = refl;
+    }
