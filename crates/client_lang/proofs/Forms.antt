@@ -1,5 +1,5 @@
 -- Reading commands of one form by their verbs.
-use Rattle.std.proofs.Common.{◌≡◌, ℕ, ◌-◌, ◌≤◌, List, [], ◌∷◌, length, map, take, drop, get_or, Option, Some, None, Result, Ok, Err, refl, sym, ap, subst, ◌∙◌, arith}
+use Rattle.std.proofs.Common.{◌≡◌, ℕ, ◌-◌, ◌≤◌, List, [], ◌∷◌, length, map, take, drop, get_or, Option, Some, None, Result, refl, sym, ap, subst, ◌∙◌, arith}
 use Rattle.std.specs.Prelude.{codes, IfOk}
 use Rattle.std.specs.List.{AllZip}
 use Rattle.std.proofs.lemmas.List.{take_all}
@@ -23,11 +23,18 @@ use Rattle.client_lang.proofs.Values.{num}
 -- ---- the verb
 
 -- the first word, and those behind it
-pub words_of_verb : {W : Type 0} (now : W → List ℕ) (ws : List W) (d : W) → 1 ≤ length ws → map now ws ≡ now (get_or ws 0 d) ∷ map now (take (length ws - 1) (drop 1 ws))
+words_of_verb : {W : Type 0} (now : W → List ℕ) (ws : List W) (d : W) → 1 ≤ length ws → map now ws ≡ now (get_or ws 0 d) ∷ map now (take (length ws - 1) (drop 1 ws))
 words_of_verb now [] d some = absurd (omega arith)
 words_of_verb now (w ∷ ws) d some =
     let all : take (length (w ∷ ws) - 1) ws ≡ ws = take_all (length (w ∷ ws) - 1) ws (omega arith) in
     rw all refl
+
+-- what the words behind a verb ask for, the words ask for
+pub plain_behind : {W E : Type 0} (now : W → List ℕ) (ws : List W) (d : W) (verb : Verb) (r : Result (Option Command) E) → 1 ≤ length ws → now (get_or ws 0 d) ≡ verb_word verb
+    → IfOk r (Reads (IsPlainCommand (verb_word verb ∷ map now (take (length ws - 1) (drop 1 ws))))) → IfOk r (Reads (IsPlainCommand (map now ws)))
+plain_behind now ws d verb r some first h =
+    let is : verb_word verb ∷ map now (take (length ws - 1) (drop 1 ws)) ≡ map now ws = ap (λ (w : List ℕ). w ∷ map now (take (length ws - 1) (drop 1 ws))) (sym first) ∙ sym (words_of_verb now ws d some) in
+    subst (λ (x : List (List ℕ)). IfOk r (Reads (IsPlainCommand x))) is h
 
 -- a word that is none of the verbs
 pub no_verb : (word : List ℕ) → (word ≡ codes "get" → ⊥) → (word ≡ codes "raise" → ⊥) → (word ≡ codes "floor" → ⊥) → (word ≡ codes "flush" → ⊥) → (word ≡ codes "sync" → ⊥) → (verb : Verb) → word ≡ verb_word verb → ⊥
@@ -50,8 +57,12 @@ command_verb : (word : List ℕ) (ws : List (List ℕ)) (command : Command) → 
 command_verb word ws (commands.Line event) h = event_verb word ws event h
 command_verb word ws (commands.Flush family) h = (verbs.Flush, h.0)
 
-pub no_plain : (word : List ℕ) (ws : List (List ℕ)) → ((verb : Verb) → word ≡ verb_word verb → ⊥) → (command : Command) → IsPlainCommand (word ∷ ws) command → ⊥
+no_plain : (word : List ℕ) (ws : List (List ℕ)) → ((verb : Verb) → word ≡ verb_word verb → ⊥) → (command : Command) → IsPlainCommand (word ∷ ws) command → ⊥
 no_plain word ws none command h = let v = command_verb word ws command h in none v.0 v.1
+
+pub no_verb_first : {W : Type 0} (now : W → List ℕ) (ws : List W) (d : W) → 1 ≤ length ws → ((verb : Verb) → now (get_or ws 0 d) ≡ verb_word verb → ⊥) → (command : Command) → IsPlainCommand (map now ws) command → ⊥
+no_verb_first now [] d some none command h = absurd (omega arith)
+no_verb_first now (w ∷ ws) d some none command h = no_plain (now w) (map now ws) none command h
 
 event_some : (event : Event) → IsPlainCommand [] (commands.Line event) → ⊥
 event_some (events.Get family key t None) h = h
@@ -142,16 +153,16 @@ no_get_target family key number none command h =
     none (record { family = family; key = unspell key; ts = record { 0 = num number } }) (record { family_is = p.0; key_is = p.1.0; number_is = p.1.1.0 })
 
 pub raises : (family number name : List ℕ) (t : ℕ) → IsName family name → IsNumber number t → IsPlainCommand (codes "raise" ∷ family ∷ number ∷ []) (commands.Line (events.Raise name (record { 0 = t })))
-raises family number name t p q = (refl, p, q, tt)
+raises family number name t p q = (refl, (p, (q, tt)))
 
 pub asks_floor : (family name : List ℕ) → IsName family name → IsPlainCommand (codes "floor" ∷ family ∷ []) (commands.Line (events.Floor name))
-asks_floor family name p = (refl, p, tt)
+asks_floor family name p = (refl, (p, tt))
 
 pub flushes : (family name : List ℕ) → IsName family name → IsPlainCommand (codes "flush" ∷ family ∷ []) (commands.Flush name)
-flushes family name p = (refl, p, tt)
+flushes family name p = (refl, (p, tt))
 
 pub gets : (family key number : List ℕ) (p : Target) → IsTarget family key number p → IsPlainCommand (codes "get" ∷ family ∷ key ∷ number ∷ []) (commands.Line (events.Get p.family p.key p.ts None))
-gets family key number p is = (refl, is.family_is, is.key_is, is.number_is, tt)
+gets family key number p is = (refl, (is.family_is, (is.key_is, (is.number_is, tt))))
 
 pub syncs : (ws : List (List ℕ)) → length ws ≡ 0 → IsPlainCommand (codes "sync" ∷ ws) (commands.Line events.Sync)
 syncs [] e = (refl, tt)

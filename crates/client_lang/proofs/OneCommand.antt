@@ -1,5 +1,5 @@
 -- Words are one command at most, and a command is one that is built.
-use Rattle.std.proofs.Common.{◌≡◌, ℕ, ◌<◌, ◌≤◌, Bool, List, [], ◌∷◌, ◌++◌, length, take, map, get_or, Option, Some, None, Result, Ok, Err, refl, sym, ap, subst, ◌∙◌, append_assoc, inl, inr, arith}
+use Rattle.std.proofs.Common.{◌≡◌, ℕ, ◌<◌, ◌≤◌, Bool, List, [], ◌∷◌, ◌++◌, length, take, get_or, Option, Some, None, Result, Ok, Err, refl, sym, ap, subst, ◌∙◌, append_assoc, inl, inr, arith}
 use Rattle.std.specs.Prelude.{◌⊎◌, codes, if◌then◌else◌, IfOk}
 use Rattle.std.specs.Str.{bytes_eq}
 use Rattle.std.specs.List.{AllZip}
@@ -16,8 +16,8 @@ use Rattle.client_lang.specs.declared.command.Command.{Command}
 use Rattle.client_lang.specs.declared.command.Command.TheVariants as commands
 use Rattle.client_lang.specs.Parts.{Part}
 use Rattle.client_lang.specs.Parts.Part.{a_word, a_name, a_key, a_number}
-use Rattle.client_lang.specs.Print.{IsBuiltCommand, asked_parts, command_parts, sync_words}
-use Rattle.client_lang.specs.Grammar.{AreSpellings, IsCommand, IsName, IsOp, IsOpAt, IsSpelling, IsWrite, Reads, with_semicolons}
+use Rattle.client_lang.specs.Print.{IsBuiltCommand, asked_parts, sync_words}
+use Rattle.client_lang.specs.Grammar.{AreSpellings, IsCommand, IsOp, IsOpAt, IsSpelling, IsWrite, Reads, with_semicolons}
 use Rattle.client_lang.specs.Readers.{IsPlainCommand, IsWriteCommand}
 use Rattle.client_lang.proofs.Operations.{Ops, listed, ops_once, ops_short}
 use Rattle.client_lang.proofs.OneOperation.{at_ts, op_clear}

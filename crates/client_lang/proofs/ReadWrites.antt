@@ -2,18 +2,18 @@
 use Rattle.std.proofs.Common.{◌≡◌, ℕ, zero, suc, ◌+◌, ◌<◌, ◌≤◌, Bool, true, false, List, [], ◌∷◌, ◌++◌, length, take, drop, map, refl, sym, ap, subst, ◌∙◌, inl, inr, arith, append_assoc, length-append, length-drop}
 use Rattle.std.specs.Prelude.{codes}
 use Rattle.std.proofs.lemmas.List.{length_push, drop-drop}
-use Rattle.udt_model.specs.declared.event.Event.{Event}
 use Rattle.udt_model.specs.declared.event.NamedOp.{NamedOp}
 use Rattle.udt_model.specs.declared.event.Event.TheVariants.{Write}
+use Rattle.client_lang.specs.declared.command.Command.{Command}
+use Rattle.client_lang.specs.declared.command.Command.TheVariants.{Line}
 use Rattle.client_lang.specs.Grammar.{IsOp}
-use Rattle.client_lang.specs.Readers.{IsWriteEvent, op_length}
-use Rattle.client_lang.specs.Readers.{IsFirstOp, IsTail}
+use Rattle.client_lang.specs.Readers.{IsFirstOp, IsTail, IsWriteCommand, op_length}
 use Rattle.client_lang.specs.declared.grammar.commands.Step.{Step}
 use Rattle.client_lang.specs.declared.grammar.commands.Tail.{Tail}
 use Rattle.client_lang.specs.declared.grammar.commands.Tail.TheVariants as tails
 use Rattle.client_lang.proofs.Operations.{Ops, Behind, ops_first, ops_from, end_behind, sync_behind, more_behind, at_more, behind_cases}
 use Rattle.client_lang.proofs.OneOperation.{op_clear}
-use Rattle.client_lang.proofs.OneEvent.{ops_of, write_of, write_cases}
+use Rattle.client_lang.proofs.OneCommand.{ops_of, write_of, write_cases}
 
 -- what is left of the words, where the operations done were read
 pub record Left (words : List (List ℕ)) (done : List NamedOp) (rest : List (List ℕ)) : Type 0 where
@@ -57,24 +57,24 @@ left_more words done rest next o l p e = record {
 -- ---- the end
 
 done_at : (words : List (List ℕ)) (done : List NamedOp) (rest : List (List ℕ)) (o : NamedOp) (sync : Bool) → length done < 64 → Left words done rest → IsOp (front_of rest) o → Behind IsOp (behind_of rest) [] sync
-    → IsWriteEvent words (Write (done ++ o ∷ []) sync)
+    → IsWriteCommand words (Line (Write (done ++ o ∷ []) sync))
 done_at words done rest o sync few l p behind =
     let all = l.back (o ∷ []) sync (ops_from IsOp rest (op_length rest) o [] sync p behind) in
     let size = length_push done o in
     write_of words (done ++ o ∷ []) sync (omega arith) all
 
-pub done_end : (words : List (List ℕ)) (done : List NamedOp) (rest : List (List ℕ)) (o : NamedOp) → length done < 64 → Left words done rest → IsOp (front_of rest) o → behind_of rest ≡ [] → IsWriteEvent words (Write (done ++ o ∷ []) false)
+pub done_end : (words : List (List ℕ)) (done : List NamedOp) (rest : List (List ℕ)) (o : NamedOp) → length done < 64 → Left words done rest → IsOp (front_of rest) o → behind_of rest ≡ [] → IsWriteCommand words (Line (Write (done ++ o ∷ []) false))
 done_end words done rest o few l p e = done_at words done rest o false few l p (subst (λ (ws : List (List ℕ)). Behind IsOp ws [] false) (sym e) (end_behind IsOp))
 
-pub done_sync : (words : List (List ℕ)) (done : List NamedOp) (rest : List (List ℕ)) (o : NamedOp) → length done < 64 → Left words done rest → IsOp (front_of rest) o → behind_of rest ≡ codes "sync" ∷ [] → IsWriteEvent words (Write (done ++ o ∷ []) true)
+pub done_sync : (words : List (List ℕ)) (done : List NamedOp) (rest : List (List ℕ)) (o : NamedOp) → length done < 64 → Left words done rest → IsOp (front_of rest) o → behind_of rest ≡ codes "sync" ∷ [] → IsWriteCommand words (Line (Write (done ++ o ∷ []) true))
 done_sync words done rest o few l p e = done_at words done rest o true few l p (subst (λ (ws : List (List ℕ)). Behind IsOp ws [] true) (sym e) (sync_behind IsOp))
 
 -- ---- no write
 
 -- there are more operations than a write has
-pub none_past : (words : List (List ℕ)) (done : List NamedOp) (rest : List (List ℕ)) → 64 ≤ length done → Left words done rest → (event : Event) → IsWriteEvent words event → ⊥
-none_past words done rest many l event h =
-    let w = write_cases words event h in
+pub none_past : (words : List (List ℕ)) (done : List NamedOp) (rest : List (List ℕ)) → 64 ≤ length done → Left words done rest → (command : Command) → IsWriteCommand words command → ⊥
+none_past words done rest many l command h =
+    let w = write_cases words command h in
     let here = l.on w.os w.sync (ops_of words w.os w.sync w.write) in
     let size = ap length here.1 ∙ length-append done here.0 in
     let few = w.write.few in
@@ -144,13 +144,13 @@ pub left_step : {W : Type 0} (now : W → List ℕ) (ws rest : List W) (done : L
 left_step now ws rest done at s e l h more = go_on (map now ws) done at s l (step_at now ws rest at s e h) more
 
 pub left_end : {W : Type 0} (now : W → List ℕ) (ws rest : List W) (done : List NamedOp) (at : ℕ) (s : Step) → rest ≡ drop at ws → LeftAt now ws done at → IsFirstOp (map now rest) s → s.tail ≡ tails.End → length done < 64
-    → IsWriteEvent (map now ws) (Write (done ++ s.op ∷ []) false)
+    → IsWriteCommand (map now ws) (Line (Write (done ++ s.op ∷ []) false))
 left_end now ws rest done at s e l h last few =
     let p = step_at now ws rest at s e h in
     done_end (map now ws) done (drop at (map now ws)) s.op few l p.op_is (subst (λ (x : Tail). IsTail (behind_of (drop at (map now ws))) x) last p.tail_is)
 
 pub left_sync : {W : Type 0} (now : W → List ℕ) (ws rest : List W) (done : List NamedOp) (at : ℕ) (s : Step) → rest ≡ drop at ws → LeftAt now ws done at → IsFirstOp (map now rest) s → s.tail ≡ tails.Sync → length done < 64
-    → IsWriteEvent (map now ws) (Write (done ++ s.op ∷ []) true)
+    → IsWriteCommand (map now ws) (Line (Write (done ++ s.op ∷ []) true))
 left_sync now ws rest done at s e l h last few =
     let p = step_at now ws rest at s e h in
     done_sync (map now ws) done (drop at (map now ws)) s.op few l p.op_is (subst (λ (x : Tail). IsTail (behind_of (drop at (map now ws))) x) last p.tail_is)
@@ -164,9 +164,9 @@ tail_found R words os sync b =
     ]
 
 -- the words left have no step
-pub left_none : {W : Type 0} (now : W → List ℕ) (ws rest : List W) (done : List NamedOp) (at : ℕ) → rest ≡ drop at ws → LeftAt now ws done at → ((s : Step) → IsFirstOp (map now rest) s → ⊥) → (event : Event) → IsWriteEvent (map now ws) event → ⊥
-left_none now ws rest done at e l none event h =
-    let w = write_cases (map now ws) event h in
+pub left_none : {W : Type 0} (now : W → List ℕ) (ws rest : List W) (done : List NamedOp) (at : ℕ) → rest ≡ drop at ws → LeftAt now ws done at → ((s : Step) → IsFirstOp (map now rest) s → ⊥) → (command : Command) → IsWriteCommand (map now ws) command → ⊥
+left_none now ws rest done at e l none command h =
+    let w = write_cases (map now ws) command h in
     let here = l.on w.os w.sync (ops_of (map now ws) w.os w.sync w.write) in
     let words : List (List ℕ) = drop at (map now ws) in
     let f = ops_first IsOp op_clear words here.0 w.sync here.2 in

@@ -1,6 +1,6 @@
 -- What a word stands for, found from the word.
-use Rattle.std.proofs.Common.{◌≡◌, ℕ, suc, ◌+◌, true, false, List, [], ◌∷◌, get_or, Option, Some, None, refl, sym, ap, subst, ◌∙◌, inl, inr, arith}
-use Rattle.std.specs.Prelude.{codes, if◌then◌else◌, IsTrue}
+use Rattle.std.proofs.Common.{◌≡◌, ℕ, suc, ◌+◌, Bool, true, false, List, [], ◌∷◌, get_or, Option, Some, None, refl, sym, ap, subst, ◌∙◌, inl, inr, arith}
+use Rattle.std.specs.Prelude.{codes, if◌then◌else◌}
 use Rattle.std.specs.Str.{bytes_eq}
 use Rattle.std.specs.Fmt.{decimal}
 use Rattle.std.specs.List.{AllZip}
@@ -97,7 +97,9 @@ values_from words (w ∷ ws) k (p ∷ ps) at h =
     )
 
 pub values : (words : List (List ℕ)) (ps : List Part) → AllZip IsSpelling words ps → ValuesFrom words 0 ps
-values words ps h = values_from words words 0 ps (λ i. refl) h
+values words ps h =
+    let start : (i : ℕ) → i ≡ 0 + i = λ i. omega arith in
+    values_from words words 0 ps (λ i. ap (λ (n : ℕ). get_or words n []) (start i)) h
 
 -- ---- options
 

@@ -356,7 +356,12 @@ fn push_start<'a>(out: &mut Vec<u8>, job: &'a [u8], family: &'a Name) -> Result<
 }
 
 /// Adds the words of the end of a job that the event `start` started.
-fn push_end<'a>(out: &mut Vec<u8>, job: &'a [u8], family: &'a Name, start: u64) -> Result<(), NoMemory>
+fn push_end<'a>(
+    out: &mut Vec<u8>,
+    job: &'a [u8],
+    family: &'a Name,
+    start: u64,
+) -> Result<(), NoMemory>
     ensures { Pushes out.old out.new result (followed (job.now ∷ family.now ∷ codes "end" ∷ decimal start ∷ [])) }
 {
     push_followed(

@@ -57,7 +57,11 @@ fn raises(rt: &(impl AllocGlobal + Abort), reply: Reply, text: &[u8]) -> Result<
 #[test]
 fn floors(rt: HostRuntime) -> Result<(), Fail> {
     raises(&rt, Reply::Done, b"4 c1 raise d 8 = ok\n")?;
-    raises(&rt, Reply::Floor { floor: Ts(9) }, b"4 c1 raise d 8 = floor 9\n")?;
+    raises(
+        &rt,
+        Reply::Floor { floor: Ts(9) },
+        b"4 c1 raise d 8 = floor 9\n",
+    )?;
     raises(&rt, Reply::History, b"4 c1 raise d 8 = history\n")?;
     let family = Name::of(rt.alloc(), b"d")?;
     shows(
@@ -70,9 +74,17 @@ fn floors(rt: HostRuntime) -> Result<(), Fail> {
 
 #[test]
 fn starts_of_flushes(rt: HostRuntime) -> Result<(), Fail> {
-    starts(&rt, Reply::OkAt { number: 2 }, b"4 c1 flush d start = ok 2\n")?;
+    starts(
+        &rt,
+        Reply::OkAt { number: 2 },
+        b"4 c1 flush d start = ok 2\n",
+    )?;
     starts(&rt, Reply::Nothing, b"4 c1 flush d start = none\n")?;
-    starts(&rt, Reply::Busy { start: 2 }, b"4 c1 flush d start = busy 2\n")?;
+    starts(
+        &rt,
+        Reply::Busy { start: 2 },
+        b"4 c1 flush d start = busy 2\n",
+    )?;
     starts(
         &rt,
         Reply::Files { next: 1 << 63 },
@@ -88,8 +100,16 @@ fn ends_of_flushes(rt: HostRuntime) -> Result<(), Fail> {
         floor: Ts(0),
     };
     ends(&rt, made, b"4 c1 flush d end 3 = table 5 kept 1 floor 0\n")?;
-    ends(&rt, Reply::DroppedFault, b"4 c1 flush d end 3 = dropped fault\n")?;
-    ends(&rt, Reply::DroppedMemory, b"4 c1 flush d end 3 = dropped memory\n")?;
+    ends(
+        &rt,
+        Reply::DroppedFault,
+        b"4 c1 flush d end 3 = dropped fault\n",
+    )?;
+    ends(
+        &rt,
+        Reply::DroppedMemory,
+        b"4 c1 flush d end 3 = dropped memory\n",
+    )?;
     ends(
         &rt,
         Reply::DroppedFiles { next: 7 },

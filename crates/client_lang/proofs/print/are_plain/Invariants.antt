@@ -1,6 +1,6 @@
 use Rattle.std.proofs.Common.{◌≡◌, take}
 use Rattle.std.specs.List.{list_all}
-use Rattle.client_lang.specs.Print.{is_plain_byte}
+use Rattle.client_lang.specs.Spells.{is_plain_byte}
 use Rattle.client_lang.proofs.print.are_plain.Given as goal
 
 abbrev pub invariant-loop-b : goal.invariant-loop-b

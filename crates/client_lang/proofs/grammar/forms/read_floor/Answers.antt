@@ -1,4 +1,4 @@
-use Rattle.std.proofs.Common.{◌≡◌, List, ℕ, length, arith, rules, tests}
+use Rattle.std.proofs.Common.{◌≡◌, ◌∷◌, List, ℕ, length, arith, rules, tests}
 use Rattle.std.specs.Prelude.{codes}
 use Rattle.udt_model.specs.declared.event.Event.TheVariants as events
 use Rattle.client_lang.specs.declared.command.Command.TheVariants as commands
@@ -15,9 +15,9 @@ returns-in_default c = λ command h.
     h
 
 pub returns-in-None : goal.returns-in-None
-returns-in-None c = by_one (λ w. w.now) (IsNone verbs.Floor) _ c.args.behind.now (omega arith) (no_floor_family _ (rw c.in-None.is at c.in_ok-read_name.ensures))
+returns-in-None c = by_one (λ w. w.now) (IsNone verbs.Floor) _ c.args.behind.now (omega arith) (no_floor_family _ (rw c.in-None.is at c.in_ok-family.ensures))
 
 pub returns-in-Some : goal.returns-in-Some
 returns-in-Some c =
     by_one (λ w. w.now) (λ (ws : List (List ℕ)). IsPlainCommand (codes "floor" ∷ ws) (commands.Line (events.Floor c.in-Some.family))) _ c.args.behind.now (omega arith)
-    (asks_floor _ c.in-Some.family (rw c.in-Some.is at c.in_ok-read_name.ensures))
+    (asks_floor _ c.in-Some.family (rw c.in-Some.is at c.in_ok-family.ensures))

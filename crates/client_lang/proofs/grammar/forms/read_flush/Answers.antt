@@ -1,6 +1,5 @@
-use Rattle.std.proofs.Common.{◌≡◌, List, ℕ, length, arith, rules, tests}
+use Rattle.std.proofs.Common.{◌≡◌, ◌∷◌, List, ℕ, length, arith, rules, tests}
 use Rattle.std.specs.Prelude.{codes}
-use Rattle.udt_model.specs.declared.event.Event.TheVariants as events
 use Rattle.client_lang.specs.declared.command.Command.TheVariants as commands
 use Rattle.client_lang.specs.declared.grammar.forms.Verb.TheVariants as verbs
 use Rattle.client_lang.specs.Readers.{IsPlainCommand}
@@ -15,9 +14,9 @@ returns-in_default c = λ command h.
     h
 
 pub returns-in-None : goal.returns-in-None
-returns-in-None c = by_one (λ w. w.now) (IsNone verbs.Flush) _ c.args.behind.now (omega arith) (no_flush_family _ (rw c.in-None.is at c.in_ok-read_name.ensures))
+returns-in-None c = by_one (λ w. w.now) (IsNone verbs.Flush) _ c.args.behind.now (omega arith) (no_flush_family _ (rw c.in-None.is at c.in_ok-family.ensures))
 
 pub returns-in-Some : goal.returns-in-Some
 returns-in-Some c =
     by_one (λ w. w.now) (λ (ws : List (List ℕ)). IsPlainCommand (codes "flush" ∷ ws) (commands.Flush c.in-Some.family)) _ c.args.behind.now (omega arith)
-    (flushes _ c.in-Some.family (rw c.in-Some.is at c.in_ok-read_name.ensures))
+    (flushes _ c.in-Some.family (rw c.in-Some.is at c.in_ok-family.ensures))

@@ -1,5 +1,6 @@
-use Rattle.std.proofs.Common.{◌≡◌, List, ℕ, length, arith, rules, tests}
+use Rattle.std.proofs.Common.{◌≡◌, ◌∷◌, List, None, ℕ, length, arith, rules, tests}
 use Rattle.std.specs.Prelude.{codes}
+use Rattle.udt_model.specs.declared.event.Event.TheVariants as events
 use Rattle.client_lang.specs.declared.command.Command.TheVariants as commands
 use Rattle.client_lang.specs.declared.grammar.forms.Verb.TheVariants as verbs
 use Rattle.client_lang.specs.Readers.{IsPlainCommand}
@@ -14,10 +15,10 @@ returns-in_default c = λ command h.
     h
 
 pub returns-in-None : goal.returns-in-None
-returns-in-None c = by_three (λ w. w.now) (IsNone verbs.Get) _ c.args.behind.now (omega arith) (no_get_target _ _ _ (rw c.in-None.is at c.in_ok-read_target.ensures))
+returns-in-None c = by_three (λ w. w.now) (IsNone verbs.Get) _ c.args.behind.now (omega arith) (no_get_target _ _ _ (rw c.in-None.is at c.in_ok-target.ensures))
 
 pub returns-in-Some : goal.returns-in-Some
 returns-in-Some c =
     rw c.get.ensures
-    (by_three (λ w. w.now) (λ (ws : List (List ℕ)). IsPlainCommand (codes "get" ∷ ws) (commands.Line (c.get.result))) _ c.args.behind.now (omega arith)
-    (rw c.get.ensures (gets _ _ _ c.in-Some.target (rw c.in-Some.is at c.in_ok-read_target.ensures))))
+    (by_three (λ w. w.now) (λ (ws : List (List ℕ)). IsPlainCommand (codes "get" ∷ ws) (commands.Line (events.Get c.in-Some.target.family c.in-Some.target.key c.in-Some.target.ts None))) _ c.args.behind.now (omega arith)
+    (gets _ _ _ c.in-Some.target (rw c.in-Some.is at c.in_ok-target.ensures)))

@@ -1,4 +1,4 @@
-use Rattle.std.proofs.Common.{◌≡◌, List, ℕ, length, arith, rules, tests}
+use Rattle.std.proofs.Common.{◌≡◌, ◌∷◌, List, ℕ, length, arith, rules, tests}
 use Rattle.std.specs.Prelude.{codes}
 use Rattle.udt_model.specs.declared.event.Event.TheVariants as events
 use Rattle.client_lang.specs.declared.command.Command.TheVariants as commands
