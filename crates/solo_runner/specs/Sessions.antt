@@ -11,7 +11,7 @@ use Rattle.udt_model.specs.Histories.{IsSound, Leads, Point, start}
 use Rattle.udt_model.specs.Crashes.{Course, course_behind}
 use Rattle.client_lang.specs.declared.command.Command.{Command}
 use Rattle.client_lang.specs.Print.{IsBuiltLine}
-use Rattle.solo_store.specs.Stores.{HoldsStore, IsReady, store_faults}
+use Rattle.solo_store.specs.Stores.{HoldsStore, IsReady, flush_of, names_of, store_faults}
 use Rattle.solo_store.specs.declared.store.Store.{Store}
 use Rattle.solo_runner.specs.Expand.{AreAskedSoFar, IsAskedRun}
 use Rattle.solo_runner.specs.Marks.{no_mark}
@@ -28,18 +28,22 @@ module _ {D F : Type 0} (d : disk.Ghosts D F) (f : file.Ghosts F) where
     pub number_is : end.number ≡ last.number
     pub last_is : end.last (Client 1) ≡ last
     pub runner_is : end.last Runner ≡ no_mark
-    pub idle : end.state.flush ≡ None
     pub holds : HoldsStore d f new end.state (course_behind (start m) c lines)
 
-  -- client 1 has made these commands over a store
-  pub record HasRun (old new : Store D F f) (commands : List Command) (lines : List Line) (last : Mark) : Type 0 where
-    pub led : (m : State) (c : Course) → HoldsStore d f old m c → m.flush ≡ None → LedTo new m c lines last
-    pub asked : AreAskedSoFar commands lines
+  -- what lines leave of a store, whatever it held: the next event may be made, and no flush runs
+  pub record GoesOn (old new : Store D F f) (lines : List Line) : Type 0 where
     pub ready : IsReady d f new
-    pub names : new.names ≡ old.names
+    pub idle : flush_of new ≡ None
+    pub names : names_of new ≡ names_of old
     pub sound : AreSoundUnless (store_faults d f old) (store_faults d f new) lines
     pub later : store_faults d f old ≤ store_faults d f new
     pub printed : All IsBuiltLine lines
+
+  -- client 1 has made these commands over a store
+  pub record HasRun (old new : Store D F f) (commands : List Command) (lines : List Line) (last : Mark) : Type 0 where
+    pub led : (m : State) (c : Course) → HoldsStore d f old m c → LedTo new m c lines last
+    pub asked : AreAskedSoFar commands lines
+    pub goes_on : GoesOn old new lines
     pub count : last.number + last.sub ≤ length lines
     pub few : length lines ≤ 2 * length commands
 
@@ -47,15 +51,10 @@ module _ {D F : Type 0} (d : disk.Ghosts D F) (f : file.Ghosts F) where
   pub record EndsIn (new : Store D F f) (m : State) (c : Course) (lines : List Line) : Type 0 where
     pub end : Point
     pub legal : Leads (start m) lines end
-    pub idle : end.state.flush ≡ None
     pub holds : HoldsStore d f new end.state (course_behind (start m) c lines)
 
   -- client 1 has made these commands, and the runner its sync
   pub record HasSession (old new : Store D F f) (commands : List Command) (lines : List Line) : Type 0 where
-    pub ends : (m : State) (c : Course) → HoldsStore d f old m c → m.flush ≡ None → EndsIn new m c lines
+    pub ends : (m : State) (c : Course) → HoldsStore d f old m c → EndsIn new m c lines
     pub asked : IsAskedRun commands lines
-    pub ready : IsReady d f new
-    pub names : new.names ≡ old.names
-    pub sound : AreSoundUnless (store_faults d f old) (store_faults d f new) lines
-    pub later : store_faults d f old ≤ store_faults d f new
-    pub printed : All IsBuiltLine lines
+    pub goes_on : GoesOn old new lines

@@ -1,20 +1,19 @@
 //! One client over a store, and the runner behind it.
-ghost use Rattle.std.specs.Prelude.{◌≡◌, ℕ, List, None, ◌+◌, ◌*◌, ◌-◌, ◌^◌, ◌<◌, ◌≤◌, [], ◌∷◌, ◌++◌, All, length, vec_capacity};
-ghost use Rattle.udt_model.specs.declared.line.Line.{Line as Said};
+ghost use Rattle.std.specs.Prelude.{◌≡◌, ℕ, List, None, ◌+◌, ◌*◌, ◌-◌, ◌^◌, ◌<◌, ◌≤◌, [], ◌∷◌, ◌++◌, All, length, vec_capacity, vec_len};
 ghost use Rattle.client_lang.specs.declared.command.Command.{Command as Asked};
 ghost use Rattle.client_lang.specs.declared.command.Command.TheVariants as commands;
-ghost use Rattle.client_lang.specs.Print.{IsBuiltCommand, IsBuiltLine};
+ghost use Rattle.client_lang.specs.Print.{IsBuiltCommand};
 ghost use Rattle.client_lang.specs.Stamps.{IsStampedCommand, IsStampedEvent};
 ghost use Rattle.solo_store.specs.Steps.{IsStep};
-ghost use Rattle.solo_store.specs.Stores.{IsReady};
+ghost use Rattle.solo_store.specs.Stores.{IsReady, flush_of};
 ghost use Rattle.solo_store.specs.declared.store.Store.{Store as StoreOf};
-ghost use Rattle.solo_runner.specs.Marks.{mark_behind};
 ghost use Rattle.solo_runner.specs.Sessions.{HasRun, HasSession};
 
-use crate::lines::{add_line, line_of};
+use crate::lines::{add_line, line_of, say};
 use client_lang::Command;
 use solo_store::Store;
 use std::alloc::Global;
+use ts_key::Name;
 use udt_disk::Disk;
 use udt_model::{Event, Line, Mark, Reply, Who};
 
@@ -47,32 +46,42 @@ fn answer<D: Disk>(store: &mut Store<D>, alloc: Global, number: u64, event: &Eve
     }
 }
 
-/// Makes an event behind the step `number`, where the last line of its actor has the mark `last`, and tells its line.
-fn perform<D: Disk>(
+/// Makes a flush of client 1, whose last line has the mark `last`: its start, and its end where it started. Tells the mark of the last
+/// line. There is room for two.
+fn flush<D: Disk>(
     store: &mut Store<D>,
     alloc: Global,
-    who: Who,
-    number: u64,
+    family: Name,
     last: Mark,
-    event: Event,
-) -> Line
-    requires asked { IsBuiltCommand (commands.Line event) }
-    requires stamped { IsStampedEvent event }
+    lines: &mut Vec<Line>,
+) -> Mark
     requires ready { IsReady D.Disk D.File.DiskFile store.old }
-    requires number { number + 1 < 2 ^ 64 }
-    requires sub { last.sub + 1 < 2 ^ 32 }
-    ensures event { result.event ≡ event }
-    ensures who { result.who ≡ who }
-    ensures mark { result.mark ≡ mark_behind number last result.event result.reply }
-    ensures printed { IsBuiltLine result }
-    ensures step { IsStep D.Disk D.File.DiskFile store.old store.new (number + 1) result.event result.reply }
+    requires idle { flush_of store.old ≡ None }
+    requires number { last.number + 2 < 2 ^ 64 }
+    requires sub { last.sub + 2 < 2 ^ 32 }
+    requires room { vec_len lines.old + 2 ≤ vec_capacity lines.old }
+    ensures run { (first : StoreOf D D.File D.File.DiskFile) (before : List Asked) → HasRun D.Disk D.File.DiskFile first store.old before lines.old.items last
+        → HasRun D.Disk D.File.DiskFile first store.new (before ++ commands.Flush family ∷ []) lines.new.items result }
+    ensures room { vec_capacity lines.old ≤ vec_capacity lines.new }
 {
-    let reply = answer(store, alloc, number + 1, &event);
-    line_of(who, number, last, event, reply)
+    let Ok(copy) = family.copy() else {
+        return say(lines, last, Event::FlushStart { family }, Reply::NoMemory);
+    };
+    let reply = store.start_flush(alloc, last.number + 1, &family);
+    let starts = matches!(reply, Reply::OkAt { .. });
+    let start = say(lines, last, Event::FlushStart { family }, reply);
+    if !starts {
+        return start;
+    }
+    let reply = store.end_flush(alloc, start.number + 1, &copy, start.number);
+    let event = Event::FlushEnd {
+        family: copy,
+        start: start.number,
+    };
+    say(lines, start, event, reply)
 }
 
-/// Makes a command of client 1, whose last line has the mark `last`, and tells its lines and the mark of the last. There is room for
-/// them.
+/// Makes a command of client 1, whose last line has the mark `last`, and tells the mark of its last line. There is room for two.
 fn run_command<D: Disk>(
     store: &mut Store<D>,
     alloc: Global,
@@ -83,19 +92,18 @@ fn run_command<D: Disk>(
     requires built { IsBuiltCommand command }
     requires stamped { IsStampedCommand command }
     requires ready { IsReady D.Disk D.File.DiskFile store.old }
+    requires idle { flush_of store.old ≡ None }
     requires number { last.number + 2 < 2 ^ 64 }
     requires sub { last.sub + 2 < 2 ^ 32 }
-    requires room { length lines.old.items + 2 ≤ vec_capacity lines.old }
+    requires room { vec_len lines.old + 2 ≤ vec_capacity lines.old }
     ensures run { (first : StoreOf D D.File D.File.DiskFile) (before : List Asked) → HasRun D.Disk D.File.DiskFile first store.old before lines.old.items last
         → HasRun D.Disk D.File.DiskFile first store.new (before ++ command ∷ []) lines.new.items result }
     ensures room { vec_capacity lines.old ≤ vec_capacity lines.new }
 {
     match command {
         Command::Line(event) => {
-            let line = perform(store, alloc, Who::Client(1), last.number, last, event);
-            let mark = line.mark;
-            add_line(lines, line);
-            mark
+            let reply = answer(store, alloc, last.number + 1, &event);
+            say(lines, last, event, reply)
         }
         Command::Flush { family } => flush(store, alloc, family, last, lines),
     }
@@ -113,6 +121,7 @@ pub fn run<D: Disk>(
     requires stamped { All IsStampedCommand commands.items }
     requires few { 2 * length commands.items < 2 ^ 32 - 2 }
     requires ready { IsReady D.Disk D.File.DiskFile store.old }
+    requires idle { flush_of store.old ≡ None }
     requires empty { lines.items ≡ [] }
     requires room { 2 * length commands.items ≤ vec_capacity lines }
     ensures run { HasRun D.Disk D.File.DiskFile store.old store.new commands.items result.lines.items result.last }
@@ -136,13 +145,15 @@ pub fn run_and_sync<D: Disk>(
     requires stamped { All IsStampedCommand commands.items }
     requires few { 2 * length commands.items < 2 ^ 32 - 2 }
     requires ready { IsReady D.Disk D.File.DiskFile store.old }
+    requires idle { flush_of store.old ≡ None }
     requires empty { lines.items ≡ [] }
     requires room { 2 * length commands.items < vec_capacity lines }
     ensures { HasSession D.Disk D.File.DiskFile store.old store.new commands.items result.items }
 {
     let Ran { mut lines, last } = run(store, alloc, commands, lines);
+    let reply = store.sync(last.number + 1);
     let unseen = Mark { number: 0, sub: 0 };
-    let sync = perform(store, alloc, Who::Runner, last.number, unseen, Event::Sync);
-    add_line(&mut lines, sync);
+    let line = line_of(Who::Runner, last.number, unseen, Event::Sync, reply);
+    add_line(&mut lines, line);
     lines
 }

@@ -1,5 +1,5 @@
 -- What a store holds.
-use Rattle.std.specs.Prelude.{◌≡◌, ℕ, ◌≤◌, [], length, option_map, Option, Some, None, ⊤}
+use Rattle.std.specs.Prelude.{◌≡◌, ℕ, ◌≤◌, List, [], length, option_map, Option, Some, None, ⊤}
 use Rattle.std.specs.Arc.{arc_value}
 use Rattle.ts_key.specs.declared.limits.TheConstants.{FAMILY_LIMIT}
 use Rattle.udt_disk.specs.declared.file.DiskFile as file
@@ -24,6 +24,14 @@ job_of flush = record { start = flush.start; family = flush.family; through = fl
 module _ {D F : Type 0} {f : file.Ghosts F} where
   abbrev pub engine_of : Store D F f → Engine D F f
   engine_of store = store.engine
+
+  -- the names of its families, in order
+  abbrev pub names_of : Store D F f → List (List ℕ)
+  names_of store = store.names.items
+
+  -- the flush that runs
+  abbrev pub flush_of : Store D F f → Option RunningFlush
+  flush_of store = store.flush
 
   abbrev pub now_of : Store D F f → SuperVersion
   now_of store = arc_value store.now
