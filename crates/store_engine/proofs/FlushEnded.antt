@@ -106,29 +106,32 @@ module _ {D F : Type 0} (d : disk.Ghosts D F) (f : file.Ghosts F) (now_last : Is
   -- ---- the fault
 
   stopped_fault : (install : Install) (back : Engine D F f) (fault : EngineFault) → IsInstalled d f install back new (Err fault) → fault ≡ DiskFault
-  stopped_fault install back fault ran = elim ran [ inl synced ↦ synced.fault | inr r ↦ r.2.1.fault ]
+  stopped_fault install back fault ran = elim ran [ inl synced ↦ synced.fault | inr r ↦ r.2.fault ]
 
   pub ended_fault : {A : Type 0} (value : A → SuperVersion) (result : Result A EngineFault) → Ended value result → IfErr result (λ fault. (fault ≡ NoMemory) ⊎ (fault ≡ DiskFault))
-  ended_fault value (Ok next) run = tt
-  ended_fault value (Err fault) (refused edit mid fault kept given_back) = inl kept.fault
-  ended_fault value (Err fault) (stopped install mid back fault made kept given_back ran) = inr (stopped_fault install back fault ran)
+  ended_fault value result (ended install mid back next made kept given_back ran is) = tt
+  ended_fault value result (refused edit mid fault kept given_back) = inl kept.fault
+  ended_fault value result (stopped install mid back fault made kept given_back ran) = inr (stopped_fault install back fault ran)
 
   -- ---- what it shows
 
   pub ended_shown : {A : Type 0} (value : A → SuperVersion) (result : Result A EngineFault) → Ended value result → IfOk result (λ next. ChangesFamily family.0 (family_with_flush gone through floor (live_with number out.table)) now (value next))
-  ended_shown value (Err fault) run = tt
-  ended_shown value (Ok next) (ended install mid back next made kept given_back ran is) = subst (ChangesFamily family.0 (family_with_flush gone through floor (live_with number out.table)) now) (sym is) made.changes
+  ended_shown value result (refused edit mid fault kept given_back) = tt
+  ended_shown value result (stopped install mid back fault made kept given_back ran) = tt
+  ended_shown value result (ended install mid back next made kept given_back ran is) = subst (ChangesFamily family.0 (family_with_flush gone through floor (live_with number out.table)) now) (sym is) made.changes
 
   pub ended_current : {A : Type 0} (value : A → SuperVersion) (result : Result A EngineFault) → Ended value result → IfOk result (λ next. IsCurrent new (value next))
-  ended_current value (Err fault) run = tt
-  ended_current value (Ok next) (ended install mid back next made kept given_back (two, three, synced, edited, removed) is) =
+  ended_current value result (refused edit mid fault kept given_back) = tt
+  ended_current value result (stopped install mid back fault made kept given_back ran) = tt
+  ended_current value result (ended install mid back next made kept given_back (two, three, synced, edited, removed) is) =
       subst (IsCurrent new) (sym is)
       (installed_current d f now_last old mid back install.edit (Ok tt) number given kept given_back two three new synced edited install.gone.items (names_are install made) removed (edit_accepted install made) running.together.well may.name (others_live install made)
       now (arc_value install.next) (edit_fits install made) made.changes.last current)
 
   pub ended_installed : {A : Type 0} (value : A → SuperVersion) (result : Result A EngineFault) → Ended value result → IfOk result (λ next. IsFlushInstalled d f now family floor through number given old new (value next))
-  ended_installed value (Err fault) run = tt
-  ended_installed value (Ok next) (ended install mid back next made kept given_back (two, three, synced, edited, removed) is) =
+  ended_installed value result (refused edit mid fault kept given_back) = tt
+  ended_installed value result (stopped install mid back fault made kept given_back ran) = tt
+  ended_installed value result (ended install mid back next made kept given_back (two, three, synced, edited, removed) is) =
       subst (IsFlushInstalled d f now family floor through number given old new) (sym is) (record {
         count = made.count;
         are_gone = made.are_gone;
@@ -138,18 +141,18 @@ module _ {D F : Type 0} (d : disk.Ghosts D F) (f : file.Ghosts F) (now_last : Is
       })
 
   pub ended_called : {A : Type 0} (value : A → SuperVersion) (result : Result A EngineFault) → Ended value result → IsInstallCalled d f number given old new result
-  ended_called value (Err fault) (refused edit mid fault kept given_back) = refused_called d f now_last old mid new edit (Err fault) number given kept given_back fault kept.fault
-  ended_called value (Err fault) (stopped install mid back fault made kept given_back (inl synced)) = unsynced_called d f now_last old mid back install.edit (Ok tt) number given kept given_back new fault synced
-  ended_called value (Err fault) (stopped install mid back fault made kept given_back (inr (two, synced, edited))) = unedited_called d f now_last old mid back install.edit (Ok tt) number given kept given_back two new fault synced edited
-  ended_called value (Ok next) (ended install mid back next made kept given_back (two, three, synced, edited, removed) is) =
+  ended_called value result (refused edit mid fault kept given_back) = refused_called d f now_last old mid new edit (Err fault) number given kept given_back fault kept.fault
+  ended_called value result (stopped install mid back fault made kept given_back (inl synced)) = unsynced_called d f now_last old mid back install.edit (Ok tt) number given kept given_back new fault synced
+  ended_called value result (stopped install mid back fault made kept given_back (inr (two, synced, edited))) = unedited_called d f now_last old mid back install.edit (Ok tt) number given kept given_back two new fault synced edited
+  ended_called value result (ended install mid back next made kept given_back (two, three, synced, edited, removed) is) =
       installed_called d f now_last old mid back install.edit (Ok tt) number given kept given_back two three new synced edited install.gone.items (names_are install made) removed (edit_accepted install made) running.together.well may.name (others_live install made) next
 
   -- ---- a refused one
 
   pub ended_refused : {A : Type 0} (value : A → SuperVersion) (result : Result A EngineFault) → Ended value result → IfErr result (λ fault. is_disk_fault fault ≡ false → HoldsAsBefore d f old new)
-  ended_refused value (Ok next) run = tt
-  ended_refused value (Err fault) (refused edit mid fault kept given_back) not = back_before d f now_last old mid new edit (Err fault) given kept given_back number may.name may.unused
-  ended_refused value (Err fault) (stopped install mid back fault made kept given_back ran) not = absurd (false≢true (sym not ∙ disk_disk fault (stopped_fault install back fault ran)))
+  ended_refused value result (ended install mid back next made kept given_back ran is) = tt
+  ended_refused value result (refused edit mid fault kept given_back) not = back_before d f now_last old mid new edit (Err fault) given kept given_back number may.name may.unused
+  ended_refused value result (stopped install mid back fault made kept given_back ran) not = absurd (false≢true (sym not ∙ disk_disk fault (stopped_fault install back fault ran)))
 
   -- ---- the model's state
 
@@ -158,29 +161,30 @@ module _ {D F : Type 0} (d : disk.Ghosts D F) (f : file.Ghosts F) (now_last : Is
     reply = flush_end_reply now family number out
 
     pub ended_tells : {A : Type 0} (value : A → SuperVersion) (result : Result A EngineFault) → Ended value result → Tells m (flush_end family job.start) reply result
-    ended_tells value (Err fault) (refused edit mid fault kept given_back) = none_tells m (flush_end family job.start) fault kept.fault
-    ended_tells value (Err fault) (stopped install mid back fault made kept given_back ran) =
+    ended_tells value result (refused edit mid fault kept given_back) = none_tells m (flush_end family job.start) fault kept.fault
+    ended_tells value result (stopped install mid back fault made kept given_back ran) =
         disk_tells m (flush_end family job.start) fault (stopped_fault install back fault ran) (end_fails d f old now m c event job family gone through number given out h by may.unused state there.1)
-    ended_tells value (Ok next) run = end_told d f old now m c event job family gone through number given out h by may.unused state there.1
+    ended_tells value result (ended install mid back next made kept given_back ran is) = end_told d f old now m c event job family gone through number given out h by may.unused state there.1
 
     pub ended_now : {A : Type 0} (value : A → SuperVersion) (result : Result A EngineFault) → Ended value result
         → IfOk result (λ next. HoldsNow d f new (value next) (after_flush_end m event family job reply) (course_after_flush_end m event c family job reply))
-    ended_now value (Err fault) run = tt
-    ended_now value (Ok next) (ended install mid back next made kept given_back (two, three, synced, edited, removed) is) =
+    ended_now value result (refused edit mid fault kept given_back) = tt
+    ended_now value result (stopped install mid back fault made kept given_back ran) = tt
+    ended_now value result (ended install mid back next made kept given_back (two, three, synced, edited, removed) is) =
         subst (λ v. HoldsNow d f new v (after_flush_end m event family job reply) (course_after_flush_end m event c family job reply)) (sym is)
         (installed_now d f old now m c event job family gone through number given out h by may.unused state there.1 running current (arc_value install.next) install.edit made.count made.are_gone made.changes made.edit (some install made)
         now_last mid back kept given_back may.name two three new synced edited install.gone.items (names_are install made) removed)
 
     pub ended_ran : {A : Type 0} (value : A → SuperVersion) (result : Result A EngineFault) → Ended value result → RanUnder d f m c event (flush_end family job.start) old new
-    ended_ran value (Err fault) (refused edit mid fault kept given_back) =
+    ended_ran value result (refused edit mid fault kept given_back) =
         ran_more d f (λ folder. StandsForSome ReadsAsTable folder (IsOutcome m c)) (λ folder. StandsForSome ReadsAsTable folder (IsOutcomeUnder m c event (flush_end family job.start))) (λ folder o. (o.0, o.1, inl o.2)) (held old) (held new)
         (back_ran d f now_last old mid new edit (Err fault) given kept given_back number may.name may.unused m c h.says h.waiting h.holds h.engine_of)
-    ended_ran value (Err fault) (stopped install mid back fault made kept given_back (inl synced)) =
+    ended_ran value result (stopped install mid back fault made kept given_back (inl synced)) =
         synced_under d f old now m c event job family gone through number given out h by may.unused state there.1 running current (arc_value install.next) install.edit made.count made.are_gone made.changes made.edit (some install made)
         now_last mid back kept given_back may.name new (Err fault) synced
-    ended_ran value (Err fault) (stopped install mid back fault made kept given_back (inr (two, synced, edited))) =
+    ended_ran value result (stopped install mid back fault made kept given_back (inr (two, synced, edited))) =
         edited_under d f old now m c event job family gone through number given out h by may.unused state there.1 running current (arc_value install.next) install.edit made.count made.are_gone made.changes made.edit (some install made)
         now_last mid back kept given_back may.name two new synced (Err fault) edited
-    ended_ran value (Ok next) (ended install mid back next made kept given_back (two, three, synced, edited, removed) is) =
+    ended_ran value result (ended install mid back next made kept given_back (two, three, synced, edited, removed) is) =
         removed_under d f old now m c event job family gone through number given out h by may.unused state there.1 running current (arc_value install.next) install.edit made.count made.are_gone made.changes made.edit (some install made)
         now_last mid back kept given_back may.name two three new synced edited install.gone.items (names_are install made) removed

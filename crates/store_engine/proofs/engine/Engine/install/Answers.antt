@@ -1,4 +1,7 @@
-use Rattle.std.proofs.Common.{sym, subst, ap, inl, inr, refl}
+use Rattle.std.proofs.Common.{◌≤◌, sym, subst, inl, inr, refl}
+use Rattle.std.specs.Prelude.{Contains}
+use Rattle.udt_disk.specs.Touches.{Touches}
+use Rattle.store_engine.specs.Asides.{IsRemoval}
 use Rattle.manifest.specs.Manifest.{IsEditReserved, manifest_folded}
 use Rattle.manifest_fold.specs.Folds.{IsAccepted}
 use Rattle.store_engine.proofs.engine.Engine.install.Goals as goal
@@ -11,9 +14,12 @@ returns-in-Err-append_edit g c = inr (c.sync_log.new.self, c.in-Ok.ensures, c.in
 
 pub returns : goal.returns
 returns g c =
+    let d = g.D.Disk in
+    let before = c.append_edit.new.self.disk in
+    let now = c.remove_files.new.disk in
     (c.sync_log.new.self, c.append_edit.new.self, c.in-Ok.ensures, c.in-Ok-append_edit.ensures, record {
-      aside = record { wal = refl; manifest = refl; next = refl; older = refl; failed = refl; touches = c.remove_files.ensures.touches };
-      gone = c.remove_files.ensures.gone;
+      aside = record { wal = refl; manifest = refl; next = refl; older = refl; failed = refl; touches = subst (λ names. Touches d (Contains names) before now) c.deref.ensures c.remove_files.ensures.touches };
+      gone = subst (λ names. IsRemoval d names before now) c.deref.ensures c.remove_files.ensures.gone;
     })
 
 pub append_edit-requires-clause-accepted : goal.append_edit-requires-clause-accepted
@@ -29,4 +35,4 @@ pub append_edit-requires-clause-logs : goal.append_edit-requires-clause-logs
 append_edit-requires-clause-logs g c κs within = c.requires.logs
 
 pub append_edit-requires-clause-next : goal.append_edit-requires-clause-next
-append_edit-requires-clause-next g c κs within = ?
+append_edit-requires-clause-next g c κs within = subst (λ n. c.args.install.now.edit.next_file ≤ n) (sym c.in-Ok.ensures.next) c.requires.next

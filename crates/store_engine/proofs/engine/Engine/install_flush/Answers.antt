@@ -1,4 +1,4 @@
-use Rattle.std.proofs.Common.{subst}
+use Rattle.std.proofs.Common.{◌≤◌, subst, sym}
 use Rattle.std.specs.Arc.{arc_value}
 use Rattle.ts_key.specs.declared.numbers.Ts.{Ts}
 use Rattle.engine_laws.specs.Joints.{IsNowLast}
@@ -196,4 +196,4 @@ returns-clause-fault g c =
     ended_fault d f last self new now family gone through number given out c.requires.running c.requires.current c.requires.may arc_value c.end_flush.result run
 
 pub end_flush-requires-clause-floor : goal.end_flush-requires-clause-floor
-end_flush-requires-clause-floor g c = ?
+end_flush-requires-clause-floor g c κs within state here = subst (λ (floor : Ts). state.floor.0 ≤ floor.0) (sym c.floor_behind.ensures) (over_floor c.args.now.now c.args.family c.args.out.floor state here)

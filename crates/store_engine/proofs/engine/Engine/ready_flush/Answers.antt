@@ -1,5 +1,5 @@
 use Rattle.std.proofs.Common.{sym, subst, ap, refl, ◌∙◌}
 use Rattle.store_engine.proofs.engine.Engine.ready_flush.Goals as goal
 
-pub returns : goal.returns
-returns g c = ?
+pub nothing : goal.nothing
+nothing g c = ?
