@@ -92,14 +92,22 @@ const LEFT: [(&[Step], Outcome, Option<&[u8]>); 21] = [
     (&REMOVED, Outcome::Hostile, Some(b"abc")),
 ];
 
+/// Is this left of the file behind these steps?
+fn is_left(
+    alloc: Global,
+    steps: &[Step],
+    outcome: Outcome,
+    want: Option<&[u8]>,
+) -> Result<bool, Fail> {
+    let disk = crashed(alloc, steps, outcome)?;
+    Ok(disk.starved() == 0 && disk.contents(FileName::Current) == want)
+}
+
 #[test]
 fn crashes_leave_what_was_synced(rt: HostRuntime) -> Result<(), Fail> {
     for (steps, outcome, want) in LEFT {
-        let disk = crashed(rt.alloc(), steps, outcome)?;
-        assert!(rt;
-            disk.contents(FileName::Current) == want && disk.starved() == 0,
-            "{steps:?} {outcome:?}"
-        );
+        let is_left = is_left(rt.alloc(), steps, outcome, want)?;
+        assert!(rt; is_left, "{steps:?} {outcome:?}");
     }
     Ok(())
 }
@@ -182,30 +190,38 @@ fn ask_for_new_file<D: Disk>(disk: &mut D, name: FileName) -> Asked {
     }
 }
 
-/// Writes a file twice, syncs it and answers its length.
+/// Writes twice, syncs and answers the length.
+fn write_twice<F: DiskFile>(file: &mut F) -> Result<u64, Failed> {
+    file.write_at(0, b"abcd")?;
+    file.write_at(0, b"xy")?;
+    file.sync()?;
+    file.len()
+}
+
 fn write<D: Disk>(disk: &mut D, name: FileName) -> Result<u64, Failed> {
     let mut file = disk.create(name)?;
-    let first = file.write_at(0, b"abcd");
-    let second = file.write_at(0, b"xy");
-    let synced = file.sync();
-    let len = file.len();
+    let written = write_twice(&mut file);
     disk.retire(file);
-    first.and(second).and(synced).and(len)
+    written
 }
 
-/// What is read of a file from its second byte on.
-fn read<D: Disk>(disk: &mut D, name: FileName) -> Result<[u8; 3], Failed> {
-    let mut file = disk.open_file(name)?.ok_or(Failed)?;
-    let mut into = [0u8; 3];
-    let read = file.read_at(1, &mut into);
+/// Reads a file from its second byte on.
+fn read<D: Disk>(disk: &mut D, name: FileName, into: &mut [u8]) -> Result<usize, Failed> {
+    let Some(mut file) = disk.open_file(name)? else {
+        return Err(Failed);
+    };
+    let read = file.read_at(1, into);
     disk.retire(file);
-    read?;
-    Ok(into)
+    read
 }
 
-fn text_of(alloc: Global, folder: &str, name: &str) -> Result<Text, Fail> {
-    let path = format!(in alloc; "{folder}{name}")?;
-    Ok(Text::of(alloc, path.as_bytes())?)
+/// Are four bytes written to a file, three of them read, and is it removed?
+fn is_kept<D: Disk>(disk: &mut D, into: &mut [u8]) -> Result<bool, Failed> {
+    let name = FileName::Log(7);
+    let written = write(disk, name)?;
+    let read = read(disk, name, into)?;
+    disk.remove(name)?;
+    Ok(written == 4 && read == 3 && ask_for_file(disk, name) == Asked::Missing)
 }
 
 /// A path of its own for a test, in the place for temporary files.
@@ -215,159 +231,166 @@ fn temporary(rt: &HostRuntime, name: &str) -> Result<String, Fail> {
     Ok(format!(in rt.alloc(); "{}/udt_disk-{id}-{name}", place.display())?)
 }
 
-/// What is read of a file that is written to the folder under the path, which is opened for it.
-fn write_in<H: Host>(host: &mut H, place: &Text, make: bool) -> Result<[u8; 3], Fail> {
-    let name = FileName::Log(7);
-    let mut folder = host.open_folder(place, make)?.ok_or("no folder")?;
-    let written = write(&mut folder, name);
-    let read = read(&mut folder, name);
-    let removed = folder.remove(name);
-    let left = ask_for_file(&mut folder, name);
-    host.close_folder(place, folder);
-    removed?;
-    if written != Ok(4) || left != Asked::Missing {
-        return Err("not written, or not removed".into());
-    }
-    Ok(read?)
+/// What a real host answers where a folder, made or not, and a source are asked for under a path.
+fn ask_host(rt: &HostRuntime, path: &[u8], make: bool) -> Result<(Asked, Asked), Fail> {
+    let place = Text::of(rt.alloc(), path)?;
+    let mut host = RealHost::new(rt);
+    let folder = ask_for_folder(&mut host, &place, make);
+    Ok((folder, ask_for_source(&mut host, &place)))
+}
+
+fn is_kept_in(rt: &HostRuntime, path: &str, make: bool, into: &mut [u8]) -> Result<bool, Fail> {
+    let place = Text::of(rt.alloc(), path.as_bytes())?;
+    let mut host = RealHost::new(rt);
+    let mut folder = host.open_folder(&place, make)?.ok_or("no folder")?;
+    let kept = is_kept(&mut folder, into);
+    host.close_folder(&place, folder);
+    Ok(kept?)
 }
 
 #[test]
 fn a_real_folder_keeps_its_files(rt: HostRuntime) -> Result<(), Fail> {
     let path = temporary(&rt, "folder")?;
-    let place = text_of(rt.alloc(), &path, "")?;
-    let mut host = RealHost::new(&rt);
-    assert_eq!(rt; ask_for_folder(&mut host, &place, false), Asked::Missing);
+    let (missing, _) = ask_host(&rt, path.as_bytes(), false)?;
+    assert_eq!(rt; missing, Asked::Missing);
     for make in [true, false] {
-        assert_eq!(rt; write_in(&mut host, &place, make)?, *b"ycd");
+        let mut into = [0u8; 3];
+        assert!(rt; is_kept_in(&rt, &path, make, &mut into)?);
+        assert_eq!(rt; into.as_slice(), b"ycd".as_slice());
     }
     Ok(fs::remove_dir_all(&rt, path.as_str())?)
 }
 
-/// What is read of a file of the folder under the path, which is opened for it.
-fn read_in<H: Host>(host: &mut H, place: &Text, name: FileName) -> Result<[u8; 3], Fail> {
-    let mut folder = host.open_folder(place, false)?.ok_or("no folder")?;
-    let read = read(&mut folder, name);
-    host.close_folder(place, folder);
+fn read_found(rt: &HostRuntime, path: &str, into: &mut [u8]) -> Result<usize, Fail> {
+    let place = Text::of(rt.alloc(), path.as_bytes())?;
+    let mut host = RealHost::new(rt);
+    let mut folder = host.open_folder(&place, false)?.ok_or("no folder")?;
+    let read = read(&mut folder, FileName::Log(1), into);
+    host.close_folder(&place, folder);
     Ok(read?)
+}
+
+/// Does a file hold this text?
+fn holds(rt: &HostRuntime, path: &str, text: &str) -> Result<bool, Fail> {
+    Ok(fs::read_to_string(rt, path)?.as_str() == text)
 }
 
 #[test]
 fn a_real_file_that_is_found_is_read_and_stays(rt: HostRuntime) -> Result<(), Fail> {
     let path = temporary(&rt, "found")?;
-    fs::create_dir(&rt, path.as_str())?;
     let log = format!(in rt.alloc(); "{path}/1.log")?;
+    fs::create_dir(&rt, path.as_str())?;
     fs::write(&rt, log.as_str(), "bytes of a log")?;
-    let place = text_of(rt.alloc(), &path, "")?;
-    let mut host = RealHost::new(&rt);
-    assert_eq!(rt; read_in(&mut host, &place, FileName::Log(1))?, *b"yte");
-    assert_eq!(rt;
-        fs::read_to_string(&rt, log.as_str())?.as_str(),
-        "bytes of a log"
-    );
+    let mut into = [0u8; 3];
+    assert_eq!(rt; read_found(&rt, &path, &mut into)?, 3);
+    assert_eq!(rt; into.as_slice(), b"yte".as_slice());
+    assert!(rt; holds(&rt, &log, "bytes of a log")?);
     Ok(fs::remove_dir_all(&rt, path.as_str())?)
 }
 
 #[test]
 fn a_real_folder_is_made_at_a_path_of_one_word(rt: HostRuntime) -> Result<(), Fail> {
     let path = format!(in rt.alloc(); "udt_disk-{}-word", process::id(rt.process()))?;
-    let place = text_of(rt.alloc(), &path, "")?;
-    let mut host = RealHost::new(&rt);
-    assert_eq!(rt; ask_for_folder(&mut host, &place, true), Asked::Found);
+    let (made, _) = ask_host(&rt, path.as_bytes(), true)?;
+    assert_eq!(rt; made, Asked::Found);
     Ok(fs::remove_dir(&rt, path.as_str())?)
 }
 
-/// Paths behind that of a folder with the file `file`, and what the host answers where a folder, made or not, and a
-/// source are asked for.
-const OTHERS: [(&str, bool, Asked, Asked); 3] = [
-    ("/file", true, Asked::Fails, Asked::Found),
-    ("/file/below", true, Asked::Fails, Asked::Fails),
-    ("/missing", false, Asked::Missing, Asked::Missing),
+/// Makes a folder with a file.
+fn make_file(rt: &HostRuntime, folder: &str, file: &str, text: &str) -> Result<(), Fail> {
+    fs::create_dir(rt, folder)?;
+    let path = format!(in rt.alloc(); "{folder}/{file}")?;
+    Ok(fs::write(rt, path.as_str(), text)?)
+}
+
+/// Paths below a folder with the file `file`, and what is answered where a folder, made or not, and a source are asked for.
+const OTHERS: [(&str, bool, (Asked, Asked)); 3] = [
+    ("file", true, (Asked::Fails, Asked::Found)),
+    ("file/below", true, (Asked::Fails, Asked::Fails)),
+    ("missing", false, (Asked::Missing, Asked::Missing)),
 ];
 
 #[test]
 fn a_real_host_answers_failed_where_something_else_stands(rt: HostRuntime) -> Result<(), Fail> {
     let path = temporary(&rt, "other")?;
-    fs::create_dir(&rt, path.as_str())?;
-    fs::write(
-        &rt,
-        format!(in rt.alloc(); "{path}/file")?.as_str(),
-        "bytes",
-    )?;
-    let mut host = RealHost::new(&rt);
-    for (name, make, folder, source) in OTHERS {
-        let place = text_of(rt.alloc(), &path, name)?;
-        assert_eq!(rt; ask_for_folder(&mut host, &place, make), folder, "{name}");
-        assert_eq!(rt; ask_for_source(&mut host, &place), source, "{name}");
+    make_file(&rt, &path, "file", "bytes")?;
+    for (name, make, wanted) in OTHERS {
+        let place = format!(in rt.alloc(); "{path}/{name}")?;
+        assert_eq!(rt; ask_host(&rt, place.as_bytes(), make)?, wanted, "{name}");
     }
     Ok(fs::remove_dir_all(&rt, path.as_str())?)
 }
 
 #[test]
 fn a_real_host_answers_failed_where_a_path_is_no_text(rt: HostRuntime) -> Result<(), Fail> {
-    let place = Text::of(rt.alloc(), &[255])?;
-    let mut host = RealHost::new(&rt);
-    assert_eq!(rt; ask_for_folder(&mut host, &place, true), Asked::Fails);
-    assert_eq!(rt; ask_for_source(&mut host, &place), Asked::Fails);
+    assert_eq!(rt; ask_host(&rt, &[255], true)?, (Asked::Fails, Asked::Fails));
     Ok(())
 }
 
-/// Does each call on `CURRENT` fail in the folder under the path, and none on `MADE`?
-fn current_fails<H: Host>(host: &mut H, place: &Text) -> Result<bool, Fail> {
-    let mut folder = host.open_folder(place, false)?.ok_or("no folder")?;
-    let made = ask_for_new_file(&mut folder, FileName::Current);
-    let opened = ask_for_file(&mut folder, FileName::Current);
-    let removed = folder.remove(FileName::Current);
-    let other = folder.remove(FileName::Made);
-    host.close_folder(place, folder);
-    Ok(made == Asked::Fails && opened == Asked::Fails && removed.is_err() && other.is_ok())
+/// Does each call on `CURRENT` fail, and none on `MADE`?
+fn current_fails<D: Disk>(disk: &mut D) -> bool {
+    ask_for_new_file(disk, FileName::Current) == Asked::Fails
+        && ask_for_file(disk, FileName::Current) == Asked::Fails
+        && disk.remove(FileName::Current).is_err()
+        && disk.remove(FileName::Made).is_ok()
+}
+
+fn current_fails_in(rt: &HostRuntime, path: &str) -> Result<bool, Fail> {
+    let place = Text::of(rt.alloc(), path.as_bytes())?;
+    let mut host = RealHost::new(rt);
+    let mut folder = host.open_folder(&place, false)?.ok_or("no folder")?;
+    let fails = current_fails(&mut folder);
+    host.close_folder(&place, folder);
+    Ok(fails)
 }
 
 #[test]
 fn a_folder_in_the_place_of_a_real_file_fails(rt: HostRuntime) -> Result<(), Fail> {
     let path = temporary(&rt, "place")?;
+    let current = format!(in rt.alloc(); "{path}/CURRENT")?;
     fs::create_dir(&rt, path.as_str())?;
-    fs::create_dir(&rt, format!(in rt.alloc(); "{path}/CURRENT")?.as_str())?;
-    let place = text_of(rt.alloc(), &path, "")?;
-    let mut host = RealHost::new(&rt);
-    assert!(rt; current_fails(&mut host, &place)?);
+    fs::create_dir(&rt, current.as_str())?;
+    assert!(rt; current_fails_in(&rt, &path)?);
     Ok(fs::remove_dir_all(&rt, path.as_str())?)
 }
 
-/// What a source under the path answers to two reads, the first of which may fill eight bytes.
-fn read_twice<H: Host>(host: &mut H, place: &Text) -> Result<[Result<usize, Failed>; 2], Fail> {
-    let mut source = host.open_source(place)?.ok_or("no source")?;
-    let mut into = [0u8; 8];
-    let first = source.read(&mut into);
+/// What a source answers to a read into this room, and to one more.
+type Reads = (Result<usize, Failed>, Result<usize, Failed>);
+
+fn read_twice(rt: &HostRuntime, path: &str, into: &mut [u8]) -> Result<Reads, Fail> {
+    let place = Text::of(rt.alloc(), path.as_bytes())?;
+    let mut host = RealHost::new(rt);
+    let mut source = host.open_source(&place)?.ok_or("no source")?;
+    let first = source.read(into);
     let second = source.read(&mut [0u8; 8]);
     host.close_source(source);
-    if first.is_ok() && into != *b"bytes\0\0\0" {
-        return Err("other bytes".into());
-    }
-    Ok([first, second])
+    Ok((first, second))
 }
 
 #[test]
 fn a_real_source_is_read_to_its_end(rt: HostRuntime) -> Result<(), Fail> {
     let path = temporary(&rt, "source")?;
-    fs::create_dir(&rt, path.as_str())?;
-    fs::write(
-        &rt,
-        format!(in rt.alloc(); "{path}/file")?.as_str(),
-        "bytes",
-    )?;
-    let folder = text_of(rt.alloc(), &path, "")?;
-    let file = text_of(rt.alloc(), &path, "/file")?;
-    let mut host = RealHost::new(&rt);
-    assert_eq!(rt; read_twice(&mut host, &file)?, [Ok(5), Ok(0)]);
-    assert_eq!(rt; read_twice(&mut host, &folder)?, [Err(Failed), Err(Failed)]);
+    let file = format!(in rt.alloc(); "{path}/file")?;
+    make_file(&rt, &path, "file", "bytes")?;
+    let mut into = [0u8; 8];
+    assert_eq!(rt;
+        read_twice(&rt, &path, &mut into)?,
+        (Err(Failed), Err(Failed))
+    );
+    assert_eq!(rt; read_twice(&rt, &file, &mut into)?, (Ok(5), Ok(0)));
+    assert_eq!(rt; into.as_slice(), b"bytes\0\0\0".as_slice());
     Ok(fs::remove_dir_all(&rt, path.as_str())?)
+}
+
+fn write_out(rt: &HostRuntime, path: &str) -> Result<usize, Fail> {
+    let mut sink = HostSink::new(fs::File::create(rt, path)?);
+    Ok(sink.write(b"out")?)
 }
 
 #[test]
 fn a_real_sink_takes_its_bytes(rt: HostRuntime) -> Result<(), Fail> {
     let path = temporary(&rt, "sink")?;
-    let mut sink = HostSink::new(fs::File::create(&rt, path.as_str())?);
-    assert_eq!(rt; sink.write(b"out"), Ok(3));
-    assert_eq!(rt; fs::read_to_string(&rt, path.as_str())?.as_str(), "out");
+    assert_eq!(rt; write_out(&rt, &path)?, 3);
+    assert!(rt; holds(&rt, &path, "out")?);
     Ok(fs::remove_file(&rt, path.as_str())?)
 }
