@@ -1,10 +1,11 @@
 //! Making stores.
 
-use super::stage::{Ended, LOG, OUTCOMES, command, crashed, host_of, run};
+use super::stage::{LOG, OUTCOMES, crashed, ends, host_of, run, runs};
 use client_runner::Status;
 use std::alloc::Global;
+use std::process::Abort;
 use std::test::Fail;
-use udt_disk::{FileName, MemDisk, MemHost, Trouble};
+use udt_disk::{FileName, MemDisk, MemHost, Outcome, Trouble};
 
 const EMPTY: &str =
     "udt 1\nopened 0\nfamily a persist 0\nfamily b persist 0\nbegin\n1 r sync = ok\n";
@@ -17,8 +18,20 @@ const CALLS: [(FileName, u64); 4] = [
     (FileName::Made, 3),
 ];
 
-fn init(alloc: Global, host: &mut MemHost) -> Result<Ended, Fail> {
-    command(alloc, host, &["init", "X", "a:persist", "b:persist"])
+/// Making a store of two families ends with this status and text.
+fn inits(
+    rt: &(impl AllocGlobal + Abort),
+    host: &mut MemHost,
+    status: Status,
+    text: &str,
+) -> Result<(), Fail> {
+    ends(
+        rt,
+        host,
+        &["init", "X", "a:persist", "b:persist"],
+        status,
+        text,
+    )
 }
 
 /// A host with an empty folder in which this call fails.
@@ -30,90 +43,116 @@ fn empty_folder(alloc: Global, trouble: Trouble) -> Result<MemHost, Fail> {
 
 #[test]
 fn a_store_is_made_once(rt: HostRuntime) -> Result<(), Fail> {
-    let alloc = rt.alloc();
-    let mut host = MemHost::new(alloc);
-    let made = init(alloc, &mut host)?;
-    assert!(rt; made.is(Status::Done, "made 2\n"), "{made:?}");
-    let again = init(alloc, &mut host)?;
-    assert!(rt; again.is(Status::Folder, "store exists\n"), "{again:?}");
-    let ran = run(alloc, &mut host, "")?;
-    assert!(rt; ran.is(Status::Done, EMPTY), "{ran:?}");
-    Ok(())
+    let mut host = MemHost::new(rt.alloc());
+    inits(&rt, &mut host, Status::Done, "made 2\n")?;
+    inits(&rt, &mut host, Status::Folder, "store exists\n")?;
+    runs(&rt, &mut host, "", Status::Done, EMPTY)
 }
+
+const SIXTEEN: [&str; 18] = [
+    "init",
+    "X",
+    "a:persist",
+    "b:persist",
+    "c:persist",
+    "d:persist",
+    "e:persist",
+    "f:persist",
+    "g:persist",
+    "h:persist",
+    "i:persist",
+    "j:persist",
+    "k:persist",
+    "l:persist",
+    "m:persist",
+    "n:persist",
+    "o:persist",
+    "p:persist",
+];
+
+const RUN_OF_SIXTEEN: &str = "udt 1\nopened 0\n\
+    family a persist 0\n\
+    family b persist 0\n\
+    family c persist 0\n\
+    family d persist 0\n\
+    family e persist 0\n\
+    family f persist 0\n\
+    family g persist 0\n\
+    family h persist 0\n\
+    family i persist 0\n\
+    family j persist 0\n\
+    family k persist 0\n\
+    family l persist 0\n\
+    family m persist 0\n\
+    family n persist 0\n\
+    family o persist 0\n\
+    family p persist 0\n\
+    begin\n\
+    1 c1 put p k 1 v = ok 1\n\
+    2 c1 get o k 1 = absent\n\
+    3 c1 get p k 1 = found v 1\n\
+    4 r sync = ok\n";
 
 #[test]
 fn sixteen_families_are_made(rt: HostRuntime) -> Result<(), Fail> {
-    let alloc = rt.alloc();
-    let mut host = MemHost::new(alloc);
-    let words = [
-        "init",
-        "X",
-        "a:persist",
-        "b:persist",
-        "c:persist",
-        "d:persist",
-        "e:persist",
-        "f:persist",
-        "g:persist",
-        "h:persist",
-        "i:persist",
-        "j:persist",
-        "k:persist",
-        "l:persist",
-        "m:persist",
-        "n:persist",
-        "o:persist",
-        "p:persist",
-    ];
-    let made = command(alloc, &mut host, &words)?;
-    assert!(rt; made.is(Status::Done, "made 16\n"), "{made:?}");
-    let ran = run(alloc, &mut host, "put p k 1 v\nget o k 1\nget p k 1\n")?;
-    assert!(rt; ran.status == Status::Done, "{ran:?}");
-    assert!(rt;
-        ran.tells("\nfamily o persist 0\nfamily p persist 0\nbegin\n"),
-        "{ran:?}"
-    );
-    assert!(rt;
-        ran.tells("\n2 c1 get o k 1 = absent\n3 c1 get p k 1 = found v 1\n"),
-        "{ran:?}"
-    );
-    Ok(())
+    let mut host = MemHost::new(rt.alloc());
+    ends(&rt, &mut host, &SIXTEEN, Status::Done, "made 16\n")?;
+    let file = "put p k 1 v\nget o k 1\nget p k 1\n";
+    runs(&rt, &mut host, file, Status::Done, RUN_OF_SIXTEEN)
+}
+
+/// An init in which this call fails, and then another one. The third call on `MADE` syncs it: it stands by then.
+fn is_made_again(rt: &(impl AllocGlobal + Abort), trouble: Trouble) -> Result<(), Fail> {
+    let (status, text) = if trouble.name == FileName::Made && trouble.call == 3 {
+        (Status::Folder, "store exists\n")
+    } else {
+        (Status::Done, "made 2\n")
+    };
+    let mut host = empty_folder(rt.alloc(), trouble)?;
+    inits(rt, &mut host, Status::DiskFault, "disk fault\n")?;
+    inits(rt, &mut host, status, text)?;
+    runs(rt, &mut host, "", Status::Done, EMPTY)
 }
 
 #[test]
 fn an_init_that_failed_is_made_again(rt: HostRuntime) -> Result<(), Fail> {
-    let alloc = rt.alloc();
     for (name, calls) in CALLS {
-        for call in 1..calls.saturating_add(1) {
+        for call in 1..=calls {
             let trouble = Trouble {
                 name,
                 call,
                 lasting: false,
             };
-            let mut host = empty_folder(alloc, trouble)?;
-            let first = init(alloc, &mut host)?;
-            assert!(rt;
-                first.is(Status::DiskFault, "disk fault\n"),
-                "{trouble:?}: {first:?}"
-            );
-            // The third call on `MADE` syncs it: it stands by then.
-            let second = init(alloc, &mut host)?;
-            let (status, text) = if name == FileName::Made && call == 3 {
-                (Status::Folder, "store exists\n")
-            } else {
-                (Status::Done, "made 2\n")
-            };
-            assert!(rt; second.is(status, text), "{trouble:?}: {second:?}");
-            let ran = run(alloc, &mut host, "")?;
-            assert!(rt; ran.is(Status::Done, EMPTY), "{trouble:?}: {ran:?}");
+            is_made_again(&rt, trouble)?;
         }
     }
     Ok(())
 }
 
+/// After a crash behind an init there is the empty store, or where a call failed no store, and one can be made.
+fn is_there_or_none(
+    rt: &(impl AllocGlobal + Abort),
+    trouble: Trouble,
+    is_made: bool,
+    outcome: Outcome,
+) -> Result<(), Fail> {
+    let mut host = empty_folder(rt.alloc(), trouble)?;
+    let (status, text) = if is_made {
+        (Status::Done, "made 2\n")
+    } else {
+        (Status::DiskFault, "disk fault\n")
+    };
+    inits(rt, &mut host, status, text)?;
+    let mut host = crashed(rt.alloc(), host, outcome)?;
+    let ran = run(rt.alloc(), &mut host, "")?;
+    if !is_made && ran.is(Status::Folder, "no store\n") {
+        inits(rt, &mut host, Status::Done, "made 2\n")?;
+    }
+    runs(rt, &mut host, "", Status::Done, EMPTY)
+}
+
 #[test]
 fn a_crash_leaves_no_store_or_the_empty_one(rt: HostRuntime) -> Result<(), Fail> {
-    let alloc = rt.alloc();
     for (name, calls) in CALLS {
         // The call behind the last one isn't made.
         for call in 1..=calls.saturating_add(1) {
@@ -123,18 +162,7 @@ fn a_crash_leaves_no_store_or_the_empty_one(rt: HostRuntime) -> Result<(), Fail>
                     call,
                     lasting: true,
                 };
-                let mut host = empty_folder(alloc, trouble)?;
-                let first = init(alloc, &mut host)?;
-                let is_made = call > calls;
-                assert!(rt; (first.status == Status::Done) == is_made, "{trouble:?}");
-                let mut host = crashed(alloc, host, outcome)?;
-                let ran = run(alloc, &mut host, "")?;
-                if !is_made && ran.is(Status::Folder, "no store\n") {
-                    let second = init(alloc, &mut host)?;
-                    assert!(rt; second.status == Status::Done, "{trouble:?}: {second:?}");
-                } else {
-                    assert!(rt; ran.is(Status::Done, EMPTY), "{trouble:?}: {ran:?}");
-                }
+                is_there_or_none(&rt, trouble, call > calls, outcome)?;
             }
         }
     }

@@ -2,6 +2,7 @@
 
 use client_runner::{Status, store_plain};
 use std::alloc::Global;
+use std::process::Abort;
 use std::str;
 use std::test::Fail;
 use udt_disk::{FileName, Host, MemDisk, MemHost, MemSink, MemSource, Outcome, Text, Trouble};
@@ -61,11 +62,37 @@ pub fn command<H: Host>(alloc: Global, host: &mut H, words: &[&str]) -> Result<E
     })
 }
 
+/// The words of a command line end with this status and text over a host.
+pub fn ends<H: Host>(
+    rt: &(impl AllocGlobal + Abort),
+    host: &mut H,
+    words: &[&str],
+    status: Status,
+    text: &str,
+) -> Result<(), Fail> {
+    let ended = command(rt.alloc(), host, words)?;
+    assert!(rt; ended.is(status, text), "{words:?}: {ended:?}");
+    Ok(())
+}
+
 /// Runs `run X F` over a host, with these bytes under `F`.
 pub fn run(alloc: Global, host: &mut MemHost, file: &str) -> Result<Ended, Fail> {
     let source = MemSource::new(Vec::from_slice(alloc, file.as_bytes())?, None);
     host.put_source(Text::of(alloc, b"F")?, source)?;
     command(alloc, host, &["run", "X", "F"])
+}
+
+/// `run X F` over a host, with these bytes under `F`, ends with this status and text.
+pub fn runs(
+    rt: &(impl AllocGlobal + Abort),
+    host: &mut MemHost,
+    file: &str,
+    status: Status,
+    text: &str,
+) -> Result<(), Fail> {
+    let ended = run(rt.alloc(), host, file)?;
+    assert!(rt; ended.is(status, text), "{file}: {ended:?}");
+    Ok(())
 }
 
 /// A host with this folder under `X`.

@@ -7,10 +7,7 @@ use std::test::Fail;
 /// Files, each with the lines that it prints.
 const TRIES: [(&str, &str); 14] = [
     // Comments and empty lines print nothing.
-    (
-        "",
-        "",
-    ),
+    ("", ""),
     (
         "\n\
             # nothing\n\
