@@ -92,22 +92,15 @@ const LEFT: [(&[Step], Outcome, Option<&[u8]>); 21] = [
     (&REMOVED, Outcome::Hostile, Some(b"abc")),
 ];
 
-/// Is this left of the file behind these steps?
-fn is_left(
-    alloc: Global,
-    steps: &[Step],
-    outcome: Outcome,
-    want: Option<&[u8]>,
-) -> Result<bool, Fail> {
-    let disk = crashed(alloc, steps, outcome)?;
-    Ok(disk.starved() == 0 && disk.contents(FileName::Current) == want)
-}
-
 #[test]
 fn crashes_leave_what_was_synced(rt: HostRuntime) -> Result<(), Fail> {
     for (steps, outcome, want) in LEFT {
-        let is_left = is_left(rt.alloc(), steps, outcome, want)?;
-        assert!(rt; is_left, "{steps:?} {outcome:?}");
+        let disk = crashed(rt.alloc(), steps, outcome)?;
+        assert!(rt;
+            disk.contents(FileName::Current) == want,
+            "{steps:?} {outcome:?}"
+        );
+        assert_eq!(rt; disk.starved(), 0);
     }
     Ok(())
 }
