@@ -1,5 +1,5 @@
 -- A seek past versions of one key that give nothing more.
-use Rattle.std.proofs.Common.{◌≡◌, ℕ, zero, suc, ◌+◌, ◌<◌, ◌≤◌, Bool, true, false, not, ◌&&◌, ◌||◌, List, [], ◌∷◌, length, drop, Option, Some, None, refl, sym, ap, subst, ◌∙◌, ◌⊎◌, inl, inr, arith}
+use Rattle.std.proofs.Common.{◌≡◌, ℕ, zero, suc, ◌+◌, ◌<◌, ◌≤◌, Bool, true, false, not, ◌&&◌, ◌||◌, List, [], ◌∷◌, drop, Option, Some, refl, sym, ap, subst, ◌∙◌, inl, inr, arith}
 use Rattle.std.specs.Prelude.{slice_get}
 use Rattle.std.specs.List.{AllByRecursion}
 use Rattle.std.specs.Ordering.{is_lt}
@@ -14,11 +14,11 @@ use Rattle.ts_key.specs.Lists.{IsOrdered, below, standing}
 use Rattle.ts_key.specs.Ordered.{none_low}
 use Rattle.ts_key.specs.Counts.{get_In, In_after}
 use Rattle.ts_key.specs.Firsts.{key_before, key_upto, unseen}
-use Rattle.ts_key.specs.Visible.{is_item_seen, is_item_within}
+use Rattle.ts_key.specs.Visible.{is_item_within}
 use Rattle.udt_model.specs.Orders.{is_below}
 use Rattle.ts_iterator.specs.Rows.{end_of, is_decided, is_past, rows_up}
 use Rattle.ts_iterator.specs.Walks.{ahead}
-use Rattle.ts_iterator.proofs.Keys.{key_apart, key_back}
+use Rattle.ts_iterator.proofs.Keys.{key_back}
 use Rattle.ts_iterator.proofs.Ranges.{drop_sorted}
 use Rattle.ts_iterator.proofs.Steps.{head_at}
 
@@ -56,7 +56,6 @@ or_true true = refl
 or_true false = refl
 
 module _ (floor : Ts) (high : Option (List ℕ)) (t s : ℕ) (d : Option (List ℕ)) where
-
   same_key : (v w : Item) → is_before w.sort_key v.sort_key ≡ false → is_before w.sort_key (end_of d v.sort_key.key t s) ≡ true → w.sort_key.key ≡ v.sort_key.key
   same_key v w upto h =
       let e = end_key d v.sort_key.key t s in

@@ -1,5 +1,5 @@
 -- Seeks downwards past versions of one key.
-use Rattle.std.proofs.Common.{◌≡◌, ℕ, zero, suc, ◌+◌, ◌-◌, ◌^◌, ◌<◌, ◌≤◌, Bool, true, false, cond, not, ◌&&◌, ◌||◌, List, [], ◌∷◌, ◌++◌, length, take, reverse, Option, Some, None, refl, sym, ap, subst, ◌∙◌, ◌⊎◌, inl, inr, arith, append_assoc}
+use Rattle.std.proofs.Common.{◌≡◌, ℕ, zero, suc, ◌+◌, ◌-◌, ◌^◌, ◌<◌, ◌≤◌, Bool, true, false, not, ◌&&◌, ◌||◌, List, [], ◌∷◌, ◌++◌, length, take, reverse, Option, Some, None, refl, sym, ap, subst, ◌∙◌, inl, inr, arith, append_assoc}
 use Rattle.std.specs.Prelude.{slice_get, nat_le}
 use Rattle.std.specs.List.{AllByRecursion}
 use Rattle.std.specs.Cmp.{ranked}
@@ -13,7 +13,7 @@ use Rattle.std.proofs.lemmas.List.{append-nil, reverse-append}
 use Rattle.std.proofs.lemmas.Slice.Eq.{bytes_eq-Decides}
 use Rattle.ts_key.specs.declared.numbers.Ts.{Ts}
 use Rattle.ts_key.specs.Order.{SortKey, is_before, sort_cmp}
-use Rattle.ts_key.specs.Orders.{before_itself, is_Less, upto_upto}
+use Rattle.ts_key.specs.Orders.{is_Less, upto_upto}
 use Rattle.ts_key.specs.Items.{Item}
 use Rattle.ts_key.specs.Lists.{IsOrdered, below, onward, standing}
 use Rattle.ts_key.specs.Ordered.{none_low}
@@ -23,7 +23,7 @@ use Rattle.ts_key.specs.Visible.{is_item_seen, is_item_within}
 use Rattle.udt_model.specs.declared.reply.Row.{Row}
 use Rattle.udt_model.specs.Orders.{is_below}
 use Rattle.ts_iterator.specs.Rows.{is_past, rows_down}
-use Rattle.ts_iterator.specs.Walks.{StandsUpto, IsUptoSeen, back_from, top_of}
+use Rattle.ts_iterator.specs.Walks.{IsUptoSeen, back_from, top_of}
 use Rattle.ts_iterator.proofs.Keys.{key_back}
 use Rattle.ts_iterator.proofs.Steps.{goes_on}
 use Rattle.ts_iterator.proofs.StepsDown.{behind_upto, past_at}

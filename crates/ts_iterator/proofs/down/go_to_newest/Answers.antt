@@ -1,4 +1,4 @@
-use Rattle.std.proofs.Common.{◌≡◌, ◌+◌, ℕ, List, length, refl, sym, ap, subst, ◌∙◌, arith}
+use Rattle.std.proofs.Common.{◌+◌, List, length, refl, sym, ap, subst, ◌∙◌, arith}
 use Rattle.ts_key.specs.Items.{Item, shown}
 use Rattle.ts_key.specs.Lists.{below, standing}
 use Rattle.ts_iterator.specs.Walks.{IsUptoSeen}
@@ -16,7 +16,7 @@ loop-found-init g c =
       same = refl;
       inside = omega (arith, c.seek.ensures.place);
       upto = walk_begins key t s vs (g.C.Placed.place c.seek.new.self) (g.C.Placed.ordered c.seek.new.self)
-      (c.seek.ensures.place ∙ ap (λ (ys : List Item). below (record { key = key; ts = t; seq = s }) ys + 1) (sym c.seek.ensures.same));
+          (c.seek.ensures.place ∙ ap (λ (ys : List Item). below (record { key = key; ts = t; seq = s }) ys + 1) (sym c.seek.ensures.same));
     }
 
 pub loop-found-preserved : goal.loop-found-preserved

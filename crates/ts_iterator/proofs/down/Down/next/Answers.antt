@@ -1,7 +1,7 @@
 use Rattle.std.proofs.Common.{◌≡◌, List, ◌∷◌, ◌++◌, ◌-◌, Some, None, refl, sym, ap, ◌∙◌}
-use Rattle.ts_key.specs.Items.{Item, shown, shown_by}
+use Rattle.ts_key.specs.Items.{shown, shown_by}
 use Rattle.udt_model.specs.declared.reply.Row.{Row}
-use Rattle.ts_iterator.specs.Rests.{StandsIn, rest_down, rows_given}
+use Rattle.ts_iterator.specs.Rests.{rest_down, rows_given}
 use Rattle.ts_iterator.specs.Rows.{least_key, rows_down}
 use Rattle.ts_iterator.specs.Walks.{back_from}
 use Rattle.ts_iterator.proofs.Ends.{told_at_end}

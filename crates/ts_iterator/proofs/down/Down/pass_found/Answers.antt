@@ -1,4 +1,4 @@
-use Rattle.std.proofs.Common.{◌≡◌, ℕ, ◌-◌, false, List, Option, sym, ap, ◌∙◌, arith}
+use Rattle.std.proofs.Common.{◌≡◌, ℕ, ◌-◌, List, Option, sym, ap, ◌∙◌, arith}
 use Rattle.ts_key.specs.Items.{Item, shown_by}
 use Rattle.ts_key.specs.Order.{SortKey}
 use Rattle.ts_key.specs.Firsts.{seen_of_key}

@@ -1,7 +1,7 @@
-use Rattle.std.proofs.Common.{◌≡◌, ℕ, ◌^◌, ◌<◌, false, List, sym, ap, ◌∙◌, arith}
+use Rattle.std.proofs.Common.{◌≡◌, ℕ, ◌<◌, false, List, sym, ap, ◌∙◌, arith}
 use Rattle.ts_key.specs.Items.{Item, shown_by}
 use Rattle.ts_key.specs.Lists.{below}
-use Rattle.ts_key.specs.Order.{SortKey, is_before, sort_key_of}
+use Rattle.ts_key.specs.Order.{SortKey, is_before}
 use Rattle.ts_iterator.specs.Rows.{least_key, rows_down}
 use Rattle.ts_iterator.specs.Walks.{back_from, top_of}
 use Rattle.ts_iterator.proofs.PassingDown.{lower_front, not_before_top, over_front}
