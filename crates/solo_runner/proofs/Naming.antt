@@ -13,8 +13,7 @@ use Rattle.udt_model.specs.State.{State}
 use Rattle.udt_model.specs.Lines.{IsReply, after_event}
 use Rattle.udt_model.specs.Names.{Names, act_of, no_names}
 use Rattle.udt_model.specs.Histories.{is_named}
-use Rattle.client_lang.specs.declared.command.Command.TheVariants as commands
-use Rattle.client_lang.specs.Print.{IsBuilt, IsBuiltCommand, IsBuiltLine}
+use Rattle.client_lang.specs.Print.{IsBuilt, IsBuiltLine}
 use Rattle.solo_runner.specs.Expand.{held_after, held_behind}
 
 pub act_same : (heads : List FamilyHead) (names : Names) (event : Event) → IsBuilt event → act_of heads names event ≡ act_of heads no_names event
@@ -64,17 +63,6 @@ named_of_client n who names event is built = rw is (of_client n names event buil
 -- the runner asks for a sync
 pub named_of_runner : (who : Who) (names : Names) (event : Event) → who ≡ Runner → event ≡ Sync → IsTrue (is_named who names event)
 named_of_runner who names event is asks = rw (is, asks) refl
-
--- ---- jobs
-
--- what a client asks in a line of its own starts no flush, and ends none
-pub keeps_flush : (m : State) (number : ℕ) (event : Event) (reply : Reply) → IsBuiltCommand (commands.Line event) → (after_event m number no_names event reply).flush ≡ m.flush
-keeps_flush m number (Write os sync) reply built = refl
-keeps_flush m number (Get family key t None) reply built = refl
-keeps_flush m number (Raise family floor) reply built = refl
-keeps_flush m number (Floor family) reply built = refl
-keeps_flush m number Sync reply built = refl
-keeps_flush m number event reply built = absurd built
 
 -- ---- snapshots
 
