@@ -263,7 +263,8 @@ fn the_greatest_numbers_of_a_stored_key(rt: HostRuntime) -> Result<(), Fail> {
     let mut out = Vec::new(rt.alloc());
     encode_key(&version, &mut out)?;
     let wanted = at(&longest, u64::MAX - 1, (1 << 56) - 1);
-    assert!(rt; out.len() == 1040 && is_read(decode_key(&out).ok(), &wanted, Kind::Put));
+    assert_eq!(rt; out.len(), 1040);
+    assert!(rt; is_read(decode_key(&out).ok(), &wanted, Kind::Put));
     Ok(())
 }
 

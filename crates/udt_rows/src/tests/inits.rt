@@ -129,41 +129,58 @@ fn an_init_that_failed_is_made_again(rt: HostRuntime) -> Result<(), Fail> {
     Ok(())
 }
 
-/// After a crash behind an init there is the empty store, or where a call failed no store, and one can be made.
+/// Makes the store where there is none.
+fn make_where_none(rt: &(impl AllocGlobal + Abort), host: &mut MemHost) -> Result<(), Fail> {
+    let ran = run(rt.alloc(), host, "")?;
+    if ran.is(Status::Folder, "no store\n") {
+        return inits(rt, host, Status::Done, "made 2\n");
+    }
+    Ok(())
+}
+
+/// A crash behind an init in which this call fails leaves the empty store, or no store, and then one can be made.
 fn is_there_or_none(
     rt: &(impl AllocGlobal + Abort),
     trouble: Trouble,
-    is_made: bool,
     outcome: Outcome,
 ) -> Result<(), Fail> {
     let mut host = empty_folder(rt.alloc(), trouble)?;
-    let (status, text) = if is_made {
-        (Status::Done, "made 2\n")
-    } else {
-        (Status::DiskFault, "disk fault\n")
-    };
-    inits(rt, &mut host, status, text)?;
+    inits(rt, &mut host, Status::DiskFault, "disk fault\n")?;
     let mut host = crashed(rt.alloc(), host, outcome)?;
-    let ran = run(rt.alloc(), &mut host, "")?;
-    if !is_made && ran.is(Status::Folder, "no store\n") {
-        inits(rt, &mut host, Status::Done, "made 2\n")?;
-    }
+    make_where_none(rt, &mut host)?;
     runs(rt, &mut host, "", Status::Done, EMPTY)
+}
+
+/// A crash behind an init in which no call fails leaves the empty store.
+fn is_there(
+    rt: &(impl AllocGlobal + Abort),
+    trouble: Trouble,
+    outcome: Outcome,
+) -> Result<(), Fail> {
+    let mut host = empty_folder(rt.alloc(), trouble)?;
+    inits(rt, &mut host, Status::Done, "made 2\n")?;
+    let mut host = crashed(rt.alloc(), host, outcome)?;
+    runs(rt, &mut host, "", Status::Done, EMPTY)
+}
+
+/// The call of this number on the file, which fails from then on.
+fn lasting(name: FileName, call: u64) -> Trouble {
+    Trouble {
+        name,
+        call,
+        lasting: true,
+    }
 }
 
 #[test]
 fn a_crash_leaves_no_store_or_the_empty_one(rt: HostRuntime) -> Result<(), Fail> {
     for (name, calls) in CALLS {
-        // The call behind the last one isn't made.
-        for call in 1..=calls.saturating_add(1) {
-            for outcome in OUTCOMES {
-                let trouble = Trouble {
-                    name,
-                    call,
-                    lasting: true,
-                };
-                is_there_or_none(&rt, trouble, call > calls, outcome)?;
+        for outcome in OUTCOMES {
+            for call in 1..=calls {
+                is_there_or_none(&rt, lasting(name, call), outcome)?;
             }
+            // The call behind the last one isn't made.
+            is_there(&rt, lasting(name, calls.saturating_add(1)), outcome)?;
         }
     }
     Ok(())

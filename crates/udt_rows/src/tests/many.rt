@@ -33,7 +33,9 @@ fn tells(
     parts: [&str; 2],
 ) -> Result<(), Fail> {
     let ran = run(rt.alloc(), host, file)?;
-    assert!(rt; ran.status == Status::Done && ran.tells(parts[0]) && ran.tells(parts[1]));
+    assert!(rt; ran.status == Status::Done);
+    assert!(rt; ran.tells(parts[0]));
+    assert!(rt; ran.tells(parts[1]));
     Ok(())
 }
 

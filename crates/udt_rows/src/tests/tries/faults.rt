@@ -1,6 +1,6 @@
 //! Reads of the file and writes of the sink that fail.
 
-use super::stage::{ran, repeated};
+use super::stage::{Outcome, ran, repeated};
 use client_runner::Status;
 use std::process::Abort;
 use std::test::Fail;
@@ -16,7 +16,8 @@ fn fails(
     (status, text): (Status, &[u8]),
 ) -> Result<(), Fail> {
     let outcome = ran(rt, words, file, read_fails, write_fails)?;
-    assert!(rt; outcome.status == status && outcome.text.as_slice() == text);
+    assert_eq!(rt; outcome.status, status);
+    assert_eq!(rt; outcome.text.as_slice(), text);
     Ok(())
 }
 
@@ -45,17 +46,20 @@ fn a_write_that_fails(rt: HostRuntime) -> Result<(), Fail> {
     Ok(())
 }
 
-/// The sink fails at its third write, and has taken some of what it takes else.
+/// Did the sink fail behind more than one write, and take a front of what it takes else?
+fn is_cut(cut: &Outcome, whole: &Outcome) -> bool {
+    whole.status == Status::Done
+        && cut.status == Status::SinkFault
+        && cut.text.len() > 65_536
+        && cut.text.len() < whole.text.len()
+        && whole.text.starts_with(&cut.text)
+}
+
+/// The sink's third write fails.
 fn takes_a_front(rt: &impl AllocGlobal, file: &[u8]) -> Result<bool, Fail> {
     let whole = ran(rt, &TRY, file, None, None)?;
     let cut = ran(rt, &TRY, file, None, Some(3))?;
-    Ok(
-        whole.status == Status::Done
-            && cut.status == Status::SinkFault
-            && cut.text.len() > 65_536
-            && cut.text.len() < whole.text.len()
-            && whole.text.starts_with(&cut.text),
-    )
+    Ok(is_cut(&cut, &whole))
 }
 
 #[test]
