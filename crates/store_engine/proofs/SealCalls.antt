@@ -176,7 +176,7 @@ module _ {D F : Type 0} (d : disk.Ghosts D F) (f : file.Ghosts F) (now_last : Is
           seal_nothing m family h.runs idle of.0 of.1 (sym (held_count now m h.shows family g there) ∙ ap (λ (vs : List Version). length vs) none)
 
       pub nothing_holds : (number : ℕ) → versions_held g ≡ [] → HoldsNow d f engine now (after m number (flush_start family) replies.Nothing) (course_after m number c (flush_start family) replies.Nothing)
-      nothing_holds number none = holds_beside m c number (flush_start family) replies.Nothing tt d f engine now h (nothing_tells none)
+      nothing_holds number none = holds_beside m c number (flush_start family) replies.Nothing refl d f engine now h (nothing_tells none)
 
       full_known : 1 ≤ length (versions_held g) → 1 ≤ length (unflushed_of m family)
       full_known some = let count = held_count now m h.shows family g there in omega (arith, count, some)
