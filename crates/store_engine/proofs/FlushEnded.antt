@@ -151,8 +151,8 @@ module _ {D F : Type 0} (d : disk.Ghosts D F) (f : file.Ghosts F) (now_last : Is
 
   pub ended_refused : {A : Type 0} (value : A → SuperVersion) (result : Result A EngineFault) → Ended value result → IfErr result (λ fault. is_disk_fault fault ≡ false → HoldsAsBefore d f old new)
   ended_refused value result (ended install mid back next made kept given_back ran is) = tt
-  ended_refused value result (refused edit mid fault kept given_back) not = back_before d f now_last old mid new edit (Err fault) given kept given_back number may.name may.unused
-  ended_refused value result (stopped install mid back fault made kept given_back ran) not = absurd (false≢true (sym not ∙ disk_disk fault (stopped_fault install back fault ran)))
+  ended_refused value result (refused edit mid fault kept given_back) = λ not. back_before d f now_last old mid new edit (Err fault) given kept given_back number may.name may.unused
+  ended_refused value result (stopped install mid back fault made kept given_back ran) = λ not. absurd (false≢true (sym not ∙ disk_disk fault (stopped_fault install back fault ran)))
 
   -- ---- the model's state
 

@@ -1,6 +1,7 @@
 -- Steps of the loops over memtables and families.
 use Rattle.std.proofs.Common.{◌≡◌, ℕ, zero, suc, ◌+◌, ◌*◌, ◌^◌, ◌<◌, ◌≤◌, ◌==◌, true, false, List, [], ◌∷◌, ◌++◌, get_or, length, map, Some, refl, sym, ap, subst, arith, inl, inr}
 use Rattle.std.specs.Prelude.{nat_lt, not, slice_get}
+use Rattle.std.specs.List.{flat_map}
 use Rattle.std.proofs.Math.Nat.{pow-suc}
 use Rattle.std.proofs.lemmas.Bool.{cases_Bool, lt-ltb, ne_eqb}
 use Rattle.ts_key.specs.declared.version.Version.{Version}
@@ -28,6 +29,20 @@ runs_some m (suc count) is few =
   pow_some : (k : ℕ) → 1 ≤ 2 ^ k
   pow_some zero = omega arith
   pow_some (suc k) = let r = pow_some k in let d : 2 ^ suc k ≡ 2 ^ k * 2 = pow-suc 2 k in omega (arith, r, d)
+
+some_first : (xs ys : List Version) → not (length xs == 0) ≡ true → not (length (xs ++ ys) == 0) ≡ true
+some_first [] ys e = absurd (cc)
+some_first (x ∷ xs) ys e = let q : (length ((x ∷ xs) ++ ys) == 0) ≡ false = ne_eqb (length ((x ∷ xs) ++ ys)) 0 (λ z. omega (arith, z)) in rw q refl
+
+some_second : (xs ys : List Version) → not (length ys == 0) ≡ true → not (length (xs ++ ys) == 0) ≡ true
+some_second [] ys e = e
+some_second (x ∷ xs) ys e = some_first (x ∷ xs) ys (let q : (length (x ∷ xs) == 0) ≡ false = ne_eqb (length (x ∷ xs)) 0 (λ z. omega (arith, z)) in rw q refl)
+
+-- where one of the memtables has a version, there is one among all
+pub some_among : (ms : List Memtable) (i : ℕ) (m : Memtable) → slice_get ms i ≡ Some m → not (length (versions_of_memtable m) == 0) ≡ true → not (length (flat_map versions_of_memtable ms) == 0) ≡ true
+some_among [] i m there some = absurd (cc)
+some_among (x ∷ xs) zero m there some = let q : m ≡ x = cc in some_first (versions_of_memtable x) (flat_map versions_of_memtable xs) (subst (λ (z : Memtable). not (length (versions_of_memtable z) == 0) ≡ true) q some)
+some_among (x ∷ xs) (suc i) m there some = some_second (versions_of_memtable x) (flat_map versions_of_memtable xs) (some_among xs i m there some)
 
 -- ---- families
 

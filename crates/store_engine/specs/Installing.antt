@@ -95,7 +95,7 @@ pub record MayInstall {D F : Type 0} (f : file.Ghosts F) (engine : Engine D F f)
   pub name : f.name given ≡ Table number
 
 -- the file holds the table, and a crash leaves nothing else of it
-pub record HoldsTable {F : Type 0} (f : file.Ghosts F) (given : F) (table : Held) : Type 0 where
+pub record IsFileOfTable {F : Type 0} (f : file.Ghosts F) (given : F) (table : Held) : Type 0 where
   pub told : IsTrue (f.is_told given)
   pub rests : Only table.image (f.may_leave given)
   pub is : IsTable table.contents table.image
@@ -109,7 +109,7 @@ pub record EndsFlushBy {F : Type 0} (f : file.Ghosts F) (m : State) (now : Super
   pub up_to : job.through ≡ through
   pub all_sealed : (g : FamilyState) → slice_get now.families family.0 ≡ Some g → gone ≡ length g.sealed
   pub fresh : IsTrue (are_new m.used (number ∷ []))
-  pub file : HoldsTable f given out.table
+  pub file : IsFileOfTable f given out.table
   pub own : out.table.contents.family ≡ family.0
   pub fits : (g : FamilyState) → slice_get now.families family.0 ≡ Some g → FitsFamily g.form g.floor (live_with number out.table)
   pub holds : map (version_of_item family) out.table.contents.items ≡ flush_kept m job
