@@ -1,15 +1,16 @@
 -- The files of jobs: what the engine holds when one was made, and when one was given back.
-use Rattle.std.proofs.Common.{◌≡◌, ℕ, ◌+◌, ◌-◌, ◌^◌, ◌<◌, ◌≤◌, Bool, true, false, min, List, [], ◌∷◌, Result, Ok, Err, refl, sym, ap, ◌∙◌, subst, arith, inl, inr}
+use Rattle.std.proofs.Common.{◌≡◌, ◌≢◌, ℕ, ◌+◌, ◌-◌, ◌^◌, ◌<◌, ◌≤◌, Bool, true, false, min, List, [], ◌∷◌, Result, Ok, Err, refl, sym, ap, ◌∙◌, subst, arith, inl, inr}
 use Rattle.std.specs.Prelude.{All, Contains}
 use Rattle.std.proofs.lemmas.Bool.{false_from_ne_true}
 use Rattle.udt_disk.specs.Causes.{HasCause, plus_faults}
-use Rattle.udt_disk.specs.Joint.{Folder}
+use Rattle.udt_disk.specs.Folder.{FolderElapses, OthersStay}
 use Rattle.udt_disk.specs.Touches.{Touches}
 use Rattle.udt_disk.specs.declared.file.DiskFile as file
 use Rattle.udt_disk.specs.declared.disk.Disk as disk
 use Rattle.udt_disk.specs.declared.name.FileName.{FileName}
 use Rattle.udt_disk.specs.declared.name.FileName.TheVariants.{Table}
 use Rattle.udt_disk.proofs.Joints.{ran_more}
+use Rattle.udt_disk.proofs.TouchLemmas.{touches_more, touches_one}
 use Rattle.wal.specs.declared.numbered.Numbered.{Numbered}
 use Rattle.wal.specs.Wals.{wal_file}
 use Rattle.udt_model.specs.State.{State}
@@ -46,6 +47,12 @@ next_free fold n well most = false_from_ne_true (is_live fold.families n) (λ y.
     let low = well.tables (record { 0 = k.0 }) r.0 r.2.0 (record { family = k.1; table = In-contains r.0.tables r.2.0 r.2.1 }) in
     let is = r.2.2 in
     omega (arith, low, is, most))
+
+-- a call under one name
+pub created_touches : {D F : Type 0} (d : disk.Ghosts D F) (name : FileName) (old new : D) (Bounded : FileName → Type 0) → ((n : FileName) → n ≢ name → Bounded n) → OthersStay name (d.stands old) (d.stands new) (d.may_leave old) (d.may_leave new)
+    → FolderElapses Bounded (d.moment old) (d.moment new) (d.left_since old) (d.left_since new) (d.may_leave new) → d.is_told new ≡ d.is_told old → d.keeps_model new ≡ d.keeps_model old → Touches d (Contains (name ∷ [])) old new
+created_touches d name old new Bounded bounded others time told model =
+    touches_more d (λ n. n ≡ name) (Contains (name ∷ [])) old new (λ n is. In-contains (name ∷ []) n (inl (sym is))) (touches_one d Bounded name old new bounded others time told model)
 
 module _ {D F : Type 0} (d : disk.Ghosts D F) (f : file.Ghosts F) (now_last : IsNowLast d f) where
   -- ---- under names that aren't live

@@ -3,6 +3,7 @@ use Rattle.std.proofs.Common.{◌≡◌, ◌⊎◌, ℕ, ◌+◌, ◌<◌, ◌�
 use Rattle.std.specs.Prelude.{Contains, IfErr, OnErr, OnOk, Option}
 use Rattle.udt_disk.specs.Causes.{HasCause, plus_faults}
 use Rattle.udt_disk.specs.Joint.{Ran}
+use Rattle.udt_disk.specs.Runs.{IsSameFile}
 use Rattle.udt_disk.specs.Touches.{Touches}
 use Rattle.udt_disk.specs.declared.file.DiskFile as file
 use Rattle.udt_disk.specs.declared.disk.Disk as disk
@@ -79,11 +80,27 @@ module _ {D F : Type 0} (d : disk.Ghosts D F) (f : file.Ghosts F) (now_last : Is
       on_ok result (manifest_folded new.manifest ≡ fold_with (manifest_folded three.manifest) edit) (manifest_folded new.manifest ≡ fold_with (manifest_folded mid.manifest) edit)
       (λ is. is ∙ ap (λ k. fold_with (manifest_folded k) edit) (r.manifest ∙ e.manifest)) ed.fold
 
-  -- the number of the next file doesn't fall, and a log that is added makes no table live
-  pub rolls_more : (result : Result (Unit {0}) EngineFault) → IsRolled d f edit older mid new result → mid.next ≤ new.next
-  rolls_more result (unsynced fault e) = let k = e.next in omega (arith, k)
-  rolls_more result (unrolled two fault e r) = let b = r.more in let k = e.next in omega (arith, b, k)
-  rolls_more result (edited two three r1 e r ed) = let a = ed.next in let b = r.more in let k = e.next in omega (arith, a, b, k)
+  -- the number of the next file rises by one or not, the manifest stays in its file, and a log that is added makes no table live
+  pub rolls_more : (result : Result (Unit {0}) EngineFault) → IsRolled d f edit older mid new result → (mid.next ≤ new.next) × (new.next ≤ mid.next + 1)
+  rolls_more result (unsynced fault e) = let k = e.next in (omega (arith, k), omega (arith, k))
+  rolls_more result (unrolled two fault e r) = let b = r.next_is in let k = e.next in (omega (arith, b, k), omega (arith, b, k))
+  rolls_more result (edited two three r1 e r ed) = let a = ed.next in let b = r.next in let k = e.next in (omega (arith, a, b, k), omega (arith, a, b, k))
+
+  same_file : (two : Engine D F f) → two.manifest ≡ mid.manifest → IsSameFile f (manifest_file mid.manifest) (manifest_file two.manifest)
+  same_file two is = record { name = ap (λ k. f.name (manifest_file k)) is; told = ap (λ k. f.is_told (manifest_file k)) is; model = ap (λ k. f.keeps_model (manifest_file k)) is }
+
+  pub rolls_file : (result : Result (Unit {0}) EngineFault) → IsRolled d f edit older mid new result → IsSameFile f (manifest_file mid.manifest) (manifest_file new.manifest)
+  rolls_file result (unsynced fault e) = same_file new e.manifest
+  rolls_file result (unrolled two fault e r) = same_file new (r.manifest ∙ e.manifest)
+  rolls_file result (edited two three r1 e r ed) =
+      let before = same_file three (r.manifest ∙ e.manifest) in
+      record { name = ed.same.name ∙ before.name; told = ed.same.told ∙ before.told; model = ed.same.model ∙ before.model }
+
+  -- the log is that of the new file
+  pub rolls_name : (result : Result (Unit {0}) EngineFault) → IsRolled d f edit older mid new result → OnOk result (f.name (wal_file new.wal) ≡ Log mid.next)
+  rolls_name result (unsynced fault e) = tt
+  rolls_name result (unrolled two fault e r) = tt
+  rolls_name result (edited two three r1 e r ed) = ok_on result (f.name (wal_file new.wal) ≡ Log mid.next) (ap (λ w. f.name (wal_file w)) ed.wal ∙ r.name ∙ ap Log e.next)
 
   pub rolls_live : (result : Result (Unit {0}) EngineFault) → IsRolled d f edit older mid new result → edit.family ≡ None → (n : ℕ) → is_live (manifest_folded new.manifest).families n ≡ is_live (manifest_folded mid.manifest).families n
   rolls_live result (unsynced fault e) none n = ap (λ k. is_live (manifest_folded k).families n) e.manifest

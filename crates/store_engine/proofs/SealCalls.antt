@@ -12,10 +12,12 @@ use Rattle.udt_disk.specs.Causes.{HasCause}
 use Rattle.udt_disk.specs.Joint.{Ran}
 use Rattle.udt_disk.specs.Joint.Ran.{rests}
 use Rattle.udt_disk.specs.Moments.{MayLeave}
+use Rattle.udt_disk.specs.Runs.{IsSameFile}
 use Rattle.udt_disk.specs.Touches.{Touches}
 use Rattle.udt_disk.proofs.TouchLemmas.{touches_nothing}
 use Rattle.udt_disk.specs.declared.file.DiskFile as file
 use Rattle.udt_disk.specs.declared.disk.Disk as disk
+use Rattle.udt_disk.specs.declared.name.FileName.TheVariants.{Log}
 use Rattle.wal.specs.declared.numbered.Numbered.{Numbered}
 use Rattle.wal.specs.Wals as log
 use Rattle.wal.specs.Wals.{MayGoOn, wal_file, wal_pending}
@@ -76,7 +78,7 @@ use Rattle.store_engine.proofs.NowRaised.{same_or_not}
 use Rattle.store_engine.proofs.NowSealed.{held_count, now_sealed, now_waiting, seal_fails, seal_full, seal_not_there, seal_nothing, seal_some, seal_there, seal_unknown}
 use Rattle.store_engine.proofs.Raised.{reserved_held, reserved_of}
 use Rattle.store_engine.proofs.Raising.{kept_before, kept_faults, kept_folder}
-use Rattle.store_engine.proofs.RollSteps.{rolls_cause, rolls_failed, rolls_fault, rolls_fold, rolls_goes, rolls_live, rolls_more, rolls_next, rolls_of, rolls_older, rolls_one, rolls_pending, rolls_ran, rolls_running, rolls_touches}
+use Rattle.store_engine.proofs.RollSteps.{rolls_cause, rolls_failed, rolls_fault, rolls_file, rolls_fold, rolls_goes, rolls_live, rolls_more, rolls_name, rolls_next, rolls_of, rolls_older, rolls_one, rolls_pending, rolls_ran, rolls_running, rolls_touches}
 
 -- ---- the manifest and the next version
 
@@ -125,15 +127,20 @@ module _ {D F : Type 0} (d : disk.Ghosts D F) (f : file.Ghosts F) (now_last : Is
     unfailed = h.unfailed;
   }
 
-  module _ (old : Engine D F f) (run : IsRunning old) where
+  module _ (last : Seq) (old : Engine D F f) (run : IsRunning old) where
+    same_manifest : IsSameFile f (manifest_file old.manifest) (manifest_file old.manifest)
+    same_manifest = record { name = refl; told = refl; model = refl }
+
     -- a refusal
-    pub refused_called : (fault : EngineFault) → is_disk_fault fault ≡ false → IsSealed d f old old (Err fault)
+    pub refused_called : (fault : EngineFault) → is_disk_fault fault ≡ false → IsSealed d f last old old (Err fault)
     refused_called fault no_disk = record {
       one = λ one. one;
+      manifest = same_manifest;
       next = λ not. omega arith;
+      numbers = (omega arith, omega arith);
       jobs = λ n job. job;
-      untouched = λ not none. refl;
-      pending = λ one. absurd (omega (arith, one));
+      untouched = λ not none. record { held_is = refl; wal = refl; older = refl };
+      rolled = λ one. absurd (omega (arith, one));
       touches = touches_nothing d (IsRolledName (f.name (wal_file old.wal)) old.next) old.disk;
       running = λ not. run;
       failed = run.runs ∙ sym no_disk;
@@ -141,13 +148,15 @@ module _ {D F : Type 0} (d : disk.Ghosts D F) (f : file.Ghosts F) (now_last : Is
     }
 
     -- and a seal without a roll
-    pub unrolled_called : (done : Sealed) → rolled_count (Ok done) ≡ 0 → IsSealed d f old old (Ok done)
+    pub unrolled_called : (done : Sealed) → rolled_count (Ok done) ≡ 0 → IsSealed d f last old old (Ok done)
     unrolled_called done none = record {
       one = λ one. one;
+      manifest = same_manifest;
       next = λ not. omega (arith, none);
+      numbers = (omega arith, omega arith);
       jobs = λ n job. job;
-      untouched = λ not is. refl;
-      pending = λ one. absurd (omega (arith, one, none));
+      untouched = λ not is. record { held_is = refl; wal = refl; older = refl };
+      rolled = λ one. absurd (omega (arith, one, none));
       touches = touches_nothing d (IsRolledName (f.name (wal_file old.wal)) old.next) old.disk;
       running = λ not. run;
       failed = run.runs;
@@ -167,7 +176,7 @@ module _ {D F : Type 0} (d : disk.Ghosts D F) (f : file.Ghosts F) (now_last : Is
           seal_nothing m family h.runs idle of.0 of.1 (sym (held_count now m h.shows family g there) ∙ ap (λ (vs : List Version). length vs) none)
 
       pub nothing_holds : (number : ℕ) → versions_held g ≡ [] → HoldsNow d f engine now (after m number (flush_start family) replies.Nothing) (course_after m number c (flush_start family) replies.Nothing)
-      nothing_holds number none = holds_beside m c number (flush_start family) replies.Nothing tt d f engine now h (nothing_tells none)
+      nothing_holds number none = holds_beside m c number (flush_start family) replies.Nothing refl d f engine now h (nothing_tells none)
 
       full_known : 1 ≤ length (versions_held g) → 1 ≤ length (unflushed_of m family)
       full_known some = let count = held_count now m h.shows family g there in omega (arith, count, some)
@@ -250,9 +259,15 @@ module _ {D F : Type 0} (d : disk.Ghosts D F) (f : file.Ghosts F) (now_last : Is
       prepared_one : IsOneFolder d f old → IsOneFolder d f new
       prepared_one one = rolls_one d f now_last edit older mid new ended r (one_stays d f old mid (kept_folder d f now_last old mid edit (Ok tt) p.reserves) one)
 
+      prepared_file : IsSameFile f (manifest_file old.manifest) (manifest_file new.manifest)
+      prepared_file = subst (λ x. IsSameFile f x (manifest_file new.manifest)) p.reserves.file (rolls_file d f now_last edit older mid new ended r)
+
+      prepared_numbers : (old.next ≤ new.next) × (new.next ≤ old.next + 1)
+      prepared_numbers = let a = rolls_more d f now_last edit older mid new ended r in let low = a.0 in let high = a.1 in let b = p.reserves.next in (omega (arith, low, b), omega (arith, high, b))
+
       prepared_jobs : (n : ℕ) → IsJobNumber old n → IsJobNumber new n
       prepared_jobs n job = record {
-        given = let a = rolls_more d f now_last edit older mid new ended r in let b = p.reserves.next in let l = job.given in omega (arith, a, b, l);
+        given = let a = (rolls_more d f now_last edit older mid new ended r).0 in let b = p.reserves.next in let l = job.given in omega (arith, a, b, l);
         free = rolls_live d f now_last edit older mid new ended r (ap (λ (e : Edit). e.family) p.edit_is) n ∙ ap (λ (z : Folded). is_live z.families n) p.reserves.fold ∙ job.free;
       }
 
@@ -270,16 +285,18 @@ module _ {D F : Type 0} (d : disk.Ghosts D F) (f : file.Ghosts F) (now_last : Is
     counts_one seals.Waiting shows = absurd shows
     counts_one (seals.Rolled version mems) shows = refl
 
-    pub active_called : (result : Result Sealed EngineFault) → SealsActive d f now family old new result → IsSealed d f old new result
-    active_called result (unmade fault is same) = subst (λ e. IsSealed d f old e (Err fault)) (sym same) (refused_called old run fault (none_disk fault is))
+    pub active_called : (result : Result Sealed EngineFault) → SealsActive d f now family old new result → IsSealed d f now.last old new result
+    active_called result (unmade fault is same) = subst (λ e. IsSealed d f now.last old e (Err fault)) (sym same) (refused_called now.last old run fault (none_disk fault is))
     active_called result (unreserved edit fault r) =
         let no_disk = none_disk fault r.fault in
         record {
           one = one_stays d f old new (kept_folder d f now_last old new edit (Err fault) r);
+          manifest = (kept_folder d f now_last old new edit (Err fault) r).manifest;
           next = λ not. let e = r.next in omega (arith, e);
+          numbers = let e = r.next in (omega (arith, e), omega (arith, e));
           jobs = λ n job. record { given = let e = r.next in let l = job.given in omega (arith, e, l); free = ap (λ (z : Folded). is_live z.families n) r.fold ∙ job.free };
-          untouched = λ not none. reserved_held d f now_last old new edit (Err fault) r;
-          pending = λ one. absurd (omega (arith, one));
+          untouched = λ not none. record { held_is = reserved_held d f now_last old new edit (Err fault) r; wal = r.wal; older = r.older };
+          rolled = λ one. absurd (omega (arith, one));
           touches = subst (λ x. Touches d (IsRolledName (f.name (wal_file old.wal)) old.next) old.disk x) (sym r.disk) (touches_nothing d (IsRolledName (f.name (wal_file old.wal)) old.next) old.disk);
           running = λ not. r.running;
           failed = r.running.runs ∙ sym no_disk;
@@ -289,10 +306,12 @@ module _ {D F : Type 0} (d : disk.Ghosts D F) (f : file.Ghosts F) (now_last : Is
         let disk_fault = stops_disk edit older mid fault r in
         record {
           one = prepared_one edit older mid (Err fault) p r;
+          manifest = prepared_file edit older mid (Err fault) p r;
           next = λ not. absurd (false≢true (sym not ∙ disk_fault));
+          numbers = prepared_numbers edit older mid (Err fault) p r;
           jobs = prepared_jobs edit older mid (Err fault) p r;
           untouched = λ not none. absurd (false≢true (sym not ∙ disk_fault));
-          pending = λ one. absurd (omega (arith, one));
+          rolled = λ one. absurd (omega (arith, one));
           touches = prepared_touches edit older mid (Err fault) p r;
           running = λ not. absurd (false≢true (sym not ∙ disk_fault));
           failed = rolls_failed d f now_last edit older mid new (Err fault) r;
@@ -302,10 +321,20 @@ module _ {D F : Type 0} (d : disk.Ghosts D F) (f : file.Ghosts F) (now_last : Is
         let one = counts_one done shows in
         record {
           one = prepared_one edit older mid (Ok tt) p r;
+          manifest = prepared_file edit older mid (Ok tt) p r;
           next = λ not. let a = rolls_next d f now_last edit older mid new (Ok tt) r in let b = p.reserves.next in omega (arith, a, b, one);
+          numbers = prepared_numbers edit older mid (Ok tt) p r;
           jobs = prepared_jobs edit older mid (Ok tt) p r;
           untouched = λ not none. absurd (omega (arith, one, none));
-          pending = λ is. rolls_pending d f now_last edit older mid new (Ok tt) r;
+          rolled = λ is.
+              let a = rolls_older d f now_last edit older mid new (Ok tt) r in
+              record {
+                name = rolls_name d f now_last edit older mid new (Ok tt) r ∙ ap Log p.reserves.next;
+                fold = rolls_fold d f now_last edit older mid new (Ok tt) r ∙ ap (λ z. fold_with z edit) p.reserves.fold ∙ ap (fold_with (manifest_folded old.manifest)) p.edit_is;
+                opened = ap (λ (o : OlderLogs). o.opened) a ∙ p.opened;
+                logs = ap (λ (o : OlderLogs). o.rolled.items) a ∙ p.logs;
+                pending = rolls_pending d f now_last edit older mid new (Ok tt) r;
+              };
           touches = prepared_touches edit older mid (Ok tt) p r;
           running = λ not. rolls_running d f now_last edit older mid new (Ok tt) r;
           failed = rolls_failed d f now_last edit older mid new (Ok tt) r;

@@ -46,6 +46,7 @@ pub record IsJobFile {D F : Type 0} (d : disk.Ghosts D F) (f : file.Ghosts F) (o
 pub record IsJobFileCalled {D F : Type 0} (d : disk.Ghosts D F) (f : file.Ghosts F) (old new : Engine D F f) (result : Result (ℕ × F) EngineFault) : Type 0 where
   pub wal : new.wal ≡ old.wal
   pub manifest : new.manifest ≡ old.manifest
+  pub older : new.older ≡ old.older
   pub next : new.next ≡ old.next + made_count result
   pub jobs : (n : ℕ) → IsJobNumber old n → IsJobNumber new n
   pub touches : Touches d (Contains (Table old.next ∷ [])) old.disk new.disk

@@ -229,7 +229,7 @@ impl<D: Disk> Engine<D> {
         ensures answers { AnswersSeal (slice_get now.now.families family.0) self.old.next result }
         ensures shown { IfOk result (ShowsSealed family now.now) }
         ensures still { IfOk result (λ done. rolled_count result ≡ 0 → self.new ≡ self.old) }
-        ensures called { IsSealed D.Disk D.File.DiskFile self.old self.new result }
+        ensures called { IsSealed D.Disk D.File.DiskFile now.now.last self.old self.new result }
     {
         let Some(state) = now.family(family) else {
             return Err(EngineFault::UnknownFamily);
