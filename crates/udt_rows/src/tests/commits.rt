@@ -49,30 +49,40 @@ fn left(call: u64, outcome: Outcome) -> &'static str {
     }
 }
 
-/// The file fails at a call, for good or not: it prints this, and after a crash the reads print what is left.
+/// A call of the log's file.
+fn call_of_log(call: u64, lasting: bool) -> Trouble {
+    Trouble {
+        name: LOG,
+        call,
+        lasting,
+    }
+}
+
+/// Where the call fails a run prints this, and after a crash the reads print what is left.
 fn fails_and_is_left(
     rt: &(impl AllocGlobal + Abort),
-    (call, lasting): (u64, bool),
+    trouble: Trouble,
     file: &str,
     text: &str,
     outcome: Outcome,
 ) -> Result<(), Fail> {
-    let trouble = Trouble {
-        name: LOG,
-        call,
-        lasting,
-    };
     let mut host = store_of(rt.alloc(), &INIT, Some(trouble))?;
     runs(rt, &mut host, file, Status::DiskFault, text)?;
     let mut host = crashed(rt.alloc(), host, outcome)?;
-    runs(rt, &mut host, READS, Status::Done, left(call, outcome))
+    runs(
+        rt,
+        &mut host,
+        READS,
+        Status::Done,
+        left(trouble.call, outcome),
+    )
 }
 
 #[test]
 fn a_commit_that_fails_is_there_whole_or_not_at_all(rt: HostRuntime) -> Result<(), Fail> {
     for call in 3..7 {
         for outcome in OUTCOMES {
-            fails_and_is_left(&rt, (call, true), WRITES, FAILED, outcome)?;
+            fails_and_is_left(&rt, call_of_log(call, true), WRITES, FAILED, outcome)?;
         }
     }
     Ok(())
@@ -81,7 +91,8 @@ fn a_commit_that_fails_is_there_whole_or_not_at_all(rt: HostRuntime) -> Result<(
 #[test]
 fn a_write_that_failed_is_not_read(rt: HostRuntime) -> Result<(), Fail> {
     for outcome in OUTCOMES {
-        fails_and_is_left(&rt, (6, false), WRITES_AND_READ, FAILED_AND_READ, outcome)?;
+        let trouble = call_of_log(6, false);
+        fails_and_is_left(&rt, trouble, WRITES_AND_READ, FAILED_AND_READ, outcome)?;
     }
     Ok(())
 }

@@ -10,10 +10,12 @@ const TRY: [&[u8]; 2] = [b"try", b"FILE"];
 /// A command line with one failing read or write ends with this status and text.
 fn fails(
     rt: &(impl AllocGlobal + Abort),
-    (words, file): (&[&[u8]], &[u8]),
+    words: &[&[u8]],
+    file: &[u8],
     read_fails: Option<u64>,
     write_fails: Option<u64>,
-    (status, text): (Status, &[u8]),
+    status: Status,
+    text: &[u8],
 ) -> Result<(), Fail> {
     let outcome = ran(rt, words, file, read_fails, write_fails)?;
     assert_eq!(rt; outcome.status, status);
@@ -24,9 +26,9 @@ fn fails(
 #[test]
 fn the_first_or_a_later_read_fails(rt: HostRuntime) -> Result<(), Fail> {
     let long = repeated(&rt, b"", b"\n", 20_000, b"")?;
-    let wanted = (Status::SourceFault, b"source fault\n".as_slice());
+    let (status, text) = (Status::SourceFault, b"source fault\n");
     for read in [1, 2] {
-        fails(&rt, (&TRY, &long), Some(read), None, wanted)?;
+        fails(&rt, &TRY, &long, Some(read), None, status, text)?;
     }
     Ok(())
 }
@@ -40,8 +42,8 @@ const WRITES: [(&[&[u8]], &[u8]); 3] = [
 
 #[test]
 fn a_write_that_fails(rt: HostRuntime) -> Result<(), Fail> {
-    for written in WRITES {
-        fails(&rt, written, None, Some(1), (Status::SinkFault, b""))?;
+    for (words, file) in WRITES {
+        fails(&rt, words, file, None, Some(1), Status::SinkFault, b"")?;
     }
     Ok(())
 }
