@@ -2,7 +2,7 @@
 
 use super::stage::{LOG, OUTCOMES, crashed, runs, store_of};
 use client_runner::Status;
-use std::process::Abort;
+use std::alloc::Global;
 use std::test::Fail;
 use udt_disk::{Outcome, Trouble};
 
@@ -60,17 +60,17 @@ fn call_of_log(call: u64, lasting: bool) -> Trouble {
 
 /// Where the call fails a run prints this, and after a crash the reads print what is left.
 fn fails_and_is_left(
-    rt: &(impl AllocGlobal + Abort),
+    alloc: Global,
     trouble: Trouble,
     file: &str,
     text: &str,
     outcome: Outcome,
 ) -> Result<(), Fail> {
-    let mut host = store_of(rt.alloc(), &INIT, Some(trouble))?;
-    runs(rt, &mut host, file, Status::DiskFault, text)?;
-    let mut host = crashed(rt.alloc(), host, outcome)?;
+    let mut host = store_of(alloc, &INIT, Some(trouble))?;
+    runs(alloc, &mut host, file, Status::DiskFault, text)?;
+    let mut host = crashed(alloc, host, outcome)?;
     runs(
-        rt,
+        alloc,
         &mut host,
         READS,
         Status::Done,
@@ -82,7 +82,7 @@ fn fails_and_is_left(
 fn a_commit_that_fails_is_there_whole_or_not_at_all(rt: HostRuntime) -> Result<(), Fail> {
     for call in 3..7 {
         for outcome in OUTCOMES {
-            fails_and_is_left(&rt, call_of_log(call, true), WRITES, FAILED, outcome)?;
+            fails_and_is_left(rt.alloc(), call_of_log(call, true), WRITES, FAILED, outcome)?;
         }
     }
     Ok(())
@@ -92,7 +92,13 @@ fn a_commit_that_fails_is_there_whole_or_not_at_all(rt: HostRuntime) -> Result<(
 fn a_write_that_failed_is_not_read(rt: HostRuntime) -> Result<(), Fail> {
     for outcome in OUTCOMES {
         let trouble = call_of_log(6, false);
-        fails_and_is_left(&rt, trouble, WRITES_AND_READ, FAILED_AND_READ, outcome)?;
+        fails_and_is_left(
+            rt.alloc(),
+            trouble,
+            WRITES_AND_READ,
+            FAILED_AND_READ,
+            outcome,
+        )?;
     }
     Ok(())
 }

@@ -3,9 +3,8 @@
 use super::stage::{Ended, LOG, OUTCOMES, crashed, run, runs, store_of};
 use client_runner::Status;
 use std::alloc::Global;
-use std::process::Abort;
 use std::test::Fail;
-use udt_disk::{FileName, Outcome, Trouble};
+use udt_disk::{FileName, MemHost, Outcome, Trouble};
 
 const INIT: [&str; 4] = ["init", "X", "d:persist", "e:persist"];
 
@@ -219,29 +218,30 @@ fn are_found(told: &str, found: &Ended) -> bool {
     })
 }
 
+/// Behind a run that printed this, the reads find what was accepted.
+fn finds(alloc: Global, host: &mut MemHost, told: &str) -> Result<(), Fail> {
+    let found = run(alloc, host, READS)?;
+    if are_found(told, &found) {
+        Ok(())
+    } else {
+        Err(found.into())
+    }
+}
+
 /// The run in which this call fails prints what it should, and after a crash what was accepted is found.
-fn is_kept(
-    rt: &(impl AllocGlobal + Abort),
-    trouble: Trouble,
-    outcome: Outcome,
-) -> Result<(), Fail> {
+fn is_kept(alloc: Global, trouble: Trouble, outcome: Outcome) -> Result<(), Fail> {
     let (status, text) = told(trouble);
-    let mut host = store_of(rt.alloc(), &INIT, Some(trouble))?;
-    runs(rt, &mut host, COMMANDS, status, text)?;
-    let mut host = crashed(rt.alloc(), host, outcome)?;
-    let found = run(rt.alloc(), &mut host, READS)?;
-    assert!(rt;
-        are_found(text, &found),
-        "{trouble:?} {outcome:?}: {found:?}"
-    );
-    Ok(())
+    let mut host = store_of(alloc, &INIT, Some(trouble))?;
+    runs(alloc, &mut host, COMMANDS, status, text)?;
+    let mut host = crashed(alloc, host, outcome)?;
+    finds(alloc, &mut host, text)
 }
 
 #[test]
 fn accepted_syncs_are_found_after_each_failing_call(rt: HostRuntime) -> Result<(), Fail> {
     for trouble in troubles(rt.alloc())? {
         for outcome in OUTCOMES {
-            is_kept(&rt, trouble, outcome)?;
+            is_kept(rt.alloc(), trouble, outcome)?;
         }
     }
     Ok(())

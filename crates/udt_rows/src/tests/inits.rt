@@ -3,7 +3,6 @@
 use super::stage::{LOG, OUTCOMES, crashed, ends, host_of, run, runs};
 use client_runner::Status;
 use std::alloc::Global;
-use std::process::Abort;
 use std::test::Fail;
 use udt_disk::{FileName, MemDisk, MemHost, Outcome, Trouble};
 
@@ -19,14 +18,9 @@ const CALLS: [(FileName, u64); 4] = [
 ];
 
 /// Making a store of two families ends with this status and text.
-fn inits(
-    rt: &(impl AllocGlobal + Abort),
-    host: &mut MemHost,
-    status: Status,
-    text: &str,
-) -> Result<(), Fail> {
+fn inits(alloc: Global, host: &mut MemHost, status: Status, text: &str) -> Result<(), Fail> {
     ends(
-        rt,
+        alloc,
         host,
         &["init", "X", "a:persist", "b:persist"],
         status,
@@ -44,9 +38,9 @@ fn empty_folder(alloc: Global, trouble: Trouble) -> Result<MemHost, Fail> {
 #[test]
 fn a_store_is_made_once(rt: HostRuntime) -> Result<(), Fail> {
     let mut host = MemHost::new(rt.alloc());
-    inits(&rt, &mut host, Status::Done, "made 2\n")?;
-    inits(&rt, &mut host, Status::Folder, "store exists\n")?;
-    runs(&rt, &mut host, "", Status::Done, EMPTY)
+    inits(rt.alloc(), &mut host, Status::Done, "made 2\n")?;
+    inits(rt.alloc(), &mut host, Status::Folder, "store exists\n")?;
+    runs(rt.alloc(), &mut host, "", Status::Done, EMPTY)
 }
 
 const SIXTEEN: [&str; 18] = [
@@ -96,22 +90,22 @@ const RUN_OF_SIXTEEN: &str = "udt 1\nopened 0\n\
 #[test]
 fn sixteen_families_are_made(rt: HostRuntime) -> Result<(), Fail> {
     let mut host = MemHost::new(rt.alloc());
-    ends(&rt, &mut host, &SIXTEEN, Status::Done, "made 16\n")?;
+    ends(rt.alloc(), &mut host, &SIXTEEN, Status::Done, "made 16\n")?;
     let file = "put p k 1 v\nget o k 1\nget p k 1\n";
-    runs(&rt, &mut host, file, Status::Done, RUN_OF_SIXTEEN)
+    runs(rt.alloc(), &mut host, file, Status::Done, RUN_OF_SIXTEEN)
 }
 
 /// An init in which this call fails, and then another one. The third call on `MADE` syncs it: it stands by then.
-fn is_made_again(rt: &(impl AllocGlobal + Abort), trouble: Trouble) -> Result<(), Fail> {
+fn is_made_again(alloc: Global, trouble: Trouble) -> Result<(), Fail> {
     let (status, text) = if trouble.name == FileName::Made && trouble.call == 3 {
         (Status::Folder, "store exists\n")
     } else {
         (Status::Done, "made 2\n")
     };
-    let mut host = empty_folder(rt.alloc(), trouble)?;
-    inits(rt, &mut host, Status::DiskFault, "disk fault\n")?;
-    inits(rt, &mut host, status, text)?;
-    runs(rt, &mut host, "", Status::Done, EMPTY)
+    let mut host = empty_folder(alloc, trouble)?;
+    inits(alloc, &mut host, Status::DiskFault, "disk fault\n")?;
+    inits(alloc, &mut host, status, text)?;
+    runs(alloc, &mut host, "", Status::Done, EMPTY)
 }
 
 #[test]
@@ -123,44 +117,36 @@ fn an_init_that_failed_is_made_again(rt: HostRuntime) -> Result<(), Fail> {
                 call,
                 lasting: false,
             };
-            is_made_again(&rt, trouble)?;
+            is_made_again(rt.alloc(), trouble)?;
         }
     }
     Ok(())
 }
 
 /// Makes the store where there is none.
-fn make_where_none(rt: &(impl AllocGlobal + Abort), host: &mut MemHost) -> Result<(), Fail> {
-    let ran = run(rt.alloc(), host, "")?;
+fn make_where_none(alloc: Global, host: &mut MemHost) -> Result<(), Fail> {
+    let ran = run(alloc, host, "")?;
     if ran.is(Status::Folder, "no store\n") {
-        return inits(rt, host, Status::Done, "made 2\n");
+        return inits(alloc, host, Status::Done, "made 2\n");
     }
     Ok(())
 }
 
 /// A crash behind an init in which this call fails leaves the empty store, or no store, and then one can be made.
-fn is_there_or_none(
-    rt: &(impl AllocGlobal + Abort),
-    trouble: Trouble,
-    outcome: Outcome,
-) -> Result<(), Fail> {
-    let mut host = empty_folder(rt.alloc(), trouble)?;
-    inits(rt, &mut host, Status::DiskFault, "disk fault\n")?;
-    let mut host = crashed(rt.alloc(), host, outcome)?;
-    make_where_none(rt, &mut host)?;
-    runs(rt, &mut host, "", Status::Done, EMPTY)
+fn is_there_or_none(alloc: Global, trouble: Trouble, outcome: Outcome) -> Result<(), Fail> {
+    let mut host = empty_folder(alloc, trouble)?;
+    inits(alloc, &mut host, Status::DiskFault, "disk fault\n")?;
+    let mut host = crashed(alloc, host, outcome)?;
+    make_where_none(alloc, &mut host)?;
+    runs(alloc, &mut host, "", Status::Done, EMPTY)
 }
 
 /// A crash behind an init in which no call fails leaves the empty store.
-fn is_there(
-    rt: &(impl AllocGlobal + Abort),
-    trouble: Trouble,
-    outcome: Outcome,
-) -> Result<(), Fail> {
-    let mut host = empty_folder(rt.alloc(), trouble)?;
-    inits(rt, &mut host, Status::Done, "made 2\n")?;
-    let mut host = crashed(rt.alloc(), host, outcome)?;
-    runs(rt, &mut host, "", Status::Done, EMPTY)
+fn is_there(alloc: Global, trouble: Trouble, outcome: Outcome) -> Result<(), Fail> {
+    let mut host = empty_folder(alloc, trouble)?;
+    inits(alloc, &mut host, Status::Done, "made 2\n")?;
+    let mut host = crashed(alloc, host, outcome)?;
+    runs(alloc, &mut host, "", Status::Done, EMPTY)
 }
 
 /// The call of this number on the file, which fails from then on.
@@ -177,10 +163,10 @@ fn a_crash_leaves_no_store_or_the_empty_one(rt: HostRuntime) -> Result<(), Fail>
     for (name, calls) in CALLS {
         for outcome in OUTCOMES {
             for call in 1..=calls {
-                is_there_or_none(&rt, lasting(name, call), outcome)?;
+                is_there_or_none(rt.alloc(), lasting(name, call), outcome)?;
             }
             // The call behind the last one isn't made.
-            is_there(&rt, lasting(name, calls.saturating_add(1)), outcome)?;
+            is_there(rt.alloc(), lasting(name, calls.saturating_add(1)), outcome)?;
         }
     }
     Ok(())

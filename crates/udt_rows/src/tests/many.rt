@@ -1,9 +1,8 @@
 //! Some thousand commands in one file, which end as a few do.
 
-use super::stage::{run, store_of};
+use super::stage::{Ended, run, store_of};
 use client_runner::Status;
 use std::alloc::Global;
-use std::process::Abort;
 use std::test::Fail;
 use udt_disk::MemHost;
 
@@ -25,18 +24,18 @@ fn puts_and_gets(alloc: Global) -> Result<String, Fail> {
     Ok(file)
 }
 
+fn are_told(ran: &Ended, parts: [&str; 2]) -> bool {
+    ran.status == Status::Done && parts.iter().all(|part| ran.tells(part))
+}
+
 /// A run of the file over the host ends with 0, and tells these parts.
-fn tells(
-    rt: &(impl AllocGlobal + Abort),
-    host: &mut MemHost,
-    file: &str,
-    parts: [&str; 2],
-) -> Result<(), Fail> {
-    let ran = run(rt.alloc(), host, file)?;
-    assert!(rt; ran.status == Status::Done);
-    assert!(rt; ran.tells(parts[0]));
-    assert!(rt; ran.tells(parts[1]));
-    Ok(())
+fn tells(alloc: Global, host: &mut MemHost, file: &str, parts: [&str; 2]) -> Result<(), Fail> {
+    let ran = run(alloc, host, file)?;
+    if are_told(&ran, parts) {
+        Ok(())
+    } else {
+        Err(ran.into())
+    }
 }
 
 #[test]
@@ -47,9 +46,9 @@ fn two_thousand_commands_end_with_0(rt: HostRuntime) -> Result<(), Fail> {
         "1000 c1 put d k999 5 v999 = ok 1000\n1001 c1 get d k0 9 = found v0 5\n",
         "2000 c1 get d k999 9 = found v999 5\n2001 r sync = ok\n",
     ];
-    tells(&rt, &mut host, file.as_str(), parts)?;
+    tells(rt.alloc(), &mut host, file.as_str(), parts)?;
     tells(
-        &rt,
+        rt.alloc(),
         &mut host,
         "get d k7 9\n",
         ["opened 1000\n", "= found v7 5\n"],

@@ -46,13 +46,13 @@ impl Place {
 fn inits(rt: &HostRuntime, store: &str, status: Status, text: &str) -> Result<(), Fail> {
     let mut host = RealHost::new(rt);
     let words = ["init", store, "d:persist", "e:persist"];
-    stage::ends(rt, &mut host, &words, status, text)
+    stage::ends(rt.alloc(), &mut host, &words, status, text)
 }
 
 /// Running a command file over the store in a folder ends with this status and text.
 fn runs(rt: &HostRuntime, store: &str, file: &str, status: Status, text: &str) -> Result<(), Fail> {
     let mut host = RealHost::new(rt);
-    stage::ends(rt, &mut host, &["run", store, file], status, text)
+    stage::ends(rt.alloc(), &mut host, &["run", store, file], status, text)
 }
 
 /// Does a file hold these bytes?

@@ -47,7 +47,7 @@ const RUNS: [(&str, &str); 4] = [
 fn a_run_goes_on_where_the_last_one_ended(rt: HostRuntime) -> Result<(), Fail> {
     let mut host = store_of(rt.alloc(), &["init", "X", "d:persist", "e:persist"], None)?;
     for (file, wanted) in RUNS {
-        runs(&rt, &mut host, file, Status::Done, wanted)?;
+        runs(rt.alloc(), &mut host, file, Status::Done, wanted)?;
     }
     Ok(())
 }
@@ -136,9 +136,9 @@ const DAYS: [(&str, &str); 2] = [
 fn a_shop_keeps_its_orders_and_stock(rt: HostRuntime) -> Result<(), Fail> {
     let mut host = MemHost::new(rt.alloc());
     let words = ["init", "X", "orders:persist", "stock:persist"];
-    ends(&rt, &mut host, &words, Status::Done, "made 2\n")?;
+    ends(rt.alloc(), &mut host, &words, Status::Done, "made 2\n")?;
     for (file, wanted) in DAYS {
-        runs(&rt, &mut host, file, Status::Done, wanted)?;
+        runs(rt.alloc(), &mut host, file, Status::Done, wanted)?;
     }
     Ok(())
 }

@@ -2,7 +2,6 @@
 
 use client_runner::{Status, store_plain};
 use std::alloc::Global;
-use std::process::Abort;
 use std::str;
 use std::test::Fail;
 use udt_disk::{FileName, Host, MemDisk, MemHost, MemSink, MemSource, Outcome, Text, Trouble};
@@ -42,6 +41,15 @@ impl Ended {
     pub fn tells(&self, part: &str) -> bool {
         self.text.as_str().contains(part)
     }
+
+    /// It is this status with this text, or the test fails with what it is.
+    fn wants(self, status: Status, text: &str) -> Result<(), Fail> {
+        if self.is(status, text) {
+            Ok(())
+        } else {
+            Err(self.into())
+        }
+    }
 }
 
 fn texts(alloc: Global, words: &[&str]) -> Result<Vec<Text>, Fail> {
@@ -64,15 +72,13 @@ pub fn command<H: Host>(alloc: Global, host: &mut H, words: &[&str]) -> Result<E
 
 /// The words of a command line end with this status and text over a host.
 pub fn ends<H: Host>(
-    rt: &(impl AllocGlobal + Abort),
+    alloc: Global,
     host: &mut H,
     words: &[&str],
     status: Status,
     text: &str,
 ) -> Result<(), Fail> {
-    let ended = command(rt.alloc(), host, words)?;
-    assert!(rt; ended.is(status, text), "{words:?}: {ended:?}");
-    Ok(())
+    command(alloc, host, words)?.wants(status, text)
 }
 
 /// Runs `run X F` over a host, with these bytes under `F`.
@@ -84,15 +90,13 @@ pub fn run(alloc: Global, host: &mut MemHost, file: &str) -> Result<Ended, Fail>
 
 /// `run X F` over a host, with these bytes under `F`, ends with this status and text.
 pub fn runs(
-    rt: &(impl AllocGlobal + Abort),
+    alloc: Global,
     host: &mut MemHost,
     file: &str,
     status: Status,
     text: &str,
 ) -> Result<(), Fail> {
-    let ended = run(rt.alloc(), host, file)?;
-    assert!(rt; ended.is(status, text), "{file}: {ended:?}");
-    Ok(())
+    run(alloc, host, file)?.wants(status, text)
 }
 
 /// A host with this folder under `X`.
