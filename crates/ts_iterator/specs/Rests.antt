@@ -1,10 +1,8 @@
 -- The rows that a scan has yet to give.
 use Rattle.std.specs.Prelude.{◌≡◌, ℕ, List, [], ◌∷◌, Bool, false, reverse, if◌then◌else◌, Option, Some, None}
 use Rattle.std.specs.Option.{option_copied}
-use Rattle.ts_key.specs.declared.lent.KeyRef.{KeyRef}
-use Rattle.ts_key.specs.Items.{Item, shown_by}
+use Rattle.ts_key.specs.Items.{Item}
 use Rattle.ts_key.specs.Lists.{standing}
-use Rattle.ts_key.specs.Order.{sort_key_of}
 use Rattle.udt_model.specs.Orders.{is_below}
 use Rattle.udt_model.specs.declared.reply.Row.{Row}
 use Rattle.ts_iterator.specs.declared.up.Up.{Up}
@@ -12,6 +10,7 @@ use Rattle.ts_iterator.specs.declared.down.Down.{Down}
 use Rattle.ts_iterator.specs.declared.scan.Scan.{Scan}
 use Rattle.ts_iterator.specs.declared.scan.Way.{Way}
 use Rattle.ts_iterator.specs.declared.scan.Way.TheVariants as ways
+use Rattle.ts_iterator.specs.Helds.{held_by}
 use Rattle.ts_iterator.specs.Rows.{least_key, rows_down, rows_up}
 use Rattle.ts_iterator.specs.Sources.{source_walk_place, walked_sources}
 use Rattle.ts_iterator.specs.Walks.{ahead, back_from}
@@ -24,12 +23,11 @@ abbrev pub rest_down_from : {C : Type 0} → (C → List Item) → Down C → Op
 rest_down_from items x best place = rows_down x.floor (least_key x.low) x.high x.t.0 x.s.0 best (back_from place (items x.cursor))
 
 abbrev pub rest_down : {C : Type 0} → (C → List Item) → (C → ℕ) → Down C → List Row
-rest_down items place x = rest_down_from items x (shown_by x.best) (place x.cursor)
+rest_down items place x = rest_down_from items x (held_by x.best) (place x.cursor)
 
--- it stands at this version, which has this key and isn't below the lower bound
-pub record StandsIn {C : Type 0} (items : C → List Item) (place : C → ℕ) (x : Down C) (key : KeyRef) (v : Item) : Type 0 where
+-- it stands at this version, which isn't below the lower bound
+pub record StandsIn {C : Type 0} (items : C → List Item) (place : C → ℕ) (x : Down C) (v : Item) : Type 0 where
   pub at : Some v ≡ standing (items x.cursor) (place x.cursor)
-  pub own : v.sort_key ≡ sort_key_of key
   pub inside : is_below v.sort_key.key (least_key x.low) ≡ false
 
 abbrev pub rest_of : Way → List Row

@@ -1,19 +1,21 @@
 //! A scan downwards.
 ghost use Rattle.std.specs.Prelude.{ℕ, [], ◌∷◌, ◌≡◌, ◌<◌, ◌-◌, ◌||◌, Some, true, false, not, reverse, IfOk, MatchOption, MatchResult};
-ghost use Rattle.ts_key.specs.Items.{Item, shown, shown_by};
+ghost use Rattle.ts_key.specs.Items.{Item};
 ghost use Rattle.ts_key.specs.Lists.{below, standing};
 ghost use Rattle.ts_key.specs.Order.{sort_key_of};
 ghost use Rattle.ts_key.specs.Visible.{is_item_seen, is_item_within};
 ghost use Rattle.ts_iterator.specs.Rows.{emit_of, given_before, is_past as is_past_bound, least_key, range_rows};
+ghost use Rattle.ts_iterator.specs.Helds.{held_by, held_item};
 ghost use Rattle.ts_iterator.specs.Rests.{StandsIn, rest_down, rest_down_from, rows_given};
 ghost use Rattle.ts_iterator.specs.Walks.{IsLastBelow, StandsUpto, top_of};
 
 use crate::NoMemory;
+use crate::held::{Held, Holding};
 use crate::passed::Passed;
 use crate::rows::{is_below, is_past, row_of};
 use merge_cursor::{Cursor, Placed};
 use std::alloc::Global;
-use ts_key::{Hit, Key, KeyRef, Seq, Ts};
+use ts_key::{Key, KeyRef, Seq, Ts};
 use udt_model::Row;
 
 /// The rows of a range, descending.
@@ -21,7 +23,7 @@ use udt_model::Row;
 pub(crate) struct Down<'a, C> {
     cursor: C,
     /// The last version found that the read sees, where its row is still to be given.
-    best: Option<(KeyRef<'a>, Hit<'a>)>,
+    best: Option<Held<'a>>,
     passed: Passed<'a>,
     low: Option<Key>,
     high: Option<Key>,
@@ -58,82 +60,81 @@ fn is_seen(seen: &KeyRef<'_>, key: &[u8], t: Ts, s: Seq) -> bool
 }
 
 /// Goes to the key's newest version that the read sees, where there is one.
-fn go_to_newest<'a, C: Cursor<'a>>(
+fn go_to_newest<'a, C: Holding<'a>>(
     cursor: &mut C,
     key: &[u8],
     t: Ts,
     s: Seq,
-) -> Option<(KeyRef<'a>, Hit<'a>)>
+) -> Option<Held<'a>>
     ensures same { C.items cursor.new ≡ C.items cursor.old }
     ensures newest { (place : ℕ) (v : Item) → Some v ≡ standing (C.items cursor.old) place → is_item_seen key.now t.0 s.0 v ≡ true
-        → StandsUpto key.now t.0 s.0 (C.items cursor.old) place (C.place cursor.new) (shown_by result) }
+        → StandsUpto key.now t.0 s.0 (C.items cursor.old) place (C.place cursor.new) (held_by result) }
 {
     cursor.seek(&KeyRef { key, ts: t, seq: s });
     loop {
-        let Some((found, hit)) = cursor.at() else {
+        let Some(found) = cursor.held() else {
             return None;
         };
-        if is_seen(&found, key, t, s) {
-            return Some((found, hit));
+        if is_seen(&found.key_ref(), key, t, s) {
+            return Some(found);
         }
         cursor.next();
     }
 }
 
 /// Stays at this version, which the read sees, or where many of its key were passed goes to the newest that it sees.
-fn go_to_best<'a, C: Cursor<'a>>(
+fn go_to_best<'a, C: Holding<'a>>(
     cursor: &mut C,
-    key: &KeyRef<'a>,
-    hit: Hit<'a>,
+    held: Held<'a>,
     many: bool,
     t: Ts,
     s: Seq,
-) -> Option<(KeyRef<'a>, Hit<'a>)>
+) -> Option<Held<'a>>
     ensures same { C.items cursor.new ≡ C.items cursor.old }
-    ensures best { (v : Item) → Some v ≡ standing (C.items cursor.old) (C.place cursor.old) → v ≡ shown (key.now, hit.entry)
-        → is_item_seen key.now.key.now t.0 s.0 v ≡ true
-        → StandsUpto key.now.key.now t.0 s.0 (C.items cursor.old) (C.place cursor.old) (C.place cursor.new) (shown_by result) }
+    ensures best { let v = held_item held.entry in Some v ≡ standing (C.items cursor.old) (C.place cursor.old)
+        → is_item_seen v.sort_key.key t.0 s.0 v ≡ true
+        → StandsUpto v.sort_key.key t.0 s.0 (C.items cursor.old) (C.place cursor.old) (C.place cursor.new) (held_by result) }
 {
     if many {
-        return go_to_newest(cursor, key.key, t, s);
+        return go_to_newest(cursor, held.key_ref().key, t, s);
     }
-    Some((*key, hit))
+    Some(held)
 }
 
 /// The row of the last version found, where the next one that the read sees is of another key.
 fn row_before(
     alloc: Global,
     floor: Ts,
-    best: Option<(KeyRef<'_>, Hit<'_>)>,
+    best: Option<Held<'_>>,
     key: &KeyRef<'_>,
 ) -> Result<Option<Row>, NoMemory>
     ensures { (v : Item) → v.sort_key ≡ sort_key_of key.now
-        → IfOk result (λ row. rows_given row ≡ given_before floor (shown_by best.entry) v) }
+        → IfOk result (λ row. rows_given row ≡ given_before floor (held_by best.entry) v) }
 {
-    let Some((last, hit)) = best else {
+    let Some(last) = best else {
         return Ok(None);
     };
-    if last.key == key.key {
+    if last.key_ref().key == key.key {
         return Ok(None);
     }
-    row_of(alloc, floor, &last, &hit)
+    row_of(alloc, floor, &last)
 }
 
 /// The row of the last version found, if there is one.
 fn row_at_end(
     alloc: Global,
     floor: Ts,
-    best: Option<(KeyRef<'_>, Hit<'_>)>,
+    best: Option<Held<'_>>,
 ) -> Result<Option<Row>, NoMemory>
-    ensures { IfOk result (λ row. rows_given row ≡ emit_of floor (shown_by best.entry)) }
+    ensures { IfOk result (λ row. rows_given row ≡ emit_of floor (held_by best.entry)) }
 {
     match best {
         None => Ok(None),
-        Some((key, hit)) => row_of(alloc, floor, &key, &hit),
+        Some(last) => row_of(alloc, floor, &last),
     }
 }
 
-impl<'a, C: Cursor<'a> + Drop> Down<'a, C> {
+impl<'a, C: Holding<'a> + Drop> Down<'a, C> {
     /// The rows of the keys from `low` on and below `high`, over a cursor at the last version before `high`.
     pub(crate) fn new(
         cursor: C,
@@ -160,8 +161,8 @@ impl<'a, C: Cursor<'a> + Drop> Down<'a, C> {
 
     /// Goes back past a version that gives nothing; where many of its key were passed, past all that are above the timestamp.
     fn pass_over(&mut self, key: &KeyRef<'a>)
-        ensures lower { (v : Item) → StandsIn C.items C.place self.old key.now v → C.place self.new.cursor < C.place self.old.cursor }
-        ensures rest { (v : Item) → StandsIn C.items C.place self.old key.now v
+        ensures lower { (v : Item) → v.sort_key ≡ sort_key_of key.now → StandsIn C.items C.place self.old v → C.place self.new.cursor < C.place self.old.cursor }
+        ensures rest { (v : Item) → v.sort_key ≡ sort_key_of key.now → StandsIn C.items C.place self.old v
             → (is_past_bound self.old.high v.sort_key.key || not (is_item_within self.old.t.0 self.old.s.0 v)) ≡ true
             → rest_down C.items C.place self.new ≡ rest_down C.items C.place self.old }
     {
@@ -173,16 +174,16 @@ impl<'a, C: Cursor<'a> + Drop> Down<'a, C> {
     }
 
     /// Goes back past the last version found; where many of its key were passed, past all others that the read sees.
-    fn pass_found(&mut self, key: &KeyRef<'a>, hit: Hit<'a>)
-        ensures lower { (v : Item) → StandsIn C.items C.place self.old key.now v → v ≡ shown (key.now, hit.entry)
+    fn pass_found(&mut self, held: Held<'a>)
+        ensures lower { let v = held_item held.entry in StandsIn C.items C.place self.old v
             → (is_past_bound self.old.high v.sort_key.key || not (is_item_within self.old.t.0 self.old.s.0 v)) ≡ false
             → C.place self.new.cursor < C.place self.old.cursor }
-        ensures rest { (v : Item) → StandsIn C.items C.place self.old key.now v → v ≡ shown (key.now, hit.entry)
+        ensures rest { let v = held_item held.entry in StandsIn C.items C.place self.old v
             → (is_past_bound self.old.high v.sort_key.key || not (is_item_within self.old.t.0 self.old.s.0 v)) ≡ false
             → rest_down C.items C.place self.new ≡ rest_down_from C.items self.old (Some v) (C.place self.old.cursor - 1) }
     {
         let many = self.passed.are_many();
-        self.best = go_to_best(&mut self.cursor, key, hit, many, self.t, self.s);
+        self.best = go_to_best(&mut self.cursor, held, many, self.t, self.s);
         self.cursor.prev();
     }
 
@@ -195,11 +196,12 @@ impl<'a, C: Cursor<'a> + Drop> Down<'a, C> {
             (λ _. rest_down C.items C.place self.new ≡ rest_down C.items C.place self.old) }
     {
         loop {
-            let Some((key, hit)) = self.cursor.at() else {
+            let Some(held) = self.cursor.held() else {
                 let row = row_at_end(alloc, self.floor, self.best)?;
                 self.best = None;
                 return Ok(row);
             };
+            let key = held.key_ref();
             if is_below(&self.low, key.key) {
                 let row = row_at_end(alloc, self.floor, self.best)?;
                 self.best = None;
@@ -211,7 +213,7 @@ impl<'a, C: Cursor<'a> + Drop> Down<'a, C> {
                 continue;
             }
             let row = row_before(alloc, self.floor, self.best, &key)?;
-            self.pass_found(&key, hit);
+            self.pass_found(held);
             if let Some(row) = row {
                 return Ok(Some(row));
             }

@@ -2,6 +2,7 @@
 #![tactic(auto)]
 
 mod down;
+mod held;
 pub mod laws;
 mod passed;
 mod rows;

@@ -1,7 +1,7 @@
 //! A scan upwards.
 ghost use Rattle.std.specs.Prelude.{ℕ, List, [], ◌∷◌, ◌≡◌, ◌+◌, ◌||◌, None, not, true, MatchOption, MatchResult};
 ghost use Rattle.std.specs.Option.{option_copied};
-ghost use Rattle.ts_key.specs.Items.{Item, hit_at, shown};
+ghost use Rattle.ts_key.specs.Items.{Item};
 ghost use Rattle.ts_key.specs.Lists.{below};
 ghost use Rattle.ts_key.specs.Order.{SortKey, is_before, sort_key_of};
 ghost use Rattle.ts_key.specs.Visible.{is_item_within};
@@ -9,11 +9,12 @@ ghost use Rattle.ts_iterator.specs.Rows.{end_of as end_of_key, is_decided as is_
 ghost use Rattle.ts_iterator.specs.Rests.{rest_up};
 
 use crate::NoMemory;
+use crate::held::Holding;
 use crate::passed::Passed;
-use crate::rows::{is_past, row_at};
+use crate::rows::{is_past, row_of};
 use merge_cursor::{Cursor, Placed};
 use std::alloc::Global;
-use ts_key::{Hit, Key, KeyRef, Kind, Seq, Ts, compare};
+use ts_key::{Key, KeyRef, Seq, Ts, compare};
 use udt_model::Row;
 
 /// The rows of a range, ascending.
@@ -69,7 +70,7 @@ fn is_worth_a_seek(passed: Passed<'_>, key: &KeyRef<'_>, end: &KeyRef<'_>) -> bo
     passed.are_many() && compare(key, end).is_lt()
 }
 
-impl<'a, C: Cursor<'a> + Drop> Up<'a, C> {
+impl<'a, C: Holding<'a> + Drop> Up<'a, C> {
     /// The rows of the keys below `high`, over a cursor at the first version that isn't before `low` at `t` and `s`.
     pub(crate) fn new(cursor: C, high: Option<Key>, floor: Ts, t: Ts, s: Seq) -> Up<'a, C>
         ensures { (low : List ℕ) → C.place cursor ≡ below (record { key = low; ts = t.0; seq = s.0 }) (C.items cursor) + 1
@@ -95,9 +96,10 @@ impl<'a, C: Cursor<'a> + Drop> Up<'a, C> {
             (λ _. rest_up C.items C.place self.new ≡ rest_up C.items C.place self.old) }
     {
         loop {
-            let Some((key, hit)) = self.cursor.at() else {
+            let Some(held) = self.cursor.held() else {
                 return Ok(None);
             };
+            let key = held.key_ref();
             if is_past(&self.high, key.key) {
                 return Ok(None);
             }
@@ -111,17 +113,11 @@ impl<'a, C: Cursor<'a> + Drop> Up<'a, C> {
                 }
                 continue;
             }
-            match hit.kind {
-                Kind::Del => {
-                    self.decided = Some(key.key);
-                    self.cursor.next();
-                }
-                Kind::Put => {
-                    let row = row_at(alloc, self.floor, &key, &hit)?;
-                    self.decided = Some(key.key);
-                    self.cursor.next();
-                    return Ok(Some(row));
-                }
+            let row = row_of(alloc, self.floor, &held)?;
+            self.decided = Some(key.key);
+            self.cursor.next();
+            if let Some(row) = row {
+                return Ok(Some(row));
             }
         }
     }

@@ -1,6 +1,7 @@
 use Rattle.std.proofs.Common.{◌+◌, List, length, refl, sym, ap, subst, ◌∙◌, arith}
-use Rattle.ts_key.specs.Items.{Item, shown}
+use Rattle.ts_key.specs.Items.{Item}
 use Rattle.ts_key.specs.Lists.{below, standing}
+use Rattle.ts_iterator.specs.Helds.{held_item}
 use Rattle.ts_iterator.specs.Walks.{IsUptoSeen}
 use Rattle.ts_iterator.proofs.PassingDown.{walk_begins, walk_goes_on, walk_stays_in}
 use Rattle.ts_iterator.proofs.Steps.{goes_on}
@@ -27,9 +28,9 @@ loop-found-preserved g c =
     let x = c.loop-found.cursor in
     let y = c.next.new.self in
     let q = g.C.Placed.place y in
-    let w = shown (record { 0 = c.in-Some.found; 1 = c.in-Some.hit }) in
+    let w = held_item c.in-Some.found in
     let o = goes_on (g.C.Placed.items x) (g.C.Placed.place x) q w c.in-Some.ensures c.next.ensures.place in
-    let upto = walk_goes_on key t s (g.C.Placed.items x) (g.C.Placed.place x) q w c.in-Some.ensures (sym (c.is_seen.ensures w refl) ∙ c.if-is_seen.false) c.next.ensures.place c.loop-found.invariant.upto in
+    let upto = walk_goes_on key t s (g.C.Placed.items x) (g.C.Placed.place x) q w c.in-Some.ensures (sym (c.is_seen.ensures w (sym c.key_ref.ensures)) ∙ c.if-is_seen.false) c.next.ensures.place c.loop-found.invariant.upto in
     record {
       same = c.next.ensures.same ∙ c.loop-found.invariant.same;
       inside = omega (arith, o.0);
@@ -39,7 +40,7 @@ loop-found-preserved g c =
 pub loop-found-smaller : goal.loop-found-smaller
 loop-found-smaller g c =
     let x = c.loop-found.cursor in
-    let w = shown (record { 0 = c.in-Some.found; 1 = c.in-Some.hit }) in
+    let w = held_item c.in-Some.found in
     let o = goes_on (g.C.Placed.items x) (g.C.Placed.place x) (g.C.Placed.place c.next.new.self) w c.in-Some.ensures c.next.ensures.place in
     omega (arith, o.0, o.1, ap length c.next.ensures.same)
 
@@ -54,12 +55,12 @@ pub returns-then-is_seen-clause-newest : goal.returns-then-is_seen-clause-newest
 returns-then-is_seen-clause-newest g c = λ p v e seen.
     let x = c.loop-found.cursor in
     let i = c.loop-found.invariant in
-    let w = shown (record { 0 = c.in-Some.found; 1 = c.in-Some.hit }) in
+    let w = held_item c.in-Some.found in
     let same = i.same ∙ c.seek.ensures.same in
     record {
       it = w;
       is = refl;
       stands = c.in-Some.ensures ∙ ap (λ (ys : List Item). standing ys (g.C.Placed.place x)) same;
-      seen = sym (c.is_seen.ensures w refl) ∙ c.if-is_seen.true;
+      seen = sym (c.is_seen.ensures w (sym c.key_ref.ensures)) ∙ c.if-is_seen.true;
       upto = i.upto p v (e ∙ ap (λ (ys : List Item). standing ys p) (sym same)) seen;
     }
