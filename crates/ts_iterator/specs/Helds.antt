@@ -8,6 +8,6 @@ abbrev pub held_item : Held → Item
 held_item (Whole v) = item_of v.now
 held_item (Lent key hit) = shown (record { 0 = key; 1 = hit })
 
-abbrev pub held_by : Option Held → Option Item
-held_by None = None
-held_by (Some held) = Some (held_item held)
+abbrev pub item_held_by : Option Held → Option Item
+item_held_by None = None
+item_held_by (Some held) = Some (held_item held)

@@ -10,7 +10,7 @@ use Rattle.ts_iterator.specs.declared.down.Down.{Down}
 use Rattle.ts_iterator.specs.declared.scan.Scan.{Scan}
 use Rattle.ts_iterator.specs.declared.scan.Way.{Way}
 use Rattle.ts_iterator.specs.declared.scan.Way.TheVariants as ways
-use Rattle.ts_iterator.specs.Helds.{held_by}
+use Rattle.ts_iterator.specs.Helds.{item_held_by}
 use Rattle.ts_iterator.specs.Rows.{least_key, rows_down, rows_up}
 use Rattle.ts_iterator.specs.Sources.{source_walk_place, walked_sources}
 use Rattle.ts_iterator.specs.Walks.{ahead, back_from}
@@ -23,7 +23,7 @@ abbrev pub rest_down_from : {C : Type 0} → (C → List Item) → Down C → Op
 rest_down_from items x best place = rows_down x.floor (least_key x.low) x.high x.t.0 x.s.0 best (back_from place (items x.cursor))
 
 abbrev pub rest_down : {C : Type 0} → (C → List Item) → (C → ℕ) → Down C → List Row
-rest_down items place x = rest_down_from items x (held_by x.best) (place x.cursor)
+rest_down items place x = rest_down_from items x (item_held_by x.best) (place x.cursor)
 
 -- it stands at this version, which isn't below the lower bound
 pub record StandsIn {C : Type 0} (items : C → List Item) (place : C → ℕ) (x : Down C) (v : Item) : Type 0 where

@@ -5,7 +5,7 @@ ghost use Rattle.ts_key.specs.Lists.{below, standing};
 ghost use Rattle.ts_key.specs.Order.{sort_key_of};
 ghost use Rattle.ts_key.specs.Visible.{is_item_seen, is_item_within};
 ghost use Rattle.ts_iterator.specs.Rows.{emit_of, given_before, is_past as is_past_bound, least_key, range_rows};
-ghost use Rattle.ts_iterator.specs.Helds.{held_by, held_item};
+ghost use Rattle.ts_iterator.specs.Helds.{item_held_by, held_item};
 ghost use Rattle.ts_iterator.specs.Rests.{StandsIn, rest_down, rest_down_from, rows_given};
 ghost use Rattle.ts_iterator.specs.Walks.{IsLastBelow, StandsUpto, top_of};
 
@@ -60,15 +60,10 @@ fn is_seen(seen: &KeyRef<'_>, key: &[u8], t: Ts, s: Seq) -> bool
 }
 
 /// Goes to the key's newest version that the read sees, where there is one.
-fn go_to_newest<'a, C: Holding<'a>>(
-    cursor: &mut C,
-    key: &[u8],
-    t: Ts,
-    s: Seq,
-) -> Option<Held<'a>>
+fn go_to_newest<'a, C: Holding<'a>>(cursor: &mut C, key: &[u8], t: Ts, s: Seq) -> Option<Held<'a>>
     ensures same { C.items cursor.new ≡ C.items cursor.old }
     ensures newest { (place : ℕ) (v : Item) → Some v ≡ standing (C.items cursor.old) place → is_item_seen key.now t.0 s.0 v ≡ true
-        → StandsUpto key.now t.0 s.0 (C.items cursor.old) place (C.place cursor.new) (held_by result) }
+        → StandsUpto key.now t.0 s.0 (C.items cursor.old) place (C.place cursor.new) (item_held_by result) }
 {
     cursor.seek(&KeyRef { key, ts: t, seq: s });
     loop {
@@ -93,7 +88,7 @@ fn go_to_best<'a, C: Holding<'a>>(
     ensures same { C.items cursor.new ≡ C.items cursor.old }
     ensures best { let v = held_item held.entry in Some v ≡ standing (C.items cursor.old) (C.place cursor.old)
         → is_item_seen v.sort_key.key t.0 s.0 v ≡ true
-        → StandsUpto v.sort_key.key t.0 s.0 (C.items cursor.old) (C.place cursor.old) (C.place cursor.new) (held_by result) }
+        → StandsUpto v.sort_key.key t.0 s.0 (C.items cursor.old) (C.place cursor.old) (C.place cursor.new) (item_held_by result) }
 {
     if many {
         return go_to_newest(cursor, held.key_ref().key, t, s);
@@ -109,7 +104,7 @@ fn row_before(
     key: &KeyRef<'_>,
 ) -> Result<Option<Row>, NoMemory>
     ensures { (v : Item) → v.sort_key ≡ sort_key_of key.now
-        → IfOk result (λ row. rows_given row ≡ given_before floor (held_by best.entry) v) }
+        → IfOk result (λ row. rows_given row ≡ given_before floor (item_held_by best.entry) v) }
 {
     let Some(last) = best else {
         return Ok(None);
@@ -121,12 +116,8 @@ fn row_before(
 }
 
 /// The row of the last version found, if there is one.
-fn row_at_end(
-    alloc: Global,
-    floor: Ts,
-    best: Option<Held<'_>>,
-) -> Result<Option<Row>, NoMemory>
-    ensures { IfOk result (λ row. rows_given row ≡ emit_of floor (held_by best.entry)) }
+fn row_at_end(alloc: Global, floor: Ts, best: Option<Held<'_>>) -> Result<Option<Row>, NoMemory>
+    ensures { IfOk result (λ row. rows_given row ≡ emit_of floor (item_held_by best.entry)) }
 {
     match best {
         None => Ok(None),

@@ -2,7 +2,7 @@
 ghost use Rattle.std.specs.Prelude.{◌≡◌};
 ghost use Rattle.ts_key.specs.Lists.{standing};
 ghost use Rattle.ts_key.specs.Order.{sort_key_of};
-ghost use Rattle.ts_iterator.specs.Helds.{held_by, held_item};
+ghost use Rattle.ts_iterator.specs.Helds.{item_held_by, held_item};
 
 use crate::source::Source;
 use merge_cursor::{Cursor, Merge, Placed};
@@ -29,7 +29,7 @@ impl<'a> Held<'a> {
 /// A cursor that gives what the list holds of the version where it stands.
 pub(crate) trait Holding<'a>: Cursor<'a> {
     fn held(&self) -> Option<Held<'a>>
-        ensures { held_by result ≡ standing (Self.items self.now) (Self.place self.now) };
+        ensures { item_held_by result ≡ standing (Self.items self.now) (Self.place self.now) };
 }
 
 impl<'a> Holding<'a> for Source<'a> {

@@ -1,4 +1,4 @@
-use Rattle.std.proofs.Common.{◌≡◌, ℕ, true, false, List, [], ◌∷◌, ◌++◌, ◌+◌, Some, length, refl, sym, ap, ◌∙◌, arith}
+use Rattle.std.proofs.Common.{◌≡◌, ℕ, true, false, List, [], ◌∷◌, ◌++◌, ◌+◌, Some, length, sym, ap, ◌∙◌, arith}
 use Rattle.std.specs.Option.{option_copied}
 use Rattle.ts_key.specs.Items.{Item}
 use Rattle.ts_key.specs.Counts.{count_of_within}
