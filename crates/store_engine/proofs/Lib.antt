@@ -27,6 +27,7 @@ pub mod FlushEdits
 pub mod DroppedLogs
 pub mod JobCalls
 pub mod GivenBack
+pub mod Discarding
 pub mod Installed
 pub mod InstallCalls
 pub mod FlushEnded

@@ -1,5 +1,5 @@
 -- A super version with a family sealed.
-use Rattle.std.proofs.Common.{◌≡◌, ℕ, zero, suc, ◌<◌, ◌≤◌, ◌==◌, Bool, true, false, not, List, [], ◌∷◌, ◌++◌, length, map, reverse, None, refl, sym, ap, ◌∙◌, arith}
+use Rattle.std.proofs.Common.{◌≡◌, ℕ, zero, suc, ◌<◌, ◌≤◌, ◌==◌, Bool, true, false, not, List, [], ◌∷◌, ◌++◌, length, map, reverse, Some, None, refl, sym, ap, ◌∙◌, arith}
 use Rattle.std.proofs.lemmas.Bool.{false≢true, ne_eqb}
 use Rattle.std.proofs.lemmas.List.{map-append, reverse-append}
 use Rattle.std.specs.Prelude.{slice_get}
@@ -24,3 +24,9 @@ none_there (x ∷ xs) b is no_item = absurd (let e : (length (x ∷ xs) == 0) �
 pub some_there : {X : Type 0} (xs : List X) (b : Bool) → b ≡ not (length xs == 0) → b ≡ true → 1 ≤ length xs
 some_there [] b is item = absurd (false≢true (sym is ∙ item))
 some_there (x ∷ xs) b is item = omega arith
+
+-- an item that is got is at a place of the list
+pub got_within : {X : Type 0} (xs : List X) (n : ℕ) (x : X) → slice_get xs n ≡ Some x → n < length xs
+got_within [] n x there = absurd (let e : None ≡ Some x = there in cc)
+got_within (y ∷ ys) zero x there = omega arith
+got_within (y ∷ ys) (suc n) x there = let r = got_within ys n x there in omega (arith, r)

@@ -1,6 +1,8 @@
 use Rattle.std.proofs.Common.{◌≡◌, ◌+◌, ◌≤◌, [], ◌∷◌, refl, sym, ap, ◌∙◌, subst, arith, inl, inr}
+use Rattle.std.proofs.lemmas.Bool.{cases_lt}
 use Rattle.udt_disk.specs.Touches.{Touches}
 use Rattle.udt_disk.specs.declared.name.FileName.TheVariants.{Table}
+use Rattle.manifest_fold.specs.declared.limits.TheConstants.{FILE_NUMBER_LIMIT}
 use Rattle.engine_laws.specs.Joints.{IsNowLast}
 use Rattle.store_engine.specs.Asides.{IsAside}
 use Rattle.store_engine.proofs.JobCalls.{created_touches, made_before, made_job, made_ran}
@@ -31,7 +33,7 @@ returns-in-Ok-clause-holds g c =
     let n = self.next + 1 in
     let new = record self { disk = c.create.new.self; next = n } in
     let low : self.next ≤ n = omega arith in
-    let most = ? in
+    let most : n ≤ FILE_NUMBER_LIMIT = elim (cases_lt self.next FILE_NUMBER_LIMIT) [ inl l ↦ omega (arith, l) | inr h ↦ absurd (c.if-self.false (let u = c.requires.together.most in omega (arith, h, u))) ] in
     let aside : IsAside d (Table self.next ∷ []) (record self { next = n }) new = record { wal = refl; manifest = refl; next = refl; older = refl; failed = refl; touches = created_touches d (Table self.next) self.disk c.create.new.self _ (λ name other. other) e.others e.time e.told e.model } in
     made_before d f last self n low most c.requires new aside
 
@@ -48,7 +50,7 @@ returns-in-Ok-clause-moments g c now m co h =
     let n = self.next + 1 in
     let new = record self { disk = c.create.new.self; next = n } in
     let low : self.next ≤ n = omega arith in
-    let most = ? in
+    let most : n ≤ FILE_NUMBER_LIMIT = elim (cases_lt self.next FILE_NUMBER_LIMIT) [ inl l ↦ omega (arith, l) | inr h ↦ absurd (c.if-self.false (let u = c.requires.together.most in omega (arith, h, u))) ] in
     let aside : IsAside d (Table self.next ∷ []) (record self { next = n }) new = record { wal = refl; manifest = refl; next = refl; older = refl; failed = refl; touches = created_touches d (Table self.next) self.disk c.create.new.self _ (λ name other. other) e.others e.time e.told e.model } in
     made_ran d f last self n low most c.requires new aside now m co h
 
@@ -99,7 +101,7 @@ returns-in-Ok-clause-made g c =
     let n = self.next + 1 in
     let new = record self { disk = c.create.new.self; next = n } in
     let low : self.next ≤ n = omega arith in
-    let most = ? in
+    let most : n ≤ FILE_NUMBER_LIMIT = elim (cases_lt self.next FILE_NUMBER_LIMIT) [ inl l ↦ omega (arith, l) | inr h ↦ absurd (c.if-self.false (let u = c.requires.together.most in omega (arith, h, u))) ] in
     let aside : IsAside d (Table self.next ∷ []) (record self { next = n }) new = record { wal = refl; manifest = refl; next = refl; older = refl; failed = refl; touches = created_touches d (Table self.next) self.disk c.create.new.self _ (λ name other. other) e.others e.time e.told e.model } in
     record {
       number_is = refl;
