@@ -152,16 +152,20 @@ fn a_damaged_log_stays(rt: HostRuntime) -> Result<(), Fail> {
     place.remove(&rt)
 }
 
-/// While one host holds the folder of the store, another one can't open it.
+/// Neither a run nor an init can open the folder of the store.
+fn is_refused(rt: &HostRuntime, place: &Place) -> Result<(), Fail> {
+    place.runs(rt, Status::DiskFault, "disk fault\n")?;
+    place.inits(rt, Status::DiskFault, "disk fault\n")
+}
+
+/// While one host holds the folder of the store, others can't open it.
 fn is_held(rt: &HostRuntime, place: &Place) -> Result<(), Fail> {
     let store = Text::of(rt.alloc(), place.store.as_bytes())?;
     let mut holder = RealHost::new(rt);
     let held = holder.open_folder(&store, false)?.ok_or("no folder")?;
-    let ran = place.runs(rt, Status::DiskFault, "disk fault\n");
-    let made = place.inits(rt, Status::DiskFault, "disk fault\n");
+    let refused = is_refused(rt, place);
     holder.close_folder(&store, held);
-    ran?;
-    made
+    refused
 }
 
 const PUT: &str = "udt 1\nopened 0\nfamily d persist 0\nfamily e persist 0\nbegin\n\
