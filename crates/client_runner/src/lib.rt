@@ -11,6 +11,7 @@ mod reading;
 mod run;
 mod status;
 mod top;
+mod tries;
 mod words;
 
 pub use status::Status;

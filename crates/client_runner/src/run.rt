@@ -1,31 +1,27 @@
 //! The command `run`: the commands of a file over the store in a folder.
-ghost use Rattle.std.specs.Prelude.{◌≡◌, ◌≢◌, ◌+◌, ◌-◌, ◌<◌, ◌≤◌, [], IsTrue, Some, All, length, vec_capacity, IfOk, IfErr};
-ghost use Rattle.ts_key.specs.declared.limits.TheConstants.{FAMILY_LIMIT, SEQUENCE_LIMIT};
+ghost use Rattle.std.specs.Prelude.{◌≡◌, ◌≤◌, None, map, IfOk, IfErr};
 ghost use Rattle.std.specs.List.{list_any};
-ghost use Rattle.udt_disk.specs.Causes.{plus_faults};
-ghost use Rattle.udt_disk.specs.Crash.{Image, NoMore};
-ghost use Rattle.udt_disk.specs.Opens.{StaysBut};
 ghost use Rattle.udt_disk.specs.OpensFolder.{KeepsFoldersBut, LeavesNoMoreBut};
-ghost use Rattle.udt_disk.specs.declared.name.FileName.{FileName as NameOf};
-ghost use Rattle.wal.specs.Wals.{wal_file, wal_sizes, wal_pending, MayGoOn};
-ghost use Rattle.client_lang.specs.Print.{IsBuiltCommand};
-ghost use Rattle.client_lang.specs.Stamps.{IsStampedCommand};
+ghost use Rattle.engine_laws.specs.Standing.{head_of};
+ghost use Rattle.store_engine.specs.Parts.{ArePartsOf};
+ghost use Rattle.solo_store.specs.Stores.{IsReady, flush_of};
 ghost use Rattle.client_runner.specs.Hosts.{UsesFolder, StaysElsewhere, FileStaysOrGoes};
 ghost use Rattle.client_runner.specs.HostRuns.{IsRunAt, IsRunFrom, IsStoppedAt, IsStoppedFrom};
 ghost use Rattle.client_runner.specs.Left.{crashes, status_of_lines as status_of_list, tells_fault as reply_tells};
-ghost use Rattle.solo_runner.specs.LoggedStores.{IsInStep, store_state, wal_of};
-ghost use Rattle.client_runner.specs.Runs.{CanRun, HasRunOver, HasRunParts, IsRunReady, IsRunRefused, stop_of_opening};
+ghost use Rattle.client_runner.specs.Runs.{CanRun, HasRunOver, HasRunParts, IsRunReady, IsRunRefused, header_of_opened, stop_of_opening};
 
 use crate::output::{Ready, header_of, ready_of};
 use crate::reading::read_commands;
 use crate::status::{Status, Stop};
 use client_lang::Command;
-use plain_recovery::{OpenFault, Parts, open_store};
-use solo_runner::{LoggedStore, PlainStore, run_and_sync};
+use manifest_fold::FamilyFold;
+use recovery::{OpenFault, Parts, open_store};
+use solo_runner::run_and_sync;
+use solo_store::Store;
 use std::alloc::{AllocError, Global};
 use ts_key::NoMemory;
-use udt_disk::{Disk, DiskFile, Host, Text};
-use udt_model::{Line, Reply};
+use udt_disk::{Disk, Host, Text};
+use udt_model::{FamilyHead, Line, Reply};
 
 /// The reply tells that the disk failed, now or before.
 fn tells_fault(reply: &Reply) -> bool
@@ -55,39 +51,44 @@ pub fn status_of_lines(lines: &[Line]) -> Status
     }
 }
 
+/// The families of an opened store, as its manifest has them.
+fn heads_of(alloc: Global, families: &[FamilyFold]) -> Result<Vec<FamilyHead>, NoMemory>
+    ensures { IfOk result (λ heads. heads.items ≡ map head_of families.now) }
+{
+    let mut heads = Vec::with_capacity(alloc, families.len())?;
+    for family in families {
+        heads.push(FamilyHead {
+            name: family.name.copy()?,
+            form: family.form,
+            floor: family.floor,
+        })?;
+    }
+    Ok(heads)
+}
+
+/// The header of the transcript over an opened store.
+fn header_of_parts<D: Disk>(alloc: Global, parts: &Parts<D>) -> Result<Vec<u8>, NoMemory>
+    ensures { IfOk result (λ header. header.items ≡ header_of_opened parts.now) }
+{
+    let heads = heads_of(alloc, parts.manifest.fold().families.as_slice())?;
+    header_of(alloc, parts.version.last.0, &heads)
+}
+
 /// Makes commands and the runner's sync over a store. Their lines wait behind the header, where there is memory for that.
-fn run_over<F: DiskFile>(
+fn run_over<D: Disk>(
     alloc: Global,
-    store: &mut LoggedStore<F>,
+    store: &mut Store<D>,
     commands: Vec<Command>,
     lines: Vec<Line>,
     header: Vec<u8>,
 ) -> Result<Ready, NoMemory>
     requires can_run { CanRun commands.items lines }
-    requires in_step { IsInStep F.DiskFile (wal_of store.old) (store_state store.old) }
-    ensures { HasRunOver F.DiskFile store.old store.new commands.items header.items result }
+    requires ready { IsReady D.Disk D.File.DiskFile store.old }
+    requires idle { flush_of store.old ≡ None }
+    ensures { HasRunOver D.Disk D.File.DiskFile store.old store.new commands.items header.items result }
 {
-    let lines = run_and_sync(store, commands, lines);
+    let lines = run_and_sync(store, alloc, commands, lines);
     ready_of(alloc, header, lines)
-}
-
-/// Gives the files of the log and of the manifest back to the folder, and answers the folder.
-fn close_files<D: Disk>(mut disk: D, log: D::File, manifest: D::File) -> D
-    ensures log_stands { IsTrue (D.is_told disk) → IsTrue (D.File.is_told log) → D.File.name manifest ≢ D.File.name log → D.stands result (D.File.name log) ≡ Some (D.File.seen log) }
-    ensures log_leaves { D.File.name manifest ≢ D.File.name log → NoMore (D.File.may_leave log) (D.may_leave result (D.File.name log)) }
-    ensures manifest_stands { IsTrue (D.is_told disk) → IsTrue (D.File.is_told manifest) → D.stands result (D.File.name manifest) ≡ Some (D.File.seen manifest) }
-    ensures manifest_leaves { NoMore (D.File.may_leave manifest) (D.may_leave result (D.File.name manifest)) }
-    // Other names are left alone.
-    ensures others { (n : NameOf) (c : Image) → n ≢ D.File.name manifest → n ≢ D.File.name log → D.may_leave result n c → D.may_leave disk n c }
-    ensures others_stand { (n : NameOf) → n ≢ D.File.name manifest → n ≢ D.File.name log → D.stands result n ≡ D.stands disk n }
-    ensures told { D.is_told result ≡ D.is_told disk }
-    ensures model { D.keeps_model result ≡ D.keeps_model disk }
-    ensures faults { D.faults result ≡ plus_faults (plus_faults (D.faults disk) (D.File.faults log)) (D.File.faults manifest) }
-    ensures later { D.faults disk ≤ D.faults result }
-{
-    disk.retire(log);
-    disk.retire(manifest);
-    disk
 }
 
 /// Makes commands and the runner's sync over a store that was opened, and gives its folder back.
@@ -98,34 +99,21 @@ fn run_parts<D: Disk>(
     lines: Vec<Line>,
 ) -> (D, Result<Ready, NoMemory>)
     requires can_run { CanRun commands.items lines }
-    requires heads { length parts.heads.items ≤ FAMILY_LIMIT }
-    requires sizes { length (wal_sizes parts.wal) ≡ length parts.heads.items }
-    requires pending { wal_pending parts.wal ≡ 0 }
-    requires within { parts.last.0 < SEQUENCE_LIMIT + 1 }
-    requires goes_on { MayGoOn D.File.DiskFile parts.wal (parts.last.0 + 1) }
-    requires fresh { D.File.faults (wal_file parts.wal) ≡ 0 }
+    requires parts { (old : D) × ArePartsOf D.Disk D.File.DiskFile old parts }
     ensures run { HasRunParts D.Disk D.File.DiskFile parts result.0 commands.items result.1 }
     ensures told { D.is_told result.0 ≡ D.is_told parts.disk }
     ensures model { D.keeps_model result.0 ≡ D.keeps_model parts.disk }
 {
-    let Parts {
-        disk,
-        manifest,
-        wal,
-        heads,
-        versions,
-        last,
-    } = parts;
-    let header = header_of(alloc, last.0, &heads);
-    let mut store = LoggedStore::new(PlainStore::of(heads, versions, last), wal);
+    let header = header_of_parts(alloc, &parts);
+    let mut store = match Store::of(alloc, parts) {
+        Ok(store) => store,
+        Err((disk, _)) => return (disk, Err(AllocError)),
+    };
     let ready = match header {
         Ok(header) => run_over(alloc, &mut store, commands, lines, header),
         Err(_) => Err(AllocError),
     };
-    (
-        close_files(disk, store.into_file(), manifest.into_file()),
-        ready,
-    )
+    (store.close(), ready)
 }
 
 fn stop_of_opening(fault: OpenFault) -> Stop
@@ -134,6 +122,8 @@ fn stop_of_opening(fault: OpenFault) -> Stop
     match fault {
         OpenFault::NoStore => Stop::NoStore,
         OpenFault::BadManifest { at } => Stop::BadManifest { at },
+        OpenFault::MissingTable { number } => Stop::MissingTable { number },
+        OpenFault::BadTable { number } => Stop::BadTable { number },
         OpenFault::BadLog { number, at } => Stop::BadLog { number, at },
         OpenFault::DiskFault => Stop::DiskFault,
         OpenFault::NoMemory => Stop::NoMemory,
@@ -207,7 +197,8 @@ pub fn run_path<H: Host>(
     ensures later { H.faults host.old ≤ H.faults host.new }
 {
     let commands = read_commands(alloc, file, host)?;
-    match Vec::with_capacity(alloc, commands.len() + 1) {
+    // A flush has two lines, and the runner's sync one.
+    match Vec::with_capacity(alloc, 2 * commands.len() + 1) {
         Ok(lines) => run_folder(alloc, folder, commands, lines, host),
         Err(_) => Err(Stop::NoMemory),
     }

@@ -20,45 +20,16 @@ ghost use Rattle.client_runner.specs.Stops.{IsFileStop, TakesMemory, message, st
 
 use crate::flow::write_whole;
 use crate::init::init_folder;
-use crate::output::{Ready, header_of, ready_of, write_lines};
-use crate::reading::read_commands;
+use crate::output::{Ready, write_lines};
 use crate::run::{run_path, status_of_lines};
 use crate::status::{Status, Stop};
+use crate::tries::try_path;
 use crate::words::{Command, HELP, VERSION, command_of};
 use client_lang::{Word, push_line};
 use manifest::Head;
-use solo_runner::{PlainStore, Ran, fresh_heads, run};
 use std::alloc::Global;
 use ts_key::NoMemory;
 use udt_disk::{Host, Sink, Text};
-
-/// The transcript of commands over a store in memory, ready to be written.
-fn transcribe(alloc: Global, commands: Vec<client_lang::Command>) -> Result<Ready, NoMemory>
-    requires built { All IsBuiltCommand commands.items }
-    requires stamped { All IsStampedCommand commands.items }
-    requires few { length commands.items < 2 ^ 32 - 1 }
-    ensures { IfOk result (IsTranscribed commands.items) }
-{
-    let mut store = PlainStore::new(alloc, fresh_heads(alloc)?);
-    let lines = Vec::with_capacity(alloc, commands.len())?;
-    let Ran { lines, last: _ } = run(&mut store, commands, lines);
-    let heads = fresh_heads(alloc)?;
-    let header = header_of(alloc, 0, &heads)?;
-    ready_of(alloc, header, lines)
-}
-
-/// The transcript of the file under a path, ready to be written.
-fn try_path<H: Host>(alloc: Global, path: &Text, host: &mut H) -> Result<Ready, Stop>
-    ensures ready { IfOk result (IsTried (H.standing host.old path.now)) }
-    ensures stopped { IfErr result (IsFileStop (H.standing host.old path.now) (H.faults host.old) (H.faults host.new)) }
-    ensures uses { UsesFile H.Host path.now host.old host.new }
-{
-    let commands = read_commands(alloc, path, host)?;
-    match transcribe(alloc, commands) {
-        Ok(ready) => Ok(ready),
-        Err(_) => Err(Stop::NoMemory),
-    }
-}
 
 fn status_of(stop: Stop) -> Status
     ensures { result ≡ status_of_stop stop }
@@ -283,12 +254,12 @@ fn plain<H: Host, K: Sink>(alloc: Global, words: &[Text], host: &mut H, out: &mu
 /// Runs the command of a command line, and answers its status.
 ///
 /// `try FILE` takes the command file under the path out of the host, reads it, and prints the transcript of its commands
-/// over an empty store in memory. `init FOLDER NAME:persist ..` makes a store of these families in the folder under the path.
+/// over a new store in memory. `init FOLDER NAME:FORM ..` makes a store of these families in the folder under the path.
 /// `run FOLDER FILE` reads the file, opens the folder, runs the commands over the store in it, puts all that was written on its
 /// disk and prints the transcript.
 ///
 /// Where the words are no command, or the file isn't there, is too long, has too many commands or a line outside the grammar,
-/// one line says so; likewise where a folder has no store, or one already, or its manifest or log is bad. A fault of a folder's
+/// one line says so; likewise where a folder has no store, or one already, or its manifest, a table or a log is bad. A fault of a folder's
 /// disk ends an opening or a making; it halts a run, which its transcript tells. Want of memory may come in the place of any answer
 /// but help and the version, and then nothing is printed. What stands under other paths stays.
 pub fn store_plain<H: Host, K: Sink>(
