@@ -42,7 +42,7 @@ use Rattle.solo_store.proofs.Stepping.{IsActed, Keeps, acted_step, still_step, w
 
 -- ---- acts that an engine may refuse
 
--- The act is no read and no job's end, and a refusal changes nothing.
+-- The act is safe read and safe job's end, and a refusal changes nothing.
 pub record IsRefusable (event : Event) (act : Act) : Type 0 where
   pub unread : is_read event ≡ false
   pub takes : IsTrue (takes_memory event)
@@ -52,16 +52,16 @@ pub record IsRefusable (event : Event) (act : Act) : Type 0 where
   pub still : (fault : EngineFault) → is_disk_fault fault ≡ false → IsTrue (is_still act (told_of_fault fault))
 
 write_still : (ops : List WriteOp) (sync : Bool) (fault : EngineFault) → is_disk_fault fault ≡ false → IsTrue (is_still (write ops sync) (told_of_fault fault))
-write_still ops sync faults.DiskFault no = absurd (true≢false no)
-write_still ops sync fault no = refl
+write_still ops sync faults.DiskFault safe = absurd (true≢false safe)
+write_still ops sync fault safe = refl
 
 raise_still : (i : Family) (floor : Ts) (fault : EngineFault) → is_disk_fault fault ≡ false → IsTrue (is_still (raise i floor) (told_of_fault fault))
-raise_still i floor faults.DiskFault no = absurd (true≢false no)
-raise_still i floor fault no = refl
+raise_still i floor faults.DiskFault safe = absurd (true≢false safe)
+raise_still i floor fault safe = refl
 
 start_still : (i : Family) (fault : EngineFault) → is_disk_fault fault ≡ false → IsTrue (is_still (flush_start i) (told_of_fault fault))
-start_still i faults.DiskFault no = absurd (true≢false no)
-start_still i fault no = refl
+start_still i faults.DiskFault safe = absurd (true≢false safe)
+start_still i fault safe = refl
 
 pub refuses_write : (named : List NamedOp) (ops : List WriteOp) (sync : Bool) → IsRefusable (Write named sync) (write ops sync)
 refuses_write named ops sync = record { unread = refl; takes = refl; runs = λ m. refl; own = refl; job = λ m. refl; still = write_still ops sync }
@@ -98,21 +98,21 @@ module _ {D F : Type 0} (d : disk.Ghosts D F) (f : file.Ghosts F) where
   module _ (last : IsNowLast d f) (old new : Store D F f) (engine : Engine D F f) (number : ℕ) (act : Act) (works : old.halted ≡ None) (ready : IsReady d f old) where
     -- a refusal keeps what the store held
     refused_keeps : (fault : EngineFault) → is_disk_fault fault ≡ false → Faulted old engine number act fault → new ≡ record old { engine = engine } → Keeps d f old new
-    refused_keeps fault no faulted is =
-        let before = faulted.refused no in
+    refused_keeps fault safe faulted is =
+        let before = faulted.refused safe in
         let goes = goes_on_of d f old works ready in
         subst (λ (s : Store D F f). Keeps d f old s) (sym is) (record {
           flush = refl;
           holds = λ m c h. since_live d f old.halted engine (now_of old) m c works (before.holds (now_of old) m c (live_of d f old m c works h));
-          moments = λ m c n a h. rests_under d f last old engine m c n a h (faulted.untouched no);
+          moments = λ m c n a h. rests_under d f last old engine m c n a h (faulted.untouched safe);
           ready = record {
-            goes_on = goes_on_live d f old.halted engine (now_of old) works (faulted.running no) (before.current (now_of old) goes.1);
+            goes_on = goes_on_live d f old.halted engine (now_of old) works (faulted.running safe) (before.current (now_of old) goes.1);
             one = faulted.one ready.one;
             families = ready.families;
             few = ready.few;
           };
           names = refl;
-          faults = subst (λ (b : Bool). IsCause b (engine_faults d f (engine_of old)) (engine_faults d f engine)) no faulted.counted;
+          faults = subst (λ (b : Bool). IsCause b (engine_faults d f (engine_of old)) (engine_faults d f engine)) safe faulted.counted;
         })
 
     -- the disk failed

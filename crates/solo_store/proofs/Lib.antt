@@ -1,8 +1,9 @@
+pub mod Sequences
 pub mod Naming
 pub mod Behind
 pub mod Asking
 pub mod Refusing
-pub mod Reads
+pub mod Shown
 pub mod Holding
 pub mod Stepping
 pub mod Faults

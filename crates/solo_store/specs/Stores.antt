@@ -26,7 +26,7 @@ module _ {D F : Type 0} {f : file.Ghosts F} where
   engine_of store = store.engine
 
   abbrev pub now_of : Store D F f → SuperVersion
-  now_of store = arc_value store.now
+  now_of store = arc_value store.version
 
   -- how many bytes wait in its log
   abbrev pub store_pending : Store D F f → ℕ

@@ -45,7 +45,7 @@ pub(crate) struct RunningFlush {
 /// under an event, the store goes on reading, and refuses what works on the disk.
 pub struct Store<D: Disk> {
     pub(crate) engine: Engine<D>,
-    pub(crate) now: Arc<SuperVersion>,
+    pub(crate) version: Arc<SuperVersion>,
     pub(crate) names: Vec<Name>,
     pub(crate) flush: Option<RunningFlush>,
     /// The number of the event under which the disk failed.
@@ -83,7 +83,7 @@ impl<D: Disk> Store<D> {
     fn halted_reply(&self, family: Family, since: u64) -> Reply
         ensures { result ≡ halted_told (slice_get (now_of self.now).families family.0) since }
     {
-        match self.now.as_ref().family(family) {
+        match self.version.as_ref().family(family) {
             None => Reply::Unknown,
             Some(_) => Reply::Halted { since },
         }
@@ -94,7 +94,7 @@ impl<D: Disk> Store<D> {
         requires { IsReady D.Disk D.File.DiskFile self.now }
         ensures { (number : ℕ) → IsStep D.Disk D.File.DiskFile self.now self.now number (FloorEvent family.now) result }
     {
-        match self.now.as_ref().family(self.family_of(family)) {
+        match self.version.as_ref().family(self.family_of(family)) {
             None => Reply::Unknown,
             Some(state) => Reply::Floor { floor: state.floor },
         }
@@ -105,7 +105,7 @@ impl<D: Disk> Store<D> {
         requires { IsReady D.Disk D.File.DiskFile self.now }
         ensures { (number : ℕ) → IsStep D.Disk D.File.DiskFile self.now self.now number (GetEvent family.now key.now t None) result }
     {
-        let now = self.now.as_ref();
+        let now = self.version.as_ref();
         let family = self.family_of(family);
         if now.family(family).is_none() {
             return Reply::Unknown;
@@ -140,10 +140,10 @@ impl<D: Disk> Store<D> {
         let Ok(batch) = batch_of(alloc, &self.names, ops) else {
             return Reply::NoMemory;
         };
-        match self.engine.write(alloc, self.now.as_ref(), &batch, sync) {
+        match self.engine.write(alloc, self.version.as_ref(), &batch, sync) {
             Ok(next) => {
                 let last = next.as_ref().last;
-                self.now = next;
+                self.version = next;
                 Reply::OkAt { number: last.0 }
             }
             Err(fault) => self.refused(number, fault),
@@ -159,9 +159,9 @@ impl<D: Disk> Store<D> {
         if let Some(since) = self.halted {
             return self.halted_reply(family, since);
         }
-        match self.engine.raise(alloc, self.now.as_ref(), family, floor) {
+        match self.engine.raise(alloc, self.version.as_ref(), family, floor) {
             Ok(next) => {
-                self.now = next;
+                self.version = next;
                 Reply::Done
             }
             Err(fault) => self.refused(number, fault),
@@ -194,7 +194,7 @@ impl<D: Disk> Store<D> {
     {
         let Store {
             engine,
-            now: _,
+            version: _,
             names: _,
             flush: _,
             halted: _,
