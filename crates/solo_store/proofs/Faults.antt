@@ -9,12 +9,12 @@ use Rattle.udt_disk.specs.Causes.{IsCause}
 use Rattle.udt_disk.specs.declared.file.DiskFile as file
 use Rattle.udt_disk.specs.declared.disk.Disk as disk
 use Rattle.udt_model.specs.declared.event.Event.{Event}
-use Rattle.udt_model.specs.declared.event.Event.TheVariants.{FlushStart, Raise, Write}
+use Rattle.udt_model.specs.declared.event.Event.TheVariants.{FlushStart, Raise, Sync, Write}
 use Rattle.udt_model.specs.declared.event.NamedOp.{NamedOp}
 use Rattle.udt_model.specs.declared.reply.Reply.{Reply}
 use Rattle.udt_model.specs.declared.reply.Reply.TheVariants.{Fault}
 use Rattle.udt_model.specs.Acts.{Act}
-use Rattle.udt_model.specs.Acts.Act.{flush_start, raise, write}
+use Rattle.udt_model.specs.Acts.Act.{flush_start, raise, sync_all, write}
 use Rattle.udt_model.specs.Crashes.{Course, course_after}
 use Rattle.udt_model.specs.Lines.{is_read, takes_memory}
 use Rattle.udt_model.specs.State.{State}
@@ -23,7 +23,7 @@ use Rattle.floor_laws.specs.Sound.{IsSoundState}
 use Rattle.floor_laws.proofs.Told.{sound_after}
 use Rattle.super_version.specs.declared.version.SuperVersion.{SuperVersion}
 use Rattle.engine_laws.specs.Joints.{IsNowLast}
-use Rattle.store_engine.specs.Calls.{LeavesOutcomes, RanUnder}
+use Rattle.store_engine.specs.Calls.{LeavesOutcomes, RanOn, RanUnder}
 use Rattle.store_engine.specs.Engines.{HoldsAsBefore, HoldsNow, IsCurrent, IsOneFolder, IsRunning, engine_faults, held}
 use Rattle.store_engine.specs.Now.{IsNow}
 use Rattle.store_engine.specs.Replies.{is_disk_fault, reply_of_fault}
@@ -31,13 +31,14 @@ use Rattle.store_engine.specs.Steps.{IsCalled}
 use Rattle.store_engine.specs.declared.engine.Engine.{Engine}
 use Rattle.store_engine.specs.declared.fault.EngineFault.{EngineFault}
 use Rattle.store_engine.specs.declared.fault.EngineFault.TheVariants as faults
+use Rattle.store_engine.proofs.Leaving.{failed_leave, failed_sync_leave}
 use Rattle.solo_store.specs.Replies.{halted_behind, told_of_fault}
 use Rattle.solo_store.specs.Steps.{IsStep}
 use Rattle.solo_store.specs.Stores.{HoldsHalted, HoldsSince, HoldsStore, IsReady, engine_of, job_of, now_of}
 use Rattle.solo_store.specs.declared.store.Store.{Store}
-use Rattle.solo_store.proofs.Asking.{Asks}
+use Rattle.solo_store.proofs.Asking.{Asks, asks_sync}
 use Rattle.solo_store.proofs.Behind.{is_own, is_still}
-use Rattle.solo_store.proofs.Holding.{goes_on_live, goes_on_of, live_of, rests_under, since_live, store_shows, store_sound}
+use Rattle.solo_store.proofs.Holding.{goes_on_live, goes_on_of, live_of, on_under, rests_under, since_live, store_shows, store_sound}
 use Rattle.solo_store.proofs.Stepping.{IsActed, Keeps, acted_step, still_step, want_step}
 
 -- ---- acts that an engine may refuse
@@ -136,10 +137,63 @@ module _ {D F : Type 0} (d : disk.Ghosts D F) (f : file.Ghosts F) where
       given = refl;
     })
 
+    -- also where the event takes no memory
+    pub failed_step : (event : Event) → Asks old.names.items event act → IsTrue (is_own act) → ((m : State) → without_job m act ≡ m) → Faulted old engine number act faults.DiskFault
+        → new ≡ record old { engine = engine; halted = Some number } → IsStep d f old new number event Fault
+    failed_step event asks own job faulted is = acted_step d f old new number event act Fault asks own refl (λ keeps. ap (λ (s : Store D F f). s.flush) is) (failed_acted faulted job is)
+
     module _ (event : Event) (asks : Asks old.names.items event act) (may : IsRefusable event act) where
       pub fault_step : (fault : EngineFault) → Faulted old engine number act fault → new ≡ record old { engine = engine; halted = halted_behind old.halted number fault } → IsStep d f old new number event (told_of_fault fault)
-      fault_step faults.DiskFault faulted is = acted_step d f old new number event act Fault asks may.own refl (λ keeps. ap (λ (s : Store D F f). s.flush) is) (failed_acted faulted may.job is)
+      fault_step faults.DiskFault faulted is = failed_step event asks may.own may.job faulted is
       fault_step faults.NoMemory faulted is = want_step d f old new number event act asks may.own (refused_keeps faults.NoMemory refl faulted is) (may.still faults.NoMemory refl) may.takes may.runs
       fault_step fault faulted is =
           still_step d f old new number event act asks may.own (refused_keeps fault refl faulted is) (told_of_fault fault) (may.still fault refl) (λ before now e. e) refl refl
           (λ m c h. faulted.tells m c (live_of d f old m c works h))
+
+  -- ---- what the calls of an engine tell of their faults
+
+  module _ (last : IsNowLast d f) (old : Store D F f) (engine : Engine D F f) (number : ℕ) (act : Act) (fault : EngineFault)
+      (tells : (m : State) (c : Course) → HoldsNow d f (engine_of old) (now_of old) m c → IfSome (reply_of_fault fault) (IsReplyTo m act))
+      (refused : is_disk_fault fault ≡ false → HoldsAsBefore d f (engine_of old) engine) where
+    pub faulted_under : {A : Type 0} → ((m : State) (c : Course) → HoldsNow d f (engine_of old) (now_of old) m c → RanUnder d f m c number act (engine_of old) engine)
+        → IsCalled {A = A} d f (engine_of old) engine (Err fault) → Faulted old engine number act fault
+    faulted_under moments called = record {
+      tells = tells;
+      leaves = λ m c h failed. failed_leave d f last (engine_of old) engine m c number act h.unfailed (moments m c h);
+      moments = moments;
+      refused = refused;
+      untouched = called.untouched;
+      running = called.running;
+      one = called.one;
+      counted = called.counted;
+    }
+
+    -- of an act that was to change nothing
+    pub faulted_on : {A : Type 0} → ((m : State) (c : Course) → HoldsNow d f (engine_of old) (now_of old) m c → RanOn d f m c (engine_of old) engine)
+        → IsCalled {A = A} d f (engine_of old) engine (Err fault) → Faulted old engine number act fault
+    faulted_on moments called = record {
+      tells = tells;
+      leaves = λ m c h failed. failed_sync_leave d f last (engine_of old) engine m c number act h.unfailed (moments m c h);
+      moments = λ m c h. on_under d f (engine_of old) engine m c number act (moments m c h);
+      refused = refused;
+      untouched = called.untouched;
+      running = called.running;
+      one = called.one;
+      counted = called.counted;
+    }
+
+  -- ---- syncs
+
+  pub sync_failed : {A : Type 0} (last : IsNowLast d f) (old new : Store D F f) (engine : Engine D F f) (number : ℕ) (works : old.halted ≡ None) (ready : IsReady d f old) (fault : EngineFault) (reply : Reply)
+      → fault ≡ faults.DiskFault
+      → ((m : State) (c : Course) → HoldsNow d f (engine_of old) (now_of old) m c → IfSome (reply_of_fault fault) (IsReplyTo m sync_all))
+      → ((m : State) (c : Course) → HoldsNow d f (engine_of old) (now_of old) m c → RanOn d f m c (engine_of old) engine)
+      → IsCalled {A = A} d f (engine_of old) engine (Err fault) → reply ≡ told_of_fault fault → new ≡ record old { engine = engine; halted = halted_behind old.halted number fault }
+      → IsStep d f old new number Sync reply
+  sync_failed {A} last old new engine number works ready fault reply is tells moments called told left =
+      let tells_fault : (m : State) (c : Course) → HoldsNow d f (engine_of old) (now_of old) m c → IfSome (reply_of_fault faults.DiskFault) (IsReplyTo m sync_all) = subst (λ (x : EngineFault). (m : State) (c : Course) → HoldsNow d f (engine_of old) (now_of old) m c → IfSome (reply_of_fault x) (IsReplyTo m sync_all)) is tells in
+      let failed : IsCalled {A = A} d f (engine_of old) engine (Err faults.DiskFault) = subst (λ (x : EngineFault). IsCalled {A = A} d f (engine_of old) engine (Err x)) is called in
+      let faulted = faulted_on last old engine number sync_all faults.DiskFault tells_fault (λ safe. absurd (true≢false safe)) moments failed in
+      subst (λ (r : Reply). IsStep d f old new number Sync r) (sym (told ∙ ap told_of_fault is))
+      (failed_step last old new engine number sync_all works ready Sync (asks_sync old.names.items) refl (λ m. refl) faulted
+      (left ∙ ap (λ (x : EngineFault). let s : Store D F f = record old { engine = engine; halted = halted_behind old.halted number x } in s) is))

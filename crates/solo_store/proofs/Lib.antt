@@ -10,3 +10,4 @@ pub mod Faults
 pub mod Accepted
 pub mod Counting
 pub mod Answers
+pub mod Events
