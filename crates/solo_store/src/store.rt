@@ -107,10 +107,10 @@ impl<D: Disk> Store<D> {
     {
         let now = self.version.as_ref();
         let family = self.family_of(family);
-        if now.family(family).is_none() {
-            return Reply::Unknown;
+        match now.family(family) {
+            None => Reply::Unknown,
+            Some(_) => reply_of_read(alloc, get(now, family, key.bytes(), t, now.last)),
         }
-        reply_of_read(alloc, get(now, family, key.bytes(), t, now.last))
     }
 
     /// Takes a write whole, as the event of this number, or leaves the store as it was. The batch shares the bytes of keys and values.
