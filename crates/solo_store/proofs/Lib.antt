@@ -11,3 +11,4 @@ pub mod Accepted
 pub mod Counting
 pub mod Answers
 pub mod Events
+pub mod Opened

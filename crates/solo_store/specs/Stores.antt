@@ -1,10 +1,15 @@
 -- What a store holds.
-use Rattle.std.specs.Prelude.{◌≡◌, ℕ, ◌≤◌, [], length, option_map, Option, Some, None, ⊤}
+use Rattle.std.specs.Prelude.{◌≡◌, ℕ, ◌≤◌, List, [], length, map, option_map, Option, Some, None, ⊤}
 use Rattle.std.specs.Arc.{arc_value}
 use Rattle.ts_key.specs.declared.limits.TheConstants.{FAMILY_LIMIT}
 use Rattle.udt_disk.specs.declared.file.DiskFile as file
 use Rattle.udt_disk.specs.declared.disk.Disk as disk
-use Rattle.wal.specs.Wals.{wal_pending}
+use Rattle.udt_disk.specs.Causes.{plus_faults}
+use Rattle.wal.specs.Wals.{wal_file, wal_pending}
+use Rattle.manifest_fold.specs.declared.fold.FamilyFold.{FamilyFold}
+use Rattle.manifest_fold.specs.declared.fold.Folded.{Folded}
+use Rattle.manifest.specs.Manifest.{manifest_file}
+use Rattle.recovery.specs.declared.opening.Parts.{Parts}
 use Rattle.udt_model.specs.State.{Flush, State}
 use Rattle.udt_model.specs.Crashes.{Course}
 use Rattle.floor_laws.specs.Sound.{IsSoundState}
@@ -20,6 +25,10 @@ use Rattle.solo_store.specs.declared.store.Store.{Store}
 -- the flush of the model that it is: there are no snapshots
 abbrev pub job_of : RunningFlush → Flush
 job_of flush = record { start = flush.start; family = flush.family; through = flush.through; floor = flush.floor; seqs = [] }
+
+-- the names of a manifest's families
+abbrev pub names_of_fold : Folded → List (List ℕ)
+names_of_fold fold = map (λ (f : FamilyFold). f.name) fold.families
 
 module _ {D F : Type 0} {f : file.Ghosts F} where
   abbrev pub engine_of : Store D F f → Engine D F f
@@ -67,3 +76,6 @@ module _ {D F : Type 0} (d : disk.Ghosts D F) (f : file.Ghosts F) where
   -- the faults of the disk and of the files of it that are held
   abbrev pub store_faults : Store D F f → ℕ
   store_faults store = engine_faults d f (engine_of store)
+
+  abbrev pub parts_faults : Parts D F f → ℕ
+  parts_faults parts = plus_faults (plus_faults (d.faults parts.disk) (f.faults (wal_file parts.wal))) (f.faults (manifest_file parts.manifest))

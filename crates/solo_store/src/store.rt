@@ -55,7 +55,40 @@ pub struct Store<D: Disk> {
 impl<D: Disk> Store<D> {
     ghost use Rattle.store_engine.specs.Calls.{LeavesOutcomes};
     ghost use Rattle.solo_store.specs.Steps.{IsStep};
-    ghost use Rattle.solo_store.specs.Stores.{HoldsStore, IsReady, engine_of, now_of, store_faults, store_pending};
+    ghost use Rattle.solo_store.specs.Stores.{HoldsStore, IsReady, names_of_fold, now_of, parts_faults, store_faults, store_pending};
+
+    /// The store over the parts of an opened one. Where there is no memory for it, the folder is given back as it was.
+    pub fn of(alloc: Global, parts: Parts<D>) -> Result<Store<D>, (D, NoMemory)>
+        requires { (old : D) × ArePartsOf D.Disk D.File.DiskFile old parts }
+        ensures ready { IfOk result (IsReady D.Disk D.File.DiskFile) }
+        ensures idle { IfOk result (λ store. (store.halted ≡ None) × (store.flush ≡ None)) }
+        ensures names { IfOk result (λ store. store.names.items ≡ names_of_fold (manifest_folded parts.manifest)) }
+        // It holds each state that the folder stands for.
+        ensures holds { IfOk result (λ store. (old : D) (m : State) → ArePartsOf D.Disk D.File.DiskFile old parts
+            → IsTrue (D.is_told old) → AreLiveClean D.Disk old (manifest_folded parts.manifest) → FolderStands ReadsAsTable (D.stands old) m → HoldsStore D.Disk D.File.DiskFile store m (course_start m)) }
+        ensures closed { IfErr result (λ left. (old : D) → ArePartsOf D.Disk D.File.DiskFile old parts → OnlyReads D.Disk D.File.DiskFile (alone old) (alone left.0)) }
+        ensures counted { IfOk result (λ store. store_faults D.Disk D.File.DiskFile store ≡ parts_faults D.Disk D.File.DiskFile parts) }
+        ensures left { IfErr result (λ left. D.faults left.0 ≡ parts_faults D.Disk D.File.DiskFile parts) }
+    {
+        let Parts {
+            disk,
+            manifest,
+            wal,
+            version,
+        } = parts;
+        let names = names_of(alloc, manifest.fold().families.as_slice());
+        let engine = Engine::from_parts(alloc, disk, manifest, wal, &version);
+        match (names, Arc::new(alloc, version)) {
+            (Ok(names), Ok(version)) => Ok(Store {
+                engine,
+                version,
+                names,
+                flush: None,
+                halted: None,
+            }),
+            _ => Err((engine.close(), AllocError)),
+        }
+    }
 
     /// The number of the family of this name; where there is none, the one behind the last.
     pub(crate) fn family_of(&self, name: &Name) -> Family
