@@ -1,5 +1,5 @@
 -- The step of an event under which the engine answered a fault.
-use Rattle.std.proofs.Common.{◌≡◌, ℕ, Bool, false, true, List, Option, Some, None, refl, sym, ap, ◌∙◌, subst}
+use Rattle.std.proofs.Common.{◌≡◌, ℕ, ◌≤◌, Bool, false, true, List, Option, Some, None, refl, sym, ap, ◌∙◌, subst}
 use Rattle.std.specs.Prelude.{IfSome, IsTrue, Result, Err, option_map}
 use Rattle.std.proofs.lemmas.Bool.{false≢true, true≢false}
 use Rattle.ts_key.specs.declared.batch.WriteOp.{WriteOp}
@@ -12,6 +12,7 @@ use Rattle.udt_model.specs.declared.event.Event.{Event}
 use Rattle.udt_model.specs.declared.event.Event.TheVariants.{FlushStart, Raise, Sync, Write}
 use Rattle.udt_model.specs.declared.event.NamedOp.{NamedOp}
 use Rattle.udt_model.specs.declared.reply.Reply.{Reply}
+use Rattle.udt_model.specs.declared.reply.Reply.TheVariants as replies
 use Rattle.udt_model.specs.declared.reply.Reply.TheVariants.{Fault}
 use Rattle.udt_model.specs.Acts.{Act}
 use Rattle.udt_model.specs.Acts.Act.{flush_start, raise, sync_all, write}
@@ -22,6 +23,7 @@ use Rattle.udt_model.specs.Steps.{IsReplyTo, after, is_running, without_job}
 use Rattle.floor_laws.specs.Sound.{IsSoundState}
 use Rattle.floor_laws.proofs.Told.{sound_after}
 use Rattle.super_version.specs.declared.version.SuperVersion.{SuperVersion}
+use Rattle.manifest_fold.specs.declared.limits.TheConstants.{FILE_NUMBER_LIMIT}
 use Rattle.engine_laws.specs.Joints.{IsNowLast}
 use Rattle.store_engine.specs.Calls.{LeavesOutcomes, RanOn, RanUnder}
 use Rattle.store_engine.specs.Engines.{HoldsAsBefore, HoldsNow, IsCurrent, IsOneFolder, IsRunning, engine_faults, held}
@@ -33,13 +35,13 @@ use Rattle.store_engine.specs.declared.fault.EngineFault.{EngineFault}
 use Rattle.store_engine.specs.declared.fault.EngineFault.TheVariants as faults
 use Rattle.store_engine.proofs.Leaving.{failed_leave, failed_sync_leave}
 use Rattle.solo_store.specs.Replies.{halted_behind, told_of_fault}
-use Rattle.solo_store.specs.Steps.{IsStep}
-use Rattle.solo_store.specs.Stores.{HoldsHalted, HoldsSince, HoldsStore, IsReady, engine_of, job_of, now_of}
+use Rattle.solo_store.specs.Steps.{IsSameDisk, IsStep}
+use Rattle.solo_store.specs.Stores.{HoldsHalted, HoldsSince, HoldsStore, IsReady, engine_of, job_of, now_of, store_next}
 use Rattle.solo_store.specs.declared.store.Store.{Store}
 use Rattle.solo_store.proofs.Asking.{Asks, asks_sync}
 use Rattle.solo_store.proofs.Behind.{is_own, is_still}
 use Rattle.solo_store.proofs.Holding.{goes_on_live, goes_on_of, live_of, on_under, rests_under, since_live, store_shows, store_sound}
-use Rattle.solo_store.proofs.Stepping.{IsActed, Keeps, acted_step, still_step, want_step}
+use Rattle.solo_store.proofs.Stepping.{IsActed, Keeps, acted_step, quiet, quiet_files, same_draws, still_step, want_step}
 
 -- ---- acts that an engine may refuse
 
@@ -94,6 +96,9 @@ module _ {D F : Type 0} (d : disk.Ghosts D F) (f : file.Ghosts F) where
     pub untouched : is_disk_fault fault ≡ false → held engine ≡ held (engine_of old)
     pub running : is_disk_fault fault ≡ false → IsRunning engine
     pub one : IsOneFolder d f (engine_of old) → IsOneFolder d f engine
+    pub next : engine.next ≡ store_next old
+    pub same : IsSameDisk d (engine_of old).disk engine.disk
+    pub files : (n : ℕ) → fault ≡ faults.FilesFull n → FILE_NUMBER_LIMIT ≤ store_next old
     pub counted : IsCause (is_disk_fault fault) (engine_faults d f (engine_of old)) (engine_faults d f engine)
 
   module _ (last : IsNowLast d f) (old new : Store D F f) (engine : Engine D F f) (number : ℕ) (act : Act) (works : old.halted ≡ None) (ready : IsReady d f old) where
@@ -114,6 +119,9 @@ module _ {D F : Type 0} (d : disk.Ghosts D F) (f : file.Ghosts F) where
           };
           names = refl;
           faults = subst (λ (b : Bool). IsCause b (engine_faults d f (engine_of old)) (engine_faults d f engine)) safe faulted.counted;
+          halted = refl;
+          next = faulted.next;
+          same = faulted.same;
         })
 
     -- the disk failed
@@ -135,6 +143,11 @@ module _ {D F : Type 0} (d : disk.Ghosts D F) (f : file.Ghosts F) where
       names = refl;
       counted = faulted.counted;
       given = refl;
+      halted = refl;
+      since = tt;
+      files = λ is. absurd (false≢true is);
+      draws = same_draws d f faulted.next;
+      same = faulted.same;
     })
 
     -- also where the event takes no memory
@@ -146,15 +159,18 @@ module _ {D F : Type 0} (d : disk.Ghosts D F) (f : file.Ghosts F) where
       pub fault_step : (fault : EngineFault) → Faulted old engine number act fault → new ≡ record old { engine = engine; halted = halted_behind old.halted number fault } → IsStep d f old new number event (told_of_fault fault)
       fault_step faults.DiskFault faulted is = failed_step event asks may.own may.job faulted is
       fault_step faults.NoMemory faulted is = want_step d f old new number event act asks may.own (refused_keeps faults.NoMemory refl faulted is) (may.still faults.NoMemory refl) may.takes may.runs
+      fault_step (faults.FilesFull n) faulted is =
+          still_step d f old new number event act asks may.own (refused_keeps (faults.FilesFull n) refl faulted is) (replies.Files n) (may.still (faults.FilesFull n) refl)
+          (quiet_files old.halted (store_next old) n (faulted.files n refl)) refl (λ m c h. faulted.tells m c (live_of d f old m c works h))
       fault_step fault faulted is =
-          still_step d f old new number event act asks may.own (refused_keeps fault refl faulted is) (told_of_fault fault) (may.still fault refl) (λ before now e. e) refl refl
+          still_step d f old new number event act asks may.own (refused_keeps fault refl faulted is) (told_of_fault fault) (may.still fault refl) (quiet old.halted (store_next old) (told_of_fault fault) refl) refl
           (λ m c h. faulted.tells m c (live_of d f old m c works h))
 
   -- ---- what the calls of an engine tell of their faults
 
   module _ (last : IsNowLast d f) (old : Store D F f) (engine : Engine D F f) (number : ℕ) (act : Act) (fault : EngineFault)
       (tells : (m : State) (c : Course) → HoldsNow d f (engine_of old) (now_of old) m c → IfSome (reply_of_fault fault) (IsReplyTo m act))
-      (refused : is_disk_fault fault ≡ false → HoldsAsBefore d f (engine_of old) engine) where
+      (refused : is_disk_fault fault ≡ false → HoldsAsBefore d f (engine_of old) engine) (files : (n : ℕ) → fault ≡ faults.FilesFull n → FILE_NUMBER_LIMIT ≤ store_next old) where
     pub faulted_under : {A : Type 0} → ((m : State) (c : Course) → HoldsNow d f (engine_of old) (now_of old) m c → RanUnder d f m c number act (engine_of old) engine)
         → IsCalled {A = A} d f (engine_of old) engine (Err fault) → Faulted old engine number act fault
     faulted_under moments called = record {
@@ -165,6 +181,9 @@ module _ {D F : Type 0} (d : disk.Ghosts D F) (f : file.Ghosts F) where
       untouched = called.untouched;
       running = called.running;
       one = called.one;
+      next = called.next;
+      same = record { told = ap d.is_told called.same.disk; model = ap d.keeps_model called.same.disk };
+      files = files;
       counted = called.counted;
     }
 
@@ -179,6 +198,9 @@ module _ {D F : Type 0} (d : disk.Ghosts D F) (f : file.Ghosts F) where
       untouched = called.untouched;
       running = called.running;
       one = called.one;
+      next = called.next;
+      same = record { told = ap d.is_told called.same.disk; model = ap d.keeps_model called.same.disk };
+      files = files;
       counted = called.counted;
     }
 
@@ -193,7 +215,7 @@ module _ {D F : Type 0} (d : disk.Ghosts D F) (f : file.Ghosts F) where
   sync_failed {A} last old new engine number works ready fault reply is tells moments called told left =
       let tells_fault : (m : State) (c : Course) → HoldsNow d f (engine_of old) (now_of old) m c → IfSome (reply_of_fault faults.DiskFault) (IsReplyTo m sync_all) = subst (λ (x : EngineFault). (m : State) (c : Course) → HoldsNow d f (engine_of old) (now_of old) m c → IfSome (reply_of_fault x) (IsReplyTo m sync_all)) is tells in
       let failed : IsCalled {A = A} d f (engine_of old) engine (Err faults.DiskFault) = subst (λ (x : EngineFault). IsCalled {A = A} d f (engine_of old) engine (Err x)) is called in
-      let faulted = faulted_on last old engine number sync_all faults.DiskFault tells_fault (λ safe. absurd (true≢false safe)) moments failed in
+      let faulted = faulted_on last old engine number sync_all faults.DiskFault tells_fault (λ safe. absurd (true≢false safe)) (λ n is. absurd (cc)) moments failed in
       subst (λ (r : Reply). IsStep d f old new number Sync r) (sym (told ∙ ap told_of_fault is))
       (failed_step last old new engine number sync_all works ready Sync (asks_sync old.names.items) refl (λ m. refl) faulted
       (left ∙ ap (λ (x : EngineFault). let s : Store D F f = record old { engine = engine; halted = halted_behind old.halted number x } in s) is))

@@ -6,6 +6,7 @@ pub mod Refusing
 pub mod Shown
 pub mod Holding
 pub mod Stepping
+pub mod Files
 pub mod Faults
 pub mod Accepted
 pub mod Counting

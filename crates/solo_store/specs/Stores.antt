@@ -37,6 +37,10 @@ module _ {D F : Type 0} {f : file.Ghosts F} where
   abbrev pub now_of : Store D F f → SuperVersion
   now_of store = arc_value store.version
 
+  -- the number of the next file
+  abbrev pub store_next : Store D F f → ℕ
+  store_next store = (engine_of store).next
+
   -- how many bytes wait in its log
   abbrev pub store_pending : Store D F f → ℕ
   store_pending store = wal_pending (engine_of store).wal

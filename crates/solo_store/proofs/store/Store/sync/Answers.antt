@@ -1,14 +1,15 @@
-use Rattle.std.proofs.Common.{refl, ap, ◌∙◌, subst}
+use Rattle.std.proofs.Common.{refl, ap, ◌∙◌, subst, sym}
 use Rattle.engine_laws.specs.Joints.{IsNowLast}
 use Rattle.store_engine.specs.declared.fault.EngineFault.TheVariants.{DiskFault}
 use Rattle.udt_model.specs.declared.reply.Reply.{Reply}
 use Rattle.udt_model.specs.declared.reply.Reply.TheVariants.{Done}
 use Rattle.udt_model.specs.Acts.Act.{sync_all}
-use Rattle.solo_store.specs.Stores.{now_of}
+use Rattle.solo_store.specs.Stores.{now_of, store_next}
 use Rattle.solo_store.proofs.Accepted.{taken_step}
 use Rattle.solo_store.proofs.Asking.{asks_sync}
 use Rattle.solo_store.proofs.Events.{none_left, sync_refused}
 use Rattle.solo_store.proofs.Faults.{sync_failed}
+use Rattle.solo_store.proofs.Stepping.{quiet}
 use Rattle.solo_store.proofs.Holding.{goes_on_of, on_under}
 use Rattle.solo_store.proofs.store.Store.sync.Goals as goal
 
@@ -44,8 +45,10 @@ returns-in-Ok-clause-step g c =
       current = done.current (now_of s) goes.1;
       one = done.called.one;
       families = refl;
+      next = done.called.next;
+      same = record { told = ap d.is_told done.called.same.disk; model = ap d.keeps_model done.called.same.disk };
     })
-    Done refl refl done.called.counted
+    Done (quiet s.halted (store_next s) Done refl) refl done.called.counted
     (λ m co h. done.tells (now_of s) m co h)
     (λ m co h. done.holds (now_of s) m co c.args.number h)
     (λ m co h. on_under d f s.engine c.sync.new.self m co c.args.number sync_all (done.moments (now_of s) m co h))

@@ -1,4 +1,4 @@
-use Rattle.std.proofs.Common.{refl, map, subst, sym}
+use Rattle.std.proofs.Common.{refl, ap, map, subst, sym}
 use Rattle.std.specs.Arc.{arc_value}
 use Rattle.udt_model.specs.Acts.Act.{write}
 use Rattle.udt_model.specs.declared.event.Event.TheVariants.{Write}
@@ -7,12 +7,14 @@ use Rattle.udt_model.specs.declared.reply.Reply.TheVariants.{OkAt}
 use Rattle.engine_laws.specs.Joints.{IsNowLast}
 use Rattle.solo_store.specs.Names.{op_named}
 use Rattle.solo_store.specs.Steps.{IsStep}
-use Rattle.solo_store.specs.Stores.{now_of}
+use Rattle.solo_store.specs.Stores.{now_of, store_next}
 use Rattle.solo_store.proofs.Accepted.{holds_written, taken_step, told_written}
 use Rattle.solo_store.proofs.Asking.{Asks, asks_write}
 use Rattle.solo_store.proofs.Counting.{as_many_written}
 use Rattle.solo_store.proofs.Events.{write_wants}
 use Rattle.solo_store.proofs.Faults.{fault_step, faulted_under, refuses_write}
+use Rattle.solo_store.proofs.Files.{write_files}
+use Rattle.solo_store.proofs.Stepping.{quiet}
 use Rattle.solo_store.proofs.Holding.{goes_on_of}
 use Rattle.solo_store.proofs.Naming.{named_batch}
 use Rattle.solo_store.proofs.store.Store.take.Goals as goal
@@ -64,8 +66,10 @@ returns-in-Ok-write g c =
       current = done.current;
       one = done.called.one;
       families = as_many_written ops (now_of s) next done.written.adds;
+      next = done.called.next;
+      same = record { told = ap d.is_told done.called.same.disk; model = ap d.keeps_model done.called.same.disk };
     })
-    (OkAt next.last.0) refl refl done.called.counted
+    (OkAt next.last.0) (quiet s.halted (store_next s) (OkAt next.last.0) refl) refl done.called.counted
     (λ m co h. told_written d f engine next m co c.args.number ops c.args.sync (done.holds m co c.args.number h) (done.tells m co h))
     (λ m co h. holds_written d f engine next m co c.args.number ops c.args.sync (done.holds m co c.args.number h))
     (λ m co h. done.moments m co c.args.number h))
@@ -83,6 +87,6 @@ returns g c =
     let act = write ops c.args.sync in
     let done = rw (c.as_ref.ensures, c.in-Ok.ensures) at c.in-Err.ensures in
     let asks : Asks s.names.items (Write c.args.ops.now c.args.sync) act = rw c.deref.ensures.value (asks_write s.names.items c.args.ops.now c.args.sync) in
-    let faulted = faulted_under d f last s c.write.new.self c.args.number act c.in-Err.fault (λ m co h. done.tells m co h) done.refused (λ m co h. done.moments m co c.args.number h) done.called in
+    let faulted = faulted_under d f last s c.write.new.self c.args.number act c.in-Err.fault (λ m co h. done.tells m co h) done.refused (λ n is. absurd (write_files (now_of s) ops c.in-Err.fault n done.answers is)) (λ m co h. done.moments m co c.args.number h) done.called in
     subst (λ (r : Reply). IsStep d f s c.refused.new.self c.args.number (Write c.args.ops.now c.args.sync) r) (sym c.refused.ensures.told)
     (fault_step d f last s c.refused.new.self c.write.new.self c.args.number act c.requires.works c.requires.ready (Write c.args.ops.now c.args.sync) asks (refuses_write c.args.ops.now ops c.args.sync) c.in-Err.fault faulted c.refused.ensures.halted)
