@@ -18,7 +18,7 @@ put('floor',U+['use Rattle.solo_store.proofs.Events.{floor_absent, floor_found}'
  ('returns-in-None',' number','    floor_absent d f last c.args.self.now c.requires number c.args.family.now c.as_ref.result.now c.family_of.result c.as_ref.ensures c.family_of.ensures c.in-None.ensures\n'),
  ('returns-in-Some',' number','    floor_found d f last c.args.self.now c.requires number c.args.family.now c.as_ref.result.now c.family_of.result c.as_ref.ensures c.family_of.ensures c.in-Some.state.now c.in-Some.ensures\n'),
 ])
-put('sync',['use Rattle.std.proofs.Common.{refl, ap, ◌∙◌, subst, sym}']+U+['use Rattle.store_engine.specs.declared.fault.EngineFault.TheVariants.{DiskFault}','use Rattle.udt_model.specs.declared.reply.Reply.{Reply}','use Rattle.udt_model.specs.declared.reply.Reply.TheVariants.{Done}','use Rattle.udt_model.specs.Acts.Act.{sync_all}','use Rattle.solo_store.specs.Stores.{now_of, store_next}','use Rattle.solo_store.proofs.Accepted.{taken_step}','use Rattle.solo_store.proofs.Asking.{asks_sync}','use Rattle.solo_store.proofs.Events.{none_left, sync_refused}','use Rattle.solo_store.proofs.Faults.{sync_failed}','use Rattle.solo_store.proofs.Stepping.{quiet}','use Rattle.solo_store.proofs.Holding.{goes_on_of, on_under}'],[
+put('sync',['use Rattle.std.proofs.Common.{refl, ap, ◌∙◌, subst, sym}']+U+['use Rattle.store_engine.specs.declared.fault.EngineFault.TheVariants.{DiskFault}','use Rattle.udt_model.specs.declared.reply.Reply.{Reply}','use Rattle.udt_model.specs.declared.reply.Reply.TheVariants.{Done}','use Rattle.udt_model.specs.Acts.Act.{sync_all}','use Rattle.solo_store.specs.Stores.{now_of, store_next}','use Rattle.solo_store.proofs.Accepted.{taken_step}','use Rattle.solo_store.proofs.Asking.{asks_sync}','use Rattle.solo_store.proofs.Events.{none_left, sync_refused}','use Rattle.solo_store.proofs.Faults.{sync_failed}','use Rattle.solo_store.proofs.Following.{follows_itself}','use Rattle.solo_store.proofs.Stepping.{quiet}','use Rattle.solo_store.proofs.Holding.{goes_on_of, on_under}'],[
  ('returns-in-Some-clause-step','','    sync_refused d f last c.args.self.now c.requires c.args.number c.in-Some.since c.in-Some.is\n'),
  ('returns-in-Ok-clause-step','','''    let s = c.args.self.now in
     let works = none_left s.halted c.in_default.not-Some in
@@ -33,7 +33,7 @@ put('sync',['use Rattle.std.proofs.Common.{refl, ap, ◌∙◌, subst, sym}']+U+
       running = done.called.running refl;
       current = done.current (now_of s) goes.1;
       one = done.called.one;
-      families = refl;
+      follows = follows_itself (now_of s);
       next = done.called.next;
       same = record { told = ap d.is_told done.called.same.disk; model = ap d.keeps_model done.called.same.disk };
     })
@@ -49,7 +49,7 @@ put('sync',['use Rattle.std.proofs.Common.{refl, ap, ◌∙◌, subst, sym}']+U+
     (λ m co h. done.tells (now_of s) m co h) (λ m co h. done.moments (now_of s) m co h) done.called c.refused.ensures.told c.refused.ensures.halted
 '''),
 ])
-put('raise',['use Rattle.std.proofs.Common.{refl, ap, subst, sym}','use Rattle.udt_model.specs.Acts.Act.{raise}','use Rattle.udt_model.specs.declared.event.Event.TheVariants.{Raise}','use Rattle.udt_model.specs.declared.reply.Reply.{Reply}','use Rattle.udt_model.specs.declared.reply.Reply.TheVariants.{Done}','use Rattle.ts_key.specs.declared.numbers.Family.{Family}','use Rattle.super_version.specs.Changes.{family_with_floor}']+U+['use Rattle.solo_store.specs.Steps.{IsStep}','use Rattle.solo_store.specs.Stores.{now_of, store_next}','use Rattle.solo_store.proofs.Accepted.{taken_step}','use Rattle.solo_store.proofs.Asking.{Asks, asks_raise}','use Rattle.solo_store.proofs.Counting.{as_many_changed}','use Rattle.solo_store.proofs.Events.{none_left, raise_refused}','use Rattle.solo_store.proofs.Faults.{fault_step, faulted_under, refuses_raise}','use Rattle.solo_store.proofs.Files.{raise_files}','use Rattle.solo_store.proofs.Stepping.{quiet}'],[
+put('raise',['use Rattle.std.proofs.Common.{refl, ap, subst, sym}','use Rattle.udt_model.specs.Acts.Act.{raise}','use Rattle.udt_model.specs.declared.event.Event.TheVariants.{Raise}','use Rattle.udt_model.specs.declared.reply.Reply.{Reply}','use Rattle.udt_model.specs.declared.reply.Reply.TheVariants.{Done}','use Rattle.ts_key.specs.declared.numbers.Family.{Family}','use Rattle.super_version.specs.Changes.{family_with_floor}']+U+['use Rattle.solo_store.specs.Steps.{IsStep}','use Rattle.solo_store.specs.Stores.{now_of, store_next}','use Rattle.solo_store.proofs.Accepted.{taken_step}','use Rattle.solo_store.proofs.Asking.{Asks, asks_raise}','use Rattle.solo_store.proofs.Following.{follows_changed}','use Rattle.solo_store.proofs.Events.{none_left, raise_refused}','use Rattle.solo_store.proofs.Faults.{fault_step, faulted_under, refuses_raise}','use Rattle.solo_store.proofs.Files.{raise_files}','use Rattle.solo_store.proofs.Stepping.{quiet}'],[
  ('returns-in-Some','','''    let s = c.args.self.now in
     raise_refused d f last s c.requires c.args.number c.args.family.now (now_of s) c.family_of-family.result refl c.family_of-family.ensures c.args.floor c.in-Some.since _ c.halted_reply.result c.in-Some.is refl c.halted_reply.ensures
 '''),
@@ -68,7 +68,7 @@ put('raise',['use Rattle.std.proofs.Common.{refl, ap, subst, sym}','use Rattle.u
       running = done.called.running refl;
       current = done.current;
       one = done.called.one;
-      families = as_many_changed i.0 (family_with_floor c.args.floor) (now_of s) _ done.raised;
+      follows = follows_changed i.0 (family_with_floor c.args.floor) (now_of s) _ (λ g. refl) done.raised;
       next = done.called.next;
       same = record { told = ap d.is_told done.called.same.disk; model = ap d.keeps_model done.called.same.disk };
     })
@@ -103,7 +103,7 @@ put('get',['use Rattle.std.proofs.Common.{refl, sym, ap, ◌∙◌, subst, inl, 
     (elim c.reply_of_read.ensures [ inl told ↦ inl (told ∙ ap reply_of_read got) | inr want ↦ inr want ])
 """),
 ])
-put('take',['use Rattle.std.proofs.Common.{refl, ap, map, subst, sym}','use Rattle.std.specs.Arc.{arc_value}','use Rattle.udt_model.specs.Acts.Act.{write}','use Rattle.udt_model.specs.declared.event.Event.TheVariants.{Write}','use Rattle.udt_model.specs.declared.reply.Reply.{Reply}','use Rattle.udt_model.specs.declared.reply.Reply.TheVariants.{OkAt}']+U+['use Rattle.solo_store.specs.Names.{op_named}','use Rattle.solo_store.specs.Steps.{IsStep}','use Rattle.solo_store.specs.Stores.{now_of, store_next}','use Rattle.solo_store.proofs.Accepted.{holds_written, taken_step, told_written}','use Rattle.solo_store.proofs.Asking.{Asks, asks_write}','use Rattle.solo_store.proofs.Counting.{as_many_written}','use Rattle.solo_store.proofs.Events.{write_wants}','use Rattle.solo_store.proofs.Faults.{fault_step, faulted_under, refuses_write}','use Rattle.solo_store.proofs.Files.{write_files}','use Rattle.solo_store.proofs.Stepping.{quiet}','use Rattle.solo_store.proofs.Holding.{goes_on_of}','use Rattle.solo_store.proofs.Naming.{named_batch}'],[
+put('take',['use Rattle.std.proofs.Common.{refl, ap, map, subst, sym}','use Rattle.std.specs.Arc.{arc_value}','use Rattle.udt_model.specs.Acts.Act.{write}','use Rattle.udt_model.specs.declared.event.Event.TheVariants.{Write}','use Rattle.udt_model.specs.declared.reply.Reply.{Reply}','use Rattle.udt_model.specs.declared.reply.Reply.TheVariants.{OkAt}']+U+['use Rattle.solo_store.specs.Names.{op_named}','use Rattle.solo_store.specs.Steps.{IsStep}','use Rattle.solo_store.specs.Stores.{now_of, store_next}','use Rattle.solo_store.proofs.Accepted.{holds_written, taken_step, told_written}','use Rattle.solo_store.proofs.Asking.{Asks, asks_write}','use Rattle.solo_store.proofs.Following.{follows_written}','use Rattle.solo_store.proofs.Events.{write_wants}','use Rattle.solo_store.proofs.Faults.{fault_step, faulted_under, refuses_write}','use Rattle.solo_store.proofs.Files.{write_files}','use Rattle.solo_store.proofs.Stepping.{quiet}','use Rattle.solo_store.proofs.Holding.{goes_on_of}','use Rattle.solo_store.proofs.Naming.{named_batch}'],[
  ('batch_of-requires-clause-batch','',"""    let s = c.args.self.now in
     rw c.deref.ensures.value (named_batch s.names.items c.args.ops.now c.requires.some c.requires.within c.requires.stamped)
 """),
@@ -127,7 +127,7 @@ put('take',['use Rattle.std.proofs.Common.{refl, ap, map, subst, sym}','use Ratt
       running = done.called.running refl;
       current = done.current;
       one = done.called.one;
-      families = as_many_written ops (now_of s) next done.written.adds;
+      follows = follows_written ops (now_of s) next done.written.adds;
       next = done.called.next;
       same = record { told = ap d.is_told done.called.same.disk; model = ap d.keeps_model done.called.same.disk };
     })
@@ -165,7 +165,7 @@ NAMES="""    let fold = c.fold.result.now in
 put('of',['use Rattle.std.proofs.Common.{◌≡◌, map, refl, sym, ap, ◌∙◌, subst, []}','use Rattle.std.specs.Prelude.{IfOk, ◌∷◌}','use Rattle.std.specs.Arc.{arc_value}','use Rattle.udt_disk.specs.Moments.{OnlyReads, alone, holding}','use Rattle.udt_disk.proofs.Moments.{only_then}','use Rattle.wal.specs.Wals.{wal_file}','use Rattle.manifest_fold.specs.declared.fold.FamilyFold.{FamilyFold}','use Rattle.manifest.specs.Manifest.{manifest_file, manifest_folded}']+U+['use Rattle.solo_store.specs.Stores.{names_of_fold}','use Rattle.solo_store.proofs.Opened.{opened_holds, opened_ready}'],[
  ('returns-in-Ok-Ok-clause-names','',NAMES+"""    names
 """),
- ('returns-in-Ok-Ok-clause-ready','',"""    opened_ready d f c.requires.0 c.args.parts c.requires.1 _ refl c.from_parts-engine.ensures.running c.from_parts-engine.ensures.current c.from_parts-engine.ensures.one c.in-Ok-Ok.ensures.ok (returns-in-Ok-Ok-clause-names g c)
+ ('returns-in-Ok-Ok-clause-ready','',"""    opened_ready d f c.requires.0 c.args.parts c.requires.1 _ refl refl c.from_parts-engine.ensures.running c.from_parts-engine.ensures.current c.from_parts-engine.ensures.one c.in-Ok-Ok.ensures.ok (returns-in-Ok-Ok-clause-names g c)
 """),
  ('returns-in-Ok-Ok-clause-holds',' old m are told clean stands',"""    opened_holds d f old c.args.parts are _ m refl refl c.in-Ok-Ok.ensures.ok (returns-in-Ok-Ok-clause-names g c) told stands (c.from_parts-engine.ensures.holds old m are told clean stands)
 """),

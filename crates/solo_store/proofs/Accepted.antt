@@ -21,10 +21,12 @@ use Rattle.store_engine.specs.Calls.{RanUnder}
 use Rattle.store_engine.specs.Engines.{HoldsNow, IsCurrent, IsOneFolder, IsRunning}
 use Rattle.store_engine.specs.declared.engine.Engine.{Engine}
 use Rattle.solo_store.specs.Steps.{IsSameDisk, IsStep}
-use Rattle.solo_store.specs.Stores.{HoldsStore, IsReady, engine_of, job_of, now_of, store_faults, store_next}
+use Rattle.solo_store.specs.Stores.{HoldsStore, IsReady, MayEndIf, engine_of, job_of, now_of, store_faults, store_next}
+use Rattle.solo_store.specs.declared.store.RunningFlush.{RunningFlush}
 use Rattle.solo_store.specs.declared.store.Store.{Store}
 use Rattle.solo_store.proofs.Asking.{Asks}
 use Rattle.solo_store.proofs.Behind.{flush_after, is_plain, plain_own}
+use Rattle.solo_store.proofs.Following.{Follows, may_end_later}
 use Rattle.solo_store.proofs.Holding.{goes_on_live, live_of, since_live}
 use Rattle.solo_store.proofs.Stepping.{IsActed, IsQuiet, acted_step, same_draws}
 
@@ -38,7 +40,7 @@ module _ {D F : Type 0} (d : disk.Ghosts D F) (f : file.Ghosts F) where
     pub running : IsRunning (engine_of new)
     pub current : IsCurrent (engine_of new) (now_of new)
     pub one : IsOneFolder d f (engine_of old) → IsOneFolder d f (engine_of new)
-    pub families : length (now_of new).families ≡ length (now_of old).families
+    pub follows : Follows (now_of old) (now_of new)
     pub next : store_next new ≡ store_next old
     pub same : IsSameDisk d (engine_of old).disk (engine_of new).disk
 
@@ -46,8 +48,9 @@ module _ {D F : Type 0} (d : disk.Ghosts D F) (f : file.Ghosts F) where
   goes_on_ready old new ready goes = record {
     goes_on = goes_on_live d f new.halted (engine_of new) (now_of new) goes.halted goes.running goes.current;
     one = goes.one ready.one;
-    families = goes.families ∙ (ready.families ∙ ap length (sym goes.names));
+    families = goes.follows.count ∙ (ready.families ∙ ap length (sym goes.names));
     few = subst (λ (names : List (List ℕ)). length names ≤ FAMILY_LIMIT) (sym goes.names) ready.few;
+    may_end = may_end_later new.flush (now_of old) (now_of new) goes.follows (subst (λ (o : Option RunningFlush). MayEndIf o (now_of old)) (sym goes.flush) ready.may_end);
   }
 
   module _ (old new : Store D F f) (number : ℕ) (event : Event) (act : Act) (asks : Asks old.names.items event act) (plain : IsTrue (is_plain act)) (ready : IsReady d f old) (goes : GoesOn old new) where

@@ -1,5 +1,5 @@
 -- The step of an event under which the engine answered a fault.
-use Rattle.std.proofs.Common.{◌≡◌, ℕ, ◌≤◌, Bool, false, true, List, Option, Some, None, refl, sym, ap, ◌∙◌, subst}
+use Rattle.std.proofs.Common.{◌≡◌, ℕ, ◌+◌, ◌≤◌, Bool, false, true, List, Option, Some, None, refl, sym, ap, ◌∙◌, subst}
 use Rattle.std.specs.Prelude.{IfSome, IsTrue, Result, Err, option_map}
 use Rattle.std.proofs.lemmas.Bool.{false≢true, true≢false}
 use Rattle.ts_key.specs.declared.batch.WriteOp.{WriteOp}
@@ -96,7 +96,8 @@ module _ {D F : Type 0} (d : disk.Ghosts D F) (f : file.Ghosts F) where
     pub untouched : is_disk_fault fault ≡ false → held engine ≡ held (engine_of old)
     pub running : is_disk_fault fault ≡ false → IsRunning engine
     pub one : IsOneFolder d f (engine_of old) → IsOneFolder d f engine
-    pub next : engine.next ≡ store_next old
+    pub next : is_disk_fault fault ≡ false → engine.next ≡ store_next old
+    pub draws : (store_next old ≤ engine.next) × (engine.next ≤ store_next old + 1)
     pub same : IsSameDisk d (engine_of old).disk engine.disk
     pub files : (n : ℕ) → fault ≡ faults.FilesFull n → FILE_NUMBER_LIMIT ≤ store_next old
     pub counted : IsCause (is_disk_fault fault) (engine_faults d f (engine_of old)) (engine_faults d f engine)
@@ -116,11 +117,12 @@ module _ {D F : Type 0} (d : disk.Ghosts D F) (f : file.Ghosts F) where
             one = faulted.one ready.one;
             families = ready.families;
             few = ready.few;
+            may_end = ready.may_end;
           };
           names = refl;
           faults = subst (λ (b : Bool). IsCause b (engine_faults d f (engine_of old)) (engine_faults d f engine)) safe faulted.counted;
           halted = refl;
-          next = faulted.next;
+          next = faulted.next safe;
           same = faulted.same;
         })
 
@@ -139,14 +141,14 @@ module _ {D F : Type 0} (d : disk.Ghosts D F) (f : file.Ghosts F) where
           } in
           halted;
       moments = λ m c h. faulted.moments m c (live_of d f old m c works h);
-      ready = record { goes_on = tt; one = faulted.one ready.one; families = ready.families; few = ready.few };
+      ready = record { goes_on = tt; one = faulted.one ready.one; families = ready.families; few = ready.few; may_end = ready.may_end };
       names = refl;
       counted = faulted.counted;
       given = refl;
       halted = refl;
       since = tt;
       files = λ is. absurd (false≢true is);
-      draws = same_draws d f faulted.next;
+      draws = faulted.draws;
       same = faulted.same;
     })
 
@@ -181,7 +183,8 @@ module _ {D F : Type 0} (d : disk.Ghosts D F) (f : file.Ghosts F) where
       untouched = called.untouched;
       running = called.running;
       one = called.one;
-      next = called.next;
+      next = λ safe. called.next;
+      draws = same_draws d f called.next;
       same = record { told = ap d.is_told called.same.disk; model = ap d.keeps_model called.same.disk };
       files = files;
       counted = called.counted;
@@ -198,7 +201,8 @@ module _ {D F : Type 0} (d : disk.Ghosts D F) (f : file.Ghosts F) where
       untouched = called.untouched;
       running = called.running;
       one = called.one;
-      next = called.next;
+      next = λ safe. called.next;
+      draws = same_draws d f called.next;
       same = record { told = ap d.is_told called.same.disk; model = ap d.keeps_model called.same.disk };
       files = files;
       counted = called.counted;

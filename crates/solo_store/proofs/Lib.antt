@@ -9,7 +9,7 @@ pub mod Stepping
 pub mod Files
 pub mod Faults
 pub mod Accepted
-pub mod Counting
+pub mod Following
 pub mod Answers
 pub mod Events
 pub mod Opened

@@ -47,9 +47,9 @@ said_names tables [] = refl
 said_names tables (f ∷ fs) = ap (λ (names : List (List ℕ)). f.name ∷ names) (said_names tables fs)
 
 module _ {D F : Type 0} (d : disk.Ghosts D F) (f : file.Ghosts F) (old : D) (parts : Parts D F f) (are : ArePartsOf d f old parts) where
-  pub opened_ready : (made : Store D F f) → made.halted ≡ None → IsRunning (engine_of made) → IsCurrent (engine_of made) parts.version → IsOneFolder d f (engine_of made) → now_of made ≡ parts.version
+  pub opened_ready : (made : Store D F f) → made.halted ≡ None → made.flush ≡ None → IsRunning (engine_of made) → IsCurrent (engine_of made) parts.version → IsOneFolder d f (engine_of made) → now_of made ≡ parts.version
       → made.names.items ≡ names_of_fold (manifest_folded parts.manifest) → IsReady d f made
-  opened_ready made works running current one is names =
+  opened_ready made works idle running current one is names =
       let fold = manifest_folded parts.manifest in
       let count : length (names_of_fold fold) ≡ length fold.families = length-map fold.families (λ (x : FamilyFold). x.name) in
       record {
@@ -57,6 +57,7 @@ module _ {D F : Type 0} (d : disk.Ghosts D F) (f : file.Ghosts F) (old : D) (par
         one = one;
         families = ap (λ (v : SuperVersion). length v.families) is ∙ (are.fits.all ∙ (sym count ∙ ap length (sym names)));
         few = subst (λ (n : ℕ). n ≤ FAMILY_LIMIT) (sym (ap length names ∙ count)) (usable_from fold are.folds).few;
+        may_end = rw idle tt;
       }
 
   pub opened_holds : (made : Store D F f) (m : State) → made.halted ≡ None → made.flush ≡ None → now_of made ≡ parts.version → made.names.items ≡ names_of_fold (manifest_folded parts.manifest)

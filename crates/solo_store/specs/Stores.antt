@@ -1,5 +1,5 @@
 -- What a store holds.
-use Rattle.std.specs.Prelude.{◌≡◌, ℕ, ◌≤◌, List, [], length, map, option_map, Option, Some, None, ⊤}
+use Rattle.std.specs.Prelude.{◌≡◌, ℕ, ◌<◌, ◌≤◌, List, [], length, map, slice_get, option_map, Option, Some, None, ⊤}
 use Rattle.std.specs.Arc.{arc_value}
 use Rattle.ts_key.specs.declared.limits.TheConstants.{FAMILY_LIMIT}
 use Rattle.udt_disk.specs.declared.file.DiskFile as file
@@ -13,6 +13,7 @@ use Rattle.recovery.specs.declared.opening.Parts.{Parts}
 use Rattle.udt_model.specs.State.{Flush, State}
 use Rattle.udt_model.specs.Crashes.{Course}
 use Rattle.floor_laws.specs.Sound.{IsSoundState}
+use Rattle.super_version.specs.declared.family.FamilyState.{FamilyState}
 use Rattle.super_version.specs.declared.version.SuperVersion.{SuperVersion}
 use Rattle.store_engine.specs.Calls.{LeavesOutcomes}
 use Rattle.store_engine.specs.Engines.{HoldsNow, IsCurrent, IsOneFolder, IsRunning, engine_faults, held}
@@ -25,6 +26,16 @@ use Rattle.solo_store.specs.declared.store.Store.{Store}
 -- the flush of the model that it is: there are no snapshots
 abbrev pub job_of : RunningFlush → Flush
 job_of flush = record { start = flush.start; family = flush.family; through = flush.through; floor = flush.floor; seqs = [] }
+
+-- The flush may be ended: there is its family, what is flushed of it ends at or below what the flush takes, and that by the last sequence.
+pub record MayEnd (flush : RunningFlush) (now : SuperVersion) : Type 0 where
+  pub known : flush.family.0 < length now.families
+  pub from : (g : FamilyState) → slice_get now.families flush.family.0 ≡ Some g → g.through.0 ≤ flush.through.0
+  pub to : flush.through.0 ≤ now.last.0
+
+abbrev pub MayEndIf : Option RunningFlush → SuperVersion → Type 0
+MayEndIf None now = ⊤
+MayEndIf (Some flush) now = MayEnd flush now
 
 -- the names of a manifest's families
 abbrev pub names_of_fold : Folded → List (List ℕ)
@@ -76,6 +87,7 @@ module _ {D F : Type 0} (d : disk.Ghosts D F) (f : file.Ghosts F) where
     pub one : IsOneFolder d f (engine_of store)
     pub families : length (now_of store).families ≡ length store.names.items
     pub few : length store.names.items ≤ FAMILY_LIMIT
+    pub may_end : MayEndIf store.flush (now_of store)
 
   -- the faults of the disk and of the files of it that are held
   abbrev pub store_faults : Store D F f → ℕ

@@ -1,16 +1,17 @@
 //! The store of one client.
 
-ghost use Rattle.std.specs.Prelude.{◌≡◌, ◌<◌, ◌≤◌, ℕ, None, Some, All, IfErr, IfOk, IsTrue, length, slice_get};
+ghost use Rattle.std.specs.Prelude.{◌≡◌, ◌∷◌, [], ◌<◌, ◌≤◌, ℕ, None, Some, All, IfErr, IfOk, IsTrue, length, slice_get};
 ghost use Rattle.std.specs.Arc.{arc_value};
 ghost use Rattle.ts_key.specs.declared.limits.TheConstants.{BATCH_LIMIT, FAMILY_LIMIT, STAMP_LIMIT};
 ghost use Rattle.udt_disk.specs.Joint.{LeavesNow};
-ghost use Rattle.udt_disk.specs.Moments.{OnlyReads, alone};
+ghost use Rattle.udt_disk.specs.Moments.{OnlyReads, alone, holding};
 ghost use Rattle.udt_model.specs.declared.event.Event.TheVariants.{Floor as FloorEvent, Get as GetEvent, Raise as RaiseEvent, Sync as SyncEvent, Write as WriteEvent};
 ghost use Rattle.udt_model.specs.declared.event.NamedOp.{NamedOp as Named};
 ghost use Rattle.udt_model.specs.Crashes.{Course, course_start, settled};
 ghost use Rattle.udt_model.specs.State.{State};
 ghost use Rattle.engine_laws.specs.Standing.{FolderStands};
-ghost use Rattle.manifest.specs.Manifest.{manifest_folded};
+ghost use Rattle.manifest.specs.Manifest.{manifest_file, manifest_folded};
+ghost use Rattle.wal.specs.Wals.{wal_file};
 ghost use Rattle.recovery.specs.Opening.{AreLiveClean};
 ghost use Rattle.recovery.specs.Tables.{ReadsAsTable};
 ghost use Rattle.store_engine.specs.Parts.{ArePartsOf};
@@ -54,14 +55,18 @@ pub struct Store<D: Disk> {
 
 impl<D: Disk> Store<D> {
     ghost use Rattle.store_engine.specs.Calls.{LeavesOutcomes};
-    ghost use Rattle.solo_store.specs.Steps.{IsStep};
-    ghost use Rattle.solo_store.specs.Stores.{HoldsStore, IsReady, names_of_fold, now_of, parts_faults, store_faults, store_pending};
+    ghost use Rattle.store_engine.specs.Engines.{held};
+    ghost use Rattle.solo_store.specs.Steps.{IsSameDisk, IsStep};
+    ghost use Rattle.solo_store.specs.Stores.{HoldsStore, IsReady, engine_of, names_of_fold, now_of, parts_faults, store_faults, store_next, store_pending};
 
     /// The store over the parts of an opened one. Where there is no memory for it, the folder is given back as it was.
     pub fn of(alloc: Global, parts: Parts<D>) -> Result<Store<D>, (D, NoMemory)>
         requires { (old : D) × ArePartsOf D.Disk D.File.DiskFile old parts }
         ensures ready { IfOk result (IsReady D.Disk D.File.DiskFile) }
         ensures idle { IfOk result (λ store. (store.halted ≡ None) × (store.flush ≡ None)) }
+        ensures shown { IfOk result (λ store. now_of store ≡ parts.version) }
+        ensures held { IfOk result (λ store. held (engine_of store) ≡ holding parts.disk (wal_file parts.wal ∷ manifest_file parts.manifest ∷ [])) }
+        ensures next { IfOk result (λ store. store_next store ≡ (manifest_folded parts.manifest).next_file) }
         ensures names { IfOk result (λ store. store.names.items ≡ names_of_fold (manifest_folded parts.manifest)) }
         // It holds each state that the folder stands for.
         ensures holds { IfOk result (λ store. (old : D) (m : State) → ArePartsOf D.Disk D.File.DiskFile old parts
@@ -205,7 +210,7 @@ impl<D: Disk> Store<D> {
     pub fn sync(&mut self, number: u64) -> Reply
         requires { IsReady D.Disk D.File.DiskFile self.old }
         ensures step { IsStep D.Disk D.File.DiskFile self.old self.new number SyncEvent result }
-        ensures synced { result ≡ Reply.Done → store_pending self.new ≡ 0 }
+        ensures settled { result ≡ Reply.Done → (self.new.halted ≡ None) × (store_pending self.new ≡ 0) }
     {
         if let Some(since) = self.halted {
             return Reply::Halted { since };
@@ -224,6 +229,7 @@ impl<D: Disk> Store<D> {
         ensures whole { (m : State) (c : Course) → HoldsStore D.Disk D.File.DiskFile self m c → self.halted ≡ None
             → store_pending self ≡ 0 → LeavesNow D.Disk D.File.DiskFile (λ folder. FolderStands ReadsAsTable folder (settled m)) (alone result) }
         ensures counted { D.faults result ≡ store_faults D.Disk D.File.DiskFile self }
+        ensures same { IsSameDisk D.Disk (engine_of self).disk result }
     {
         let Store {
             engine,

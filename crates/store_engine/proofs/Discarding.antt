@@ -38,10 +38,12 @@ pick (inl p) one other = one
 pick (inr q) one other = other
 
 picks_one : {P Q : Type 0} (o : P ⊎ Q) (one other : Image) → (Q → ⊥) → pick o one other ≡ one
+unfolding pick
 picks_one (inl p) one other never = refl
 picks_one (inr q) one other never = absurd (never q)
 
 picks_other : {P Q : Type 0} (o : P ⊎ Q) (one other : Image) → (P → ⊥) → pick o one other ≡ other
+unfolding pick
 picks_other (inl p) one other never = absurd (never p)
 picks_other (inr q) one other never = refl
 

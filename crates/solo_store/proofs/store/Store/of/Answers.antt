@@ -33,7 +33,7 @@ returns-in-Ok-Ok-clause-ready g c =
       disk = λ x n image left. (g.met.D.Disk g.world.𝓛 g.world.𝓜 g.world.𝓡 ((λ s x. x), (λ x. x), (λ x. x), λ x. x)).only_now x n image left;
       file = λ x image left. (g.met.D.File.DiskFile g.world.𝓛 g.world.𝓜 g.world.𝓡 ((λ s x. x), (λ x. x), (λ x. x), λ x. x)).only_now x image left;
     } in
-    opened_ready d f c.requires.0 c.args.parts c.requires.1 _ refl c.from_parts-engine.ensures.running c.from_parts-engine.ensures.current c.from_parts-engine.ensures.one c.in-Ok-Ok.ensures.ok (returns-in-Ok-Ok-clause-names g c)
+    opened_ready d f c.requires.0 c.args.parts c.requires.1 _ refl refl c.from_parts-engine.ensures.running c.from_parts-engine.ensures.current c.from_parts-engine.ensures.one c.in-Ok-Ok.ensures.ok (returns-in-Ok-Ok-clause-names g c)
 
 pub returns-in-Ok-Ok-clause-holds : goal.returns-in-Ok-Ok-clause-holds
 returns-in-Ok-Ok-clause-holds g c old m are told clean stands =

@@ -10,7 +10,7 @@ use Rattle.solo_store.specs.Steps.{IsStep}
 use Rattle.solo_store.specs.Stores.{now_of, store_next}
 use Rattle.solo_store.proofs.Accepted.{taken_step}
 use Rattle.solo_store.proofs.Asking.{Asks, asks_raise}
-use Rattle.solo_store.proofs.Counting.{as_many_changed}
+use Rattle.solo_store.proofs.Following.{follows_changed}
 use Rattle.solo_store.proofs.Events.{none_left, raise_refused}
 use Rattle.solo_store.proofs.Faults.{fault_step, faulted_under, refuses_raise}
 use Rattle.solo_store.proofs.Files.{raise_files}
@@ -51,7 +51,7 @@ returns-in-Ok g c =
       running = done.called.running refl;
       current = done.current;
       one = done.called.one;
-      families = as_many_changed i.0 (family_with_floor c.args.floor) (now_of s) _ done.raised;
+      follows = follows_changed i.0 (family_with_floor c.args.floor) (now_of s) _ (λ g. refl) done.raised;
       next = done.called.next;
       same = record { told = ap d.is_told done.called.same.disk; model = ap d.keeps_model done.called.same.disk };
     })

@@ -9,6 +9,7 @@ use Rattle.solo_store.proofs.Accepted.{taken_step}
 use Rattle.solo_store.proofs.Asking.{asks_sync}
 use Rattle.solo_store.proofs.Events.{none_left, sync_refused}
 use Rattle.solo_store.proofs.Faults.{sync_failed}
+use Rattle.solo_store.proofs.Following.{follows_itself}
 use Rattle.solo_store.proofs.Stepping.{quiet}
 use Rattle.solo_store.proofs.Holding.{goes_on_of, on_under}
 use Rattle.solo_store.proofs.store.Store.sync.Goals as goal
@@ -44,7 +45,7 @@ returns-in-Ok-clause-step g c =
       running = done.called.running refl;
       current = done.current (now_of s) goes.1;
       one = done.called.one;
-      families = refl;
+      follows = follows_itself (now_of s);
       next = done.called.next;
       same = record { told = ap d.is_told done.called.same.disk; model = ap d.keeps_model done.called.same.disk };
     })

@@ -10,7 +10,7 @@ use Rattle.solo_store.specs.Steps.{IsStep}
 use Rattle.solo_store.specs.Stores.{now_of, store_next}
 use Rattle.solo_store.proofs.Accepted.{holds_written, taken_step, told_written}
 use Rattle.solo_store.proofs.Asking.{Asks, asks_write}
-use Rattle.solo_store.proofs.Counting.{as_many_written}
+use Rattle.solo_store.proofs.Following.{follows_written}
 use Rattle.solo_store.proofs.Events.{write_wants}
 use Rattle.solo_store.proofs.Faults.{fault_step, faulted_under, refuses_write}
 use Rattle.solo_store.proofs.Files.{write_files}
@@ -65,7 +65,7 @@ returns-in-Ok-write g c =
       running = done.called.running refl;
       current = done.current;
       one = done.called.one;
-      families = as_many_written ops (now_of s) next done.written.adds;
+      follows = follows_written ops (now_of s) next done.written.adds;
       next = done.called.next;
       same = record { told = ap d.is_told done.called.same.disk; model = ap d.keeps_model done.called.same.disk };
     })
