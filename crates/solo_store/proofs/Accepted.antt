@@ -20,14 +20,15 @@ use Rattle.engine_laws.specs.Laws.{after_write, course_after_write}
 use Rattle.store_engine.specs.Calls.{RanUnder}
 use Rattle.store_engine.specs.Engines.{HoldsNow, IsCurrent, IsOneFolder, IsRunning}
 use Rattle.store_engine.specs.declared.engine.Engine.{Engine}
-use Rattle.solo_store.specs.Replies.{is_given}
-use Rattle.solo_store.specs.Steps.{IsReplyCause, IsStep}
-use Rattle.solo_store.specs.Stores.{HoldsStore, IsReady, engine_of, job_of, now_of, store_faults}
+use Rattle.solo_store.specs.Steps.{IsSameDisk, IsStep}
+use Rattle.solo_store.specs.Stores.{HoldsStore, IsReady, MayEndIf, engine_of, job_of, now_of, store_faults, store_next}
+use Rattle.solo_store.specs.declared.store.RunningFlush.{RunningFlush}
 use Rattle.solo_store.specs.declared.store.Store.{Store}
 use Rattle.solo_store.proofs.Asking.{Asks}
 use Rattle.solo_store.proofs.Behind.{flush_after, is_plain, plain_own}
+use Rattle.solo_store.proofs.Following.{Follows, may_end_later}
 use Rattle.solo_store.proofs.Holding.{goes_on_live, live_of, since_live}
-use Rattle.solo_store.proofs.Stepping.{IsActed, acted_step}
+use Rattle.solo_store.proofs.Stepping.{IsActed, IsQuiet, acted_step, same_draws}
 
 module _ {D F : Type 0} (d : disk.Ghosts D F) (f : file.Ghosts F) where
   -- The store goes on with what the engine gave, and knows the same names and the same flush.
@@ -39,31 +40,39 @@ module _ {D F : Type 0} (d : disk.Ghosts D F) (f : file.Ghosts F) where
     pub running : IsRunning (engine_of new)
     pub current : IsCurrent (engine_of new) (now_of new)
     pub one : IsOneFolder d f (engine_of old) → IsOneFolder d f (engine_of new)
-    pub families : length (now_of new).families ≡ length (now_of old).families
+    pub follows : Follows (now_of old) (now_of new)
+    pub next : store_next new ≡ store_next old
+    pub same : IsSameDisk d (engine_of old).disk (engine_of new).disk
 
   pub goes_on_ready : (old new : Store D F f) → IsReady d f old → GoesOn old new → IsReady d f new
   goes_on_ready old new ready goes = record {
     goes_on = goes_on_live d f new.halted (engine_of new) (now_of new) goes.halted goes.running goes.current;
     one = goes.one ready.one;
-    families = goes.families ∙ (ready.families ∙ ap length (sym goes.names));
+    families = goes.follows.count ∙ (ready.families ∙ ap length (sym goes.names));
     few = subst (λ (names : List (List ℕ)). length names ≤ FAMILY_LIMIT) (sym goes.names) ready.few;
+    may_end = may_end_later new.flush (now_of old) (now_of new) goes.follows (subst (λ (o : Option RunningFlush). MayEndIf o (now_of old)) (sym goes.flush) ready.may_end);
   }
 
   module _ (old new : Store D F f) (number : ℕ) (event : Event) (act : Act) (asks : Asks old.names.items event act) (plain : IsTrue (is_plain act)) (ready : IsReady d f old) (goes : GoesOn old new) where
-    pub taken_step : (reply : Reply) → IsTrue (is_given reply) → IsTrue (steps_with (is_read event) reply) → IsReplyCause reply (store_faults d f old) (store_faults d f new)
+    pub taken_step : (reply : Reply) → IsQuiet old.halted (store_next old) reply → IsTrue (steps_with (is_read event) reply) → store_faults d f new ≡ store_faults d f old
         → ((m : State) (c : Course) → HoldsNow d f (engine_of old) (now_of old) m c → IsReplyTo m act reply)
         → ((m : State) (c : Course) → HoldsNow d f (engine_of old) (now_of old) m c → HoldsNow d f (engine_of new) (now_of new) (after m number act reply) (course_after m number c act reply))
         → ((m : State) (c : Course) → HoldsNow d f (engine_of old) (now_of old) m c → RanUnder d f m c number act (engine_of old) (engine_of new))
         → IsStep d f old new number event reply
-    taken_step reply given steps counted legal holds moments = acted_step d f old new number event act reply asks (plain_own act plain) steps (λ keeps. goes.flush) (record {
+    taken_step reply quiets steps faults legal holds moments = acted_step d f old new number event act reply asks (plain_own act plain) steps (λ keeps. goes.flush) (record {
       legal = λ m c h. legal m c (live_of d f old m c goes.works h);
       flush = λ m c h. flush_after m number act reply plain ∙ (h.flush ∙ ap (option_map job_of) (sym goes.flush));
       holds = λ m c h. since_live d f new.halted (engine_of new) (now_of new) (after m number act reply) (course_after m number c act reply) goes.halted (holds m c (live_of d f old m c goes.works h));
       moments = λ m c h. moments m c (live_of d f old m c goes.works h);
       ready = goes_on_ready old new ready goes;
       names = goes.names;
-      counted = counted;
-      given = given;
+      counted = quiets.counts (store_faults d f old) (store_faults d f new) faults;
+      given = quiets.given;
+      halted = goes.halted ∙ (sym goes.works ∙ quiets.halts old.halted number);
+      since = quiets.since;
+      files = quiets.files;
+      draws = same_draws d f goes.next;
+      same = goes.same;
     })
 
   -- ---- writes

@@ -2,6 +2,7 @@
 use Rattle.std.proofs.Common.{◌≡◌, ◌⊎◌, ℕ, ◌+◌, ◌<◌, ◌≤◌, List, length, map, refl, sym, ap, ◌∙◌, subst, arith, inl, inr, Option, Some, None}
 use Rattle.std.specs.Prelude.{slice_get}
 use Rattle.ts_key.specs.declared.numbers.Family.{Family}
+use Rattle.ts_key.specs.declared.numbers.Seq.{Seq}
 use Rattle.ts_key.specs.declared.numbers.Ts.{Ts}
 use Rattle.udt_model.specs.declared.read.ModelRead.{ModelRead}
 use Rattle.udt_model.specs.declared.reply.Reply.{Reply}
@@ -19,36 +20,46 @@ use Rattle.super_version.specs.declared.version.SuperVersion.{SuperVersion}
 use Rattle.store_engine.specs.Now.{IsNow}
 use Rattle.store_engine.proofs.Admitting.{both}
 use Rattle.solo_store.specs.Replies.{halted_told}
-use Rattle.solo_store.proofs.Reads.{read_shown}
+use Rattle.solo_store.proofs.Shown.{read_shown}
 
--- the super version has the family exactly where the state has it
-pub there_or_not : (m : State) (now : SuperVersion) (i : Family) → IsNow now m → ((slice_get now.families i.0 ≡ None) × (family_at m i ≡ None)) ⊎ ((g : FamilyState) × ((f : ModelFamily) × ((slice_get now.families i.0 ≡ Some g) × (family_at m i ≡ Some f))))
-there_or_not m now i shows = both now.families m.families i.0 shows.count
+-- the super version has a family exactly where the state has it
+pub data FamilyIs (m : State) (now : SuperVersion) (i : Family) : Type 0 where
+  absent : slice_get now.families i.0 ≡ None → family_at m i ≡ None → FamilyIs m now i
+  present : (g : FamilyState) (f : ModelFamily) → slice_get now.families i.0 ≡ Some g → family_at m i ≡ Some f → FamilyIs m now i
 
--- a family that the one has the other has
-there : (m : State) (now : SuperVersion) (i : Family) (g : FamilyState) → IsNow now m → slice_get now.families i.0 ≡ Some g → (f : ModelFamily) × (family_at m i ≡ Some f)
-there m now i g shows at = elim (there_or_not m now i shows) [
-  | inl none ↦ absurd (none_some (sym none.0 ∙ at))
-  | inr some ↦ (some.1, some.3)
-] where
-  none_some : None ≡ Some g → ⊥
-  none_some e = absurd (cc)
+pub family_is : (m : State) (now : SuperVersion) (i : Family) → IsNow now m → FamilyIs m now i
+family_is m now i shows = elim (both now.families m.families i.0 shows.count) [
+  | inl none ↦ absent none.0 none.1
+  | inr some ↦ let more = some.1 in present some.0 more.0 more.1.0 more.1.1
+]
 
-not_there : (m : State) (now : SuperVersion) (i : Family) → IsNow now m → slice_get now.families i.0 ≡ None → family_at m i ≡ None
-not_there m now i shows none = elim (there_or_not m now i shows) [
-  | inl both ↦ both.1
-  | inr some ↦ absurd (some_none some.0 (sym some.2 ∙ none))
-] where
-  some_none : (g : FamilyState) → Some g ≡ None → ⊥
-  some_none g e = absurd (cc)
+none_some : {X : Type 0} (x : X) → None ≡ Some x → ⊥
+none_some x e = absurd (cc)
+
+-- a family that the one has, the other has
+pub record Stands (m : State) (i : Family) : Type 0 where
+  pub family : ModelFamily
+  pub at : family_at m i ≡ Some family
+
+pub there : (m : State) (now : SuperVersion) (i : Family) (g : FamilyState) → IsNow now m → slice_get now.families i.0 ≡ Some g → Stands m i
+there m now i g shows at = elim (family_is m now i shows) [
+  | absent a b ↦ absurd (none_some g (sym a ∙ at))
+  | present h f a b ↦ record { family = f; at = b }
+]
+
+pub not_there : (m : State) (now : SuperVersion) (i : Family) → IsNow now m → slice_get now.families i.0 ≡ None → family_at m i ≡ None
+not_there m now i shows none = elim (family_is m now i shows) [
+  | absent a b ↦ b
+  | present h f a b ↦ absurd (none_some h (sym none ∙ a))
+]
 
 -- ---- where the store is halted
 
-halted_place : (m : State) (now : SuperVersion) (i : Family) (since : ℕ) (rest : Option Reply) (done : Reply) → IsNow now m → m.halted ≡ Some since
-    → halted_told (slice_get now.families i.0) since ≡ ((unknown_family m i or_else halt m) or_else rest otherwise done)
-halted_place m now i since rest done shows halted = elim (there_or_not m now i shows) [
-  | inl none ↦ let a = none.0 in let b = none.1 in rw (a, b) refl
-  | inr some ↦ let a = some.2 in let b = some.3 in rw (a, b, halted) refl
+halted_place : (m : State) (now : SuperVersion) (i : Family) (since : ℕ) (rest : Option Reply) (answer : Reply) → IsNow now m → m.halted ≡ Some since
+    → halted_told (slice_get now.families i.0) since ≡ ((unknown_family m i or_else halt m) or_else rest otherwise answer)
+halted_place m now i since rest answer shows halted = elim (family_is m now i shows) [
+  | absent a b ↦ rw (a, b) refl
+  | present g f a b ↦ rw (a, b, halted) refl
 ]
 
 pub raise_halted : (m : State) (now : SuperVersion) (i : Family) (floor : Ts) (since : ℕ) → IsNow now m → m.halted ≡ Some since → IsReplyTo m (raise i floor) (halted_told (slice_get now.families i.0) since)
@@ -65,8 +76,8 @@ floor_unknown m now i shows none = let gone = not_there m now i shows none in re
 pub floor_told : (m : State) (now : SuperVersion) (i : Family) (g : FamilyState) → IsNow now m → slice_get now.families i.0 ≡ Some g → IsReplyTo m (ask_floor i) (replies.Floor g.floor)
 floor_told m now i g shows at =
     let f = there m now i g shows at in
-    let stands = f.1 in
-    let same = (shows.families i f.0 g stands at).floor in
+    let stands = f.at in
+    let same = (shows.families i f.family g stands at).floor in
     record { running = refl; is = inl (rw stands (ap replies.Floor same)) }
 
 -- ---- reads
@@ -78,7 +89,8 @@ pub get_told : (m : State) (now : SuperVersion) (i : Family) (g : FamilyState) (
     → IsReplyTo m (get i key t None) (reply_of_read (read (versions_in i g) g.floor i key t now.last))
 get_told m now i g key t shows sound at =
     let f = there m now i g shows at in
-    let stands = f.1 in
-    let same = read_shown m i f.0 g (shows.families i f.0 g stands at) sound stands key t in
-    let last = shows.last in
-    record { running = refl; is = inl (rw stands (rw last (ap reply_of_read same))) }
+    let stands = f.at in
+    let same = read_shown m i f.family g (shows.families i f.family g stands at) sound stands key t in
+    let seen : read (versions_in i g) g.floor i key t now.last ≡ read (versions_in i g) g.floor i key t m.last = ap (λ (s : Seq). read (versions_in i g) g.floor i key t s) shows.last in
+    let told : reply_of_read (read (versions_in i g) g.floor i key t now.last) ≡ got m (place_at m i) key t m.last = ap reply_of_read (seen ∙ same) ∙ sym (rw stands refl) in
+    record { running = refl; is = inl told }

@@ -5,9 +5,10 @@ use Rattle.udt_disk.specs.Joint.{Ran}
 use Rattle.udt_disk.specs.Joint.Ran.{rests}
 use Rattle.udt_disk.specs.declared.file.DiskFile as file
 use Rattle.udt_disk.specs.declared.disk.Disk as disk
+use Rattle.udt_disk.proofs.Joints.{ran_more}
 use Rattle.udt_model.specs.State.{State}
 use Rattle.udt_model.specs.Acts.{Act}
-use Rattle.udt_model.specs.Crashes.{Course, IsOutcomeUnder}
+use Rattle.udt_model.specs.Crashes.{Course, IsOutcome, IsOutcomeUnder}
 use Rattle.floor_laws.specs.Sound.{IsSoundState}
 use Rattle.super_version.specs.declared.version.SuperVersion.{SuperVersion}
 use Rattle.engine_laws.specs.Joints.{IsNowLast}
@@ -57,6 +58,13 @@ module _ {D F : Type 0} (d : disk.Ghosts D F) (f : file.Ghosts F) where
 
   pub store_halted : (store : Store D F f) (m : State) (c : Course) → HoldsStore d f store m c → m.halted ≡ store.halted
   store_halted store m c h = since_halted store.halted (engine_of store) (now_of store) m c h.holds
+
+  -- ---- moments
+
+  -- calls that were to change nothing
+  pub on_under : (old new : Engine D F f) (m : State) (c : Course) (number : ℕ) (act : Act) → RanOn d f m c old new → RanUnder d f m c number act old new
+  on_under old new m c number act ran =
+      ran_more d f (λ folder. StandsForSome ReadsAsTable folder (IsOutcome m c)) (λ folder. StandsForSome ReadsAsTable folder (IsOutcomeUnder m c number act)) (λ folder left. (left.0, left.1, inl left.2)) (held old) (held new) ran
 
   module _ (now_last : IsNowLast d f) where
     since_leaves : (o : Option ℕ) (engine : Engine D F f) (now : SuperVersion) (m : State) (c : Course) → HoldsSince d f o engine now m c → LeavesOutcomes d f m c (held engine)

@@ -1,11 +1,15 @@
+pub mod Sequences
 pub mod Naming
 pub mod Behind
 pub mod Asking
 pub mod Refusing
-pub mod Reads
+pub mod Shown
 pub mod Holding
 pub mod Stepping
+pub mod Files
 pub mod Faults
 pub mod Accepted
-pub mod Counting
+pub mod Following
 pub mod Answers
+pub mod Events
+pub mod Opened

@@ -1,27 +1,64 @@
 -- From what a store did by numbers to the step of an event.
-use Rattle.std.proofs.Common.{◌≡◌, ℕ, Bool, false, true, List, Option, Some, None, refl, sym, ap, ◌∙◌, subst}
+use Rattle.std.proofs.Common.{◌≡◌, ℕ, ◌+◌, ◌≤◌, Bool, false, true, List, Option, Some, None, refl, sym, ap, ◌∙◌, subst, arith}
 use Rattle.std.specs.Prelude.{IsTrue, option_map}
+use Rattle.std.proofs.lemmas.Bool.{false≢true}
 use Rattle.udt_disk.specs.declared.file.DiskFile as file
 use Rattle.udt_disk.specs.declared.disk.Disk as disk
 use Rattle.udt_model.specs.declared.event.Event.{Event}
 use Rattle.udt_model.specs.declared.reply.Reply.{Reply}
+use Rattle.udt_model.specs.declared.reply.Reply.TheVariants as replies
 use Rattle.udt_model.specs.declared.reply.Reply.TheVariants.{NoMemory}
 use Rattle.udt_model.specs.Acts.{Act}
 use Rattle.udt_model.specs.Crashes.{Course, course_after}
-use Rattle.udt_model.specs.Lines.{is_read, steps_with, takes_memory}
+use Rattle.udt_model.specs.Lines.{is_read, says_files, steps_with, takes_memory}
 use Rattle.udt_model.specs.State.{Flush, State}
 use Rattle.udt_model.specs.Steps.{IsReplyTo, after, is_running}
 use Rattle.engine_laws.specs.Joints.{IsNowLast}
+use Rattle.manifest_fold.specs.declared.limits.TheConstants.{FILE_NUMBER_LIMIT}
 use Rattle.store_engine.specs.Calls.{RanUnder}
 use Rattle.solo_store.specs.Acting.{course_behind_event, state_behind}
 use Rattle.solo_store.specs.Replies.{is_given}
-use Rattle.solo_store.specs.Steps.{IsReplyCause, IsStep, RanUnderEvent, keeps_flush}
-use Rattle.solo_store.specs.Stores.{HoldsSince, HoldsStore, IsReady, engine_of, job_of, now_of, store_faults}
+use Rattle.solo_store.specs.Steps.{IsHaltedSince, IsReplyCause, IsSameDisk, IsStep, RanUnderEvent, halted_by, keeps_flush}
+use Rattle.solo_store.specs.Stores.{HoldsSince, HoldsStore, IsReady, engine_of, job_of, now_of, store_faults, store_next}
 use Rattle.solo_store.specs.declared.store.RunningFlush.{RunningFlush}
 use Rattle.solo_store.specs.declared.store.Store.{Store}
 use Rattle.solo_store.proofs.Asking.{Asks, course_told, course_wanted, legal_told, legal_want, state_told, state_want}
 use Rattle.solo_store.proofs.Behind.{after_still, course_still, is_own, is_still, names_after, snaps_after}
 use Rattle.solo_store.proofs.Holding.{rests_under}
+
+-- ---- replies that tell of no fault
+
+-- The reply leaves the faults as they are and halts nothing; that the store is halted, and that no file is left, it tells where it is so.
+pub record IsQuiet (halted : Option ℕ) (next : ℕ) (reply : Reply) : Type 0 where
+  pub counts : (before now : ℕ) → now ≡ before → IsReplyCause reply before now
+  pub given : IsTrue (is_given reply)
+  pub halts : (before : Option ℕ) (number : ℕ) → before ≡ halted_by before number reply
+  pub since : IsHaltedSince halted reply
+  pub files : IsTrue (says_files reply) → FILE_NUMBER_LIMIT ≤ next
+
+abbrev pub is_plain_reply : Reply → Bool
+is_plain_reply (replies.Files next) = false
+is_plain_reply (replies.DroppedFiles next) = false
+is_plain_reply replies.Fault = false
+is_plain_reply replies.DroppedFault = false
+is_plain_reply (replies.Table table kept floor) = false
+is_plain_reply (replies.Halted since) = false
+is_plain_reply reply = is_given reply
+
+pub quiet : (halted : Option ℕ) (next : ℕ) (reply : Reply) → IsTrue (is_plain_reply reply) → IsQuiet halted next reply
+quiet halted next (replies.Files n) plain = absurd (false≢true plain)
+quiet halted next (replies.DroppedFiles n) plain = absurd (false≢true plain)
+quiet halted next replies.Fault plain = absurd (false≢true plain)
+quiet halted next replies.DroppedFault plain = absurd (false≢true plain)
+quiet halted next (replies.Table table kept floor) plain = absurd (false≢true plain)
+quiet halted next (replies.Halted since) plain = absurd (false≢true plain)
+quiet halted next reply plain = record { counts = λ before now e. e; given = plain; halts = λ before number. refl; since = tt; files = λ is. absurd (false≢true is) }
+
+pub quiet_halted : (halted : Option ℕ) (next since : ℕ) → halted ≡ Some since → IsQuiet halted next (replies.Halted since)
+quiet_halted halted next since is = record { counts = λ before now e. e; given = refl; halts = λ before number. refl; since = is; files = λ is. absurd (false≢true is) }
+
+pub quiet_files : (halted : Option ℕ) (next number : ℕ) → FILE_NUMBER_LIMIT ≤ next → IsQuiet halted next (replies.Files number)
+quiet_files halted next number full = record { counts = λ before now e. e; given = refl; halts = λ before n. refl; since = tt; files = λ is. full }
 
 module _ {D F : Type 0} (d : disk.Ghosts D F) (f : file.Ghosts F) where
   -- The act of this number was made, with a reply of the model's.
@@ -34,6 +71,11 @@ module _ {D F : Type 0} (d : disk.Ghosts D F) (f : file.Ghosts F) where
     pub names : new.names.items ≡ old.names.items
     pub counted : IsReplyCause reply (store_faults d f old) (store_faults d f new)
     pub given : IsTrue (is_given reply)
+    pub halted : new.halted ≡ halted_by old.halted number reply
+    pub since : IsHaltedSince old.halted reply
+    pub files : IsTrue (says_files reply) → FILE_NUMBER_LIMIT ≤ store_next old
+    pub draws : (store_next old ≤ store_next new) × (store_next new ≤ store_next old + 1)
+    pub same : IsSameDisk d (engine_of old).disk (engine_of new).disk
 
   pub acted_step : (old new : Store D F f) (number : ℕ) (event : Event) (act : Act) (reply : Reply) → Asks old.names.items event act → IsTrue (is_own act) → IsTrue (steps_with (is_read event) reply)
       → (IsTrue (keeps_flush event) → new.flush ≡ old.flush) → IsActed old new number act reply → IsStep d f old new number event reply
@@ -54,6 +96,11 @@ module _ {D F : Type 0} (d : disk.Ghosts D F) (f : file.Ghosts F) where
     flush = flush;
     counted = acted.counted;
     given = acted.given;
+    halted = acted.halted;
+    since = acted.since;
+    files = acted.files;
+    draws = acted.draws;
+    same = acted.same;
   }
 
   -- The store holds what it held, and nothing was changed on the disk.
@@ -64,6 +111,9 @@ module _ {D F : Type 0} (d : disk.Ghosts D F) (f : file.Ghosts F) where
     pub ready : IsReady d f new
     pub names : new.names.items ≡ old.names.items
     pub faults : store_faults d f new ≡ store_faults d f old
+    pub halted : new.halted ≡ old.halted
+    pub next : store_next new ≡ store_next old
+    pub same : IsSameDisk d (engine_of old).disk (engine_of new).disk
 
   pub keeps_itself : IsNowLast d f → (store : Store D F f) → IsReady d f store → Keeps store store
   keeps_itself last store ready = record {
@@ -73,13 +123,19 @@ module _ {D F : Type 0} (d : disk.Ghosts D F) (f : file.Ghosts F) where
     ready = ready;
     names = refl;
     faults = refl;
+    halted = refl;
+    next = refl;
+    same = record { told = refl; model = refl };
   }
+
+  pub same_draws : {old new : ℕ} → new ≡ old → (old ≤ new) × (new ≤ old + 1)
+  same_draws is = (omega (arith, is), omega (arith, is))
 
   module _ (old new : Store D F f) (number : ℕ) (event : Event) (act : Act) (asks : Asks old.names.items event act) (own : IsTrue (is_own act)) (keeps : Keeps old new) where
     -- a reply that changes nothing
-    pub still_step : (reply : Reply) → IsTrue (is_still act reply) → ((before now : ℕ) → now ≡ before → IsReplyCause reply before now) → IsTrue (is_given reply) → IsTrue (steps_with (is_read event) reply)
+    pub still_step : (reply : Reply) → IsTrue (is_still act reply) → IsQuiet old.halted (store_next old) reply → IsTrue (steps_with (is_read event) reply)
         → ((m : State) (c : Course) → HoldsStore d f old m c → IsReplyTo m act reply) → IsStep d f old new number event reply
-    still_step reply still counts given steps legal = acted_step old new number event act reply asks own steps (λ is. keeps.flush) (record {
+    still_step reply still quiets steps legal = acted_step old new number event act reply asks own steps (λ is. keeps.flush) (record {
       legal = legal;
       flush = λ m c h. ap (λ (n : State). n.flush) (after_still m number act reply still) ∙ (h.flush ∙ ap (option_map job_of) (sym keeps.flush));
       holds = λ m c h.
@@ -88,8 +144,13 @@ module _ {D F : Type 0} (d : disk.Ghosts D F) (f : file.Ghosts F) where
       moments = λ m c h. keeps.moments m c number act h;
       ready = keeps.ready;
       names = keeps.names;
-      counted = counts (store_faults d f old) (store_faults d f new) keeps.faults;
-      given = given;
+      counted = quiets.counts (store_faults d f old) (store_faults d f new) keeps.faults;
+      given = quiets.given;
+      halted = keeps.halted ∙ quiets.halts old.halted number;
+      since = quiets.since;
+      files = quiets.files;
+      draws = same_draws keeps.next;
+      same = keeps.same;
     })
 
     -- want of memory
@@ -111,4 +172,9 @@ module _ {D F : Type 0} (d : disk.Ghosts D F) (f : file.Ghosts F) where
       flush = λ is. keeps.flush;
       counted = keeps.faults;
       given = refl;
+      halted = keeps.halted;
+      since = tt;
+      files = λ is. absurd (false≢true is);
+      draws = same_draws keeps.next;
+      same = keeps.same;
     }

@@ -1,5 +1,6 @@
 pub mod Names
 pub mod Acting
 pub mod Replies
+pub mod Flushable
 pub mod Stores
 pub mod Steps

@@ -1,13 +1,19 @@
 -- What a store holds.
-use Rattle.std.specs.Prelude.{◌≡◌, ℕ, ◌≤◌, List, [], length, option_map, Option, Some, None, ⊤}
+use Rattle.std.specs.Prelude.{◌≡◌, ℕ, ◌<◌, ◌≤◌, List, [], length, map, slice_get, option_map, Option, Some, None, ⊤}
 use Rattle.std.specs.Arc.{arc_value}
 use Rattle.ts_key.specs.declared.limits.TheConstants.{FAMILY_LIMIT}
 use Rattle.udt_disk.specs.declared.file.DiskFile as file
 use Rattle.udt_disk.specs.declared.disk.Disk as disk
-use Rattle.wal.specs.Wals.{wal_pending}
+use Rattle.udt_disk.specs.Causes.{plus_faults}
+use Rattle.wal.specs.Wals.{wal_file, wal_pending}
+use Rattle.manifest_fold.specs.declared.fold.FamilyFold.{FamilyFold}
+use Rattle.manifest_fold.specs.declared.fold.Folded.{Folded}
+use Rattle.manifest.specs.Manifest.{manifest_file}
+use Rattle.recovery.specs.declared.opening.Parts.{Parts}
 use Rattle.udt_model.specs.State.{Flush, State}
 use Rattle.udt_model.specs.Crashes.{Course}
 use Rattle.floor_laws.specs.Sound.{IsSoundState}
+use Rattle.super_version.specs.declared.family.FamilyState.{FamilyState}
 use Rattle.super_version.specs.declared.version.SuperVersion.{SuperVersion}
 use Rattle.store_engine.specs.Calls.{LeavesOutcomes}
 use Rattle.store_engine.specs.Engines.{HoldsNow, IsCurrent, IsOneFolder, IsRunning, engine_faults, held}
@@ -21,20 +27,30 @@ use Rattle.solo_store.specs.declared.store.Store.{Store}
 abbrev pub job_of : RunningFlush → Flush
 job_of flush = record { start = flush.start; family = flush.family; through = flush.through; floor = flush.floor; seqs = [] }
 
+-- The flush may be ended: there is its family, what is flushed of it ends at or below what the flush takes, and that by the last sequence.
+pub record MayEnd (flush : RunningFlush) (now : SuperVersion) : Type 0 where
+  pub known : flush.family.0 < length now.families
+  pub from : (g : FamilyState) → slice_get now.families flush.family.0 ≡ Some g → g.through.0 ≤ flush.through.0
+  pub to : flush.through.0 ≤ now.last.0
+
+abbrev pub MayEndIf : Option RunningFlush → SuperVersion → Type 0
+MayEndIf None now = ⊤
+MayEndIf (Some flush) now = MayEnd flush now
+
+-- the names of a manifest's families
+abbrev pub names_of_fold : Folded → List (List ℕ)
+names_of_fold fold = map (λ (f : FamilyFold). f.name) fold.families
+
 module _ {D F : Type 0} {f : file.Ghosts F} where
   abbrev pub engine_of : Store D F f → Engine D F f
   engine_of store = store.engine
 
-  -- the names of its families, in order
-  abbrev pub names_of : Store D F f → List (List ℕ)
-  names_of store = store.names.items
-
-  -- the flush that runs
-  abbrev pub flush_of : Store D F f → Option RunningFlush
-  flush_of store = store.flush
-
   abbrev pub now_of : Store D F f → SuperVersion
-  now_of store = arc_value store.now
+  now_of store = arc_value store.version
+
+  -- the number of the next file
+  abbrev pub store_next : Store D F f → ℕ
+  store_next store = (engine_of store).next
 
   -- how many bytes wait in its log
   abbrev pub store_pending : Store D F f → ℕ
@@ -71,7 +87,11 @@ module _ {D F : Type 0} (d : disk.Ghosts D F) (f : file.Ghosts F) where
     pub one : IsOneFolder d f (engine_of store)
     pub families : length (now_of store).families ≡ length store.names.items
     pub few : length store.names.items ≤ FAMILY_LIMIT
+    pub may_end : MayEndIf store.flush (now_of store)
 
   -- the faults of the disk and of the files of it that are held
   abbrev pub store_faults : Store D F f → ℕ
   store_faults store = engine_faults d f (engine_of store)
+
+  abbrev pub parts_faults : Parts D F f → ℕ
+  parts_faults parts = plus_faults (plus_faults (d.faults parts.disk) (f.faults (wal_file parts.wal))) (f.faults (manifest_file parts.manifest))

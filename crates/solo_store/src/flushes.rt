@@ -26,7 +26,7 @@ impl<D: Disk> Store<D> {
         ensures started { StartsFlush result self.old self.new number family.now }
     {
         let family = self.family_of(family);
-        let Some(state) = self.now.as_ref().family(family) else {
+        let Some(state) = self.version.as_ref().family(family) else {
             return Reply::Unknown;
         };
         let floor = state.floor;
@@ -41,11 +41,11 @@ impl<D: Disk> Store<D> {
 
     /// The same for a family that there is, where the disk hasn't failed and no flush runs.
     fn seal(&mut self, alloc: Global, number: u64, family: Family, floor: Ts) -> Reply {
-        match self.engine.seal(alloc, self.now.as_ref(), family) {
+        match self.engine.seal(alloc, self.version.as_ref(), family) {
             Ok(Sealed::Nothing) => Reply::Nothing,
             Ok(Sealed::Waiting) => self.run(number, family, floor),
             Ok(Sealed::Rolled { version, mems: _ }) => {
-                self.now = version;
+                self.version = version;
                 self.run(number, family, floor)
             }
             Err(fault) => self.refused(number, fault),
@@ -54,7 +54,7 @@ impl<D: Disk> Store<D> {
 
     /// Notes that a flush of all that is sealed of the family runs.
     fn run(&mut self, start: u64, family: Family, floor: Ts) -> Reply {
-        let through = self.now.as_ref().last;
+        let through = self.version.as_ref().last;
         self.flush = Some(RunningFlush {
             start,
             family,

@@ -2,6 +2,8 @@
 #![tactic(auto)]
 
 mod batch;
+mod flushable;
+mod flushes;
 mod names;
 mod reading;
 mod refusals;

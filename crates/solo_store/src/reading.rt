@@ -21,7 +21,7 @@ fn found(alloc: Global, value: &[u8], stamp: Stamp) -> Reply
 
 /// The reply that a read is, where there is memory for its value.
 pub(crate) fn reply_of_read(alloc: Global, read: Read<'_>) -> Reply
-    ensures { (result ≡ model_reply (model_read read)) ⊎ (result ≡ Reply.NoMemory) }
+    ensures { (result ≡ model_reply (model_read read.entry)) ⊎ (result ≡ Reply.NoMemory) }
 {
     match read {
         Read::Collapsed { floor } => Reply::Collapsed { floor },

@@ -1,16 +1,17 @@
 //! The store of one client.
 
-ghost use Rattle.std.specs.Prelude.{◌≡◌, ◌<◌, ◌≤◌, ℕ, None, Some, All, IfErr, IfOk, IsTrue, length, slice_get};
+ghost use Rattle.std.specs.Prelude.{◌≡◌, ◌∷◌, [], ◌<◌, ◌≤◌, ℕ, None, Some, All, IfErr, IfOk, IsTrue, length, slice_get};
 ghost use Rattle.std.specs.Arc.{arc_value};
 ghost use Rattle.ts_key.specs.declared.limits.TheConstants.{BATCH_LIMIT, FAMILY_LIMIT, STAMP_LIMIT};
 ghost use Rattle.udt_disk.specs.Joint.{LeavesNow};
-ghost use Rattle.udt_disk.specs.Moments.{OnlyReads, alone};
+ghost use Rattle.udt_disk.specs.Moments.{OnlyReads, alone, holding};
 ghost use Rattle.udt_model.specs.declared.event.Event.TheVariants.{Floor as FloorEvent, Get as GetEvent, Raise as RaiseEvent, Sync as SyncEvent, Write as WriteEvent};
 ghost use Rattle.udt_model.specs.declared.event.NamedOp.{NamedOp as Named};
 ghost use Rattle.udt_model.specs.Crashes.{Course, course_start, settled};
 ghost use Rattle.udt_model.specs.State.{State};
 ghost use Rattle.engine_laws.specs.Standing.{FolderStands};
-ghost use Rattle.manifest.specs.Manifest.{manifest_folded};
+ghost use Rattle.manifest.specs.Manifest.{manifest_file, manifest_folded};
+ghost use Rattle.wal.specs.Wals.{wal_file};
 ghost use Rattle.recovery.specs.Opening.{AreLiveClean};
 ghost use Rattle.recovery.specs.Tables.{ReadsAsTable};
 ghost use Rattle.store_engine.specs.Parts.{ArePartsOf};
@@ -45,7 +46,7 @@ pub(crate) struct RunningFlush {
 /// under an event, the store goes on reading, and refuses what works on the disk.
 pub struct Store<D: Disk> {
     pub(crate) engine: Engine<D>,
-    pub(crate) now: Arc<SuperVersion>,
+    pub(crate) version: Arc<SuperVersion>,
     pub(crate) names: Vec<Name>,
     pub(crate) flush: Option<RunningFlush>,
     /// The number of the event under which the disk failed.
@@ -54,8 +55,45 @@ pub struct Store<D: Disk> {
 
 impl<D: Disk> Store<D> {
     ghost use Rattle.store_engine.specs.Calls.{LeavesOutcomes};
-    ghost use Rattle.solo_store.specs.Steps.{IsStep};
-    ghost use Rattle.solo_store.specs.Stores.{HoldsStore, IsReady, engine_of, now_of, store_faults, store_pending};
+    ghost use Rattle.store_engine.specs.Engines.{held};
+    ghost use Rattle.solo_store.specs.Steps.{IsSameDisk, IsStep};
+    ghost use Rattle.solo_store.specs.Stores.{HoldsStore, IsReady, engine_of, names_of_fold, now_of, parts_faults, store_faults, store_next, store_pending};
+
+    /// The store over the parts of an opened one. Where there is no memory for it, the folder is given back as it was.
+    pub fn of(alloc: Global, parts: Parts<D>) -> Result<Store<D>, (D, NoMemory)>
+        requires { (old : D) × ArePartsOf D.Disk D.File.DiskFile old parts }
+        ensures ready { IfOk result (IsReady D.Disk D.File.DiskFile) }
+        ensures idle { IfOk result (λ store. (store.halted ≡ None) × (store.flush ≡ None)) }
+        ensures shown { IfOk result (λ store. now_of store ≡ parts.version) }
+        ensures held { IfOk result (λ store. held (engine_of store) ≡ holding parts.disk (wal_file parts.wal ∷ manifest_file parts.manifest ∷ [])) }
+        ensures next { IfOk result (λ store. store_next store ≡ (manifest_folded parts.manifest).next_file) }
+        ensures names { IfOk result (λ store. store.names.items ≡ names_of_fold (manifest_folded parts.manifest)) }
+        // It holds each state that the folder stands for.
+        ensures holds { IfOk result (λ store. (old : D) (m : State) → ArePartsOf D.Disk D.File.DiskFile old parts
+            → IsTrue (D.is_told old) → AreLiveClean D.Disk old (manifest_folded parts.manifest) → FolderStands ReadsAsTable (D.stands old) m → HoldsStore D.Disk D.File.DiskFile store m (course_start m)) }
+        ensures closed { IfErr result (λ left. (old : D) → ArePartsOf D.Disk D.File.DiskFile old parts → OnlyReads D.Disk D.File.DiskFile (alone old) (alone left.0)) }
+        ensures counted { IfOk result (λ store. store_faults D.Disk D.File.DiskFile store ≡ parts_faults D.Disk D.File.DiskFile parts) }
+        ensures left { IfErr result (λ left. D.faults left.0 ≡ parts_faults D.Disk D.File.DiskFile parts) }
+    {
+        let Parts {
+            disk,
+            manifest,
+            wal,
+            version,
+        } = parts;
+        let names = names_of(alloc, manifest.fold().families.as_slice());
+        let engine = Engine::from_parts(alloc, disk, manifest, wal, &version);
+        match (names, Arc::new(alloc, version)) {
+            (Ok(names), Ok(version)) => Ok(Store {
+                engine,
+                version,
+                names,
+                flush: None,
+                halted: None,
+            }),
+            _ => Err((engine.close(), AllocError)),
+        }
+    }
 
     /// The number of the family of this name; where there is none, the one behind the last.
     pub(crate) fn family_of(&self, name: &Name) -> Family
@@ -83,7 +121,7 @@ impl<D: Disk> Store<D> {
     fn halted_reply(&self, family: Family, since: u64) -> Reply
         ensures { result ≡ halted_told (slice_get (now_of self.now).families family.0) since }
     {
-        match self.now.as_ref().family(family) {
+        match self.version.as_ref().family(family) {
             None => Reply::Unknown,
             Some(_) => Reply::Halted { since },
         }
@@ -94,7 +132,7 @@ impl<D: Disk> Store<D> {
         requires { IsReady D.Disk D.File.DiskFile self.now }
         ensures { (number : ℕ) → IsStep D.Disk D.File.DiskFile self.now self.now number (FloorEvent family.now) result }
     {
-        match self.now.as_ref().family(self.family_of(family)) {
+        match self.version.as_ref().family(self.family_of(family)) {
             None => Reply::Unknown,
             Some(state) => Reply::Floor { floor: state.floor },
         }
@@ -105,12 +143,12 @@ impl<D: Disk> Store<D> {
         requires { IsReady D.Disk D.File.DiskFile self.now }
         ensures { (number : ℕ) → IsStep D.Disk D.File.DiskFile self.now self.now number (GetEvent family.now key.now t None) result }
     {
-        let now = self.now.as_ref();
+        let now = self.version.as_ref();
         let family = self.family_of(family);
-        if now.family(family).is_none() {
-            return Reply::Unknown;
+        match now.family(family) {
+            None => Reply::Unknown,
+            Some(_) => reply_of_read(alloc, get(now, family, key.bytes(), t, now.last)),
         }
-        reply_of_read(alloc, get(now, family, key.bytes(), t, now.last))
     }
 
     /// Takes a write whole, as the event of this number, or leaves the store as it was. The batch shares the bytes of keys and values.
@@ -140,10 +178,10 @@ impl<D: Disk> Store<D> {
         let Ok(batch) = batch_of(alloc, &self.names, ops) else {
             return Reply::NoMemory;
         };
-        match self.engine.write(alloc, self.now.as_ref(), &batch, sync) {
+        match self.engine.write(alloc, self.version.as_ref(), &batch, sync) {
             Ok(next) => {
                 let last = next.as_ref().last;
-                self.now = next;
+                self.version = next;
                 Reply::OkAt { number: last.0 }
             }
             Err(fault) => self.refused(number, fault),
@@ -159,9 +197,9 @@ impl<D: Disk> Store<D> {
         if let Some(since) = self.halted {
             return self.halted_reply(family, since);
         }
-        match self.engine.raise(alloc, self.now.as_ref(), family, floor) {
+        match self.engine.raise(alloc, self.version.as_ref(), family, floor) {
             Ok(next) => {
-                self.now = next;
+                self.version = next;
                 Reply::Done
             }
             Err(fault) => self.refused(number, fault),
@@ -172,7 +210,7 @@ impl<D: Disk> Store<D> {
     pub fn sync(&mut self, number: u64) -> Reply
         requires { IsReady D.Disk D.File.DiskFile self.old }
         ensures step { IsStep D.Disk D.File.DiskFile self.old self.new number SyncEvent result }
-        ensures synced { result ≡ Reply.Done → store_pending self.new ≡ 0 }
+        ensures settled { result ≡ Reply.Done → (self.new.halted ≡ None) × (store_pending self.new ≡ 0) }
     {
         if let Some(since) = self.halted {
             return Reply::Halted { since };
@@ -191,10 +229,11 @@ impl<D: Disk> Store<D> {
         ensures whole { (m : State) (c : Course) → HoldsStore D.Disk D.File.DiskFile self m c → self.halted ≡ None
             → store_pending self ≡ 0 → LeavesNow D.Disk D.File.DiskFile (λ folder. FolderStands ReadsAsTable folder (settled m)) (alone result) }
         ensures counted { D.faults result ≡ store_faults D.Disk D.File.DiskFile self }
+        ensures same { IsSameDisk D.Disk (engine_of self).disk result }
     {
         let Store {
             engine,
-            now: _,
+            version: _,
             names: _,
             flush: _,
             halted: _,

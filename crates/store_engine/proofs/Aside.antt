@@ -37,7 +37,7 @@ use Rattle.engine_laws.proofs.Places.{get-In}
 use Rattle.recovery.specs.Tables.{ReadsAsTable}
 use Rattle.recovery.specs.Versions.{FitsFold}
 use Rattle.store_engine.specs.Engines.{HoldsNow, IsCurrent, IsEngineOf, IsOneFolder, IsRunning, held}
-use Rattle.store_engine.specs.Installing.{IsAside}
+use Rattle.store_engine.specs.Asides.{IsAside}
 use Rattle.store_engine.specs.Older.{CoversOlder}
 use Rattle.store_engine.specs.Together.{AreTogether}
 use Rattle.store_engine.specs.declared.engine.Engine.{Engine}

@@ -27,3 +27,7 @@ cause_second a x y b result cause = cause_left b (plus_faults a x) (plus_faults 
 -- or the third
 pub cause_third : {T E : Type 0} (a x y : ℕ) (result : Result T E) → HasCause x y result → HasCause (plus_faults a x) (plus_faults a y) result
 cause_third a x y result cause = cause_right a x y result cause
+
+-- the faults of a disk that takes a file back, beside two others
+pub more_faults : (most a w k g : ℕ) → min (min (min (a + g) most + w) most + k) most ≡ min (min (min (a + w) most + k) most + g) most
+more_faults most a w k g = omega arith

@@ -116,6 +116,8 @@ covers_rolled older next s edit n last well add gone newest high opened logs up 
 -- and what is said of a log that isn't live doesn't count
 pub covers_new_log : (older : OlderLogs) (s : Says) (n : ℕ) → (Contains s.fold.logs n → ⊥) → CoversOlder older s → CoversOlder older (with_new_log s n [])
 covers_new_log older s n dead covers = record {
-  within = λ k v i low j. covers.within k v i low (subst (λ bs. Contains (versions_of bs) v) (let e = ne_eqb k n (λ q. dead (subst (λ z. Contains s.fold.logs z) q i)) in rw e refl) j);
+  within = λ k v i low j. covers.within k v i low (subst (λ bs. Contains (versions_of bs) v) (other k (λ q. dead (subst (λ z. Contains s.fold.logs z) q i))) j);
   rolled = covers.rolled;
-}
+} where
+  other : (k : ℕ) → (k ≡ n → ⊥) → (with_new_log s n []).logs k ≡ s.logs k
+  other k ne = let e = ne_eqb k n ne in rw e refl

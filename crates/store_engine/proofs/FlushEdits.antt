@@ -31,7 +31,7 @@ some_is x y e = cc
 module _ (fold : Folded) (now : SuperVersion) (fits : FitsFold fold now) (family : Family) (floor : Ts) (through : Seq) (number count file : ℕ) (state : FamilyState) (here : slice_get now.families family.0 ≡ Some state)
     (well : IsWell fold) (some : (count ≡ 0) ⊎ (count < length fold.logs)) (more : fold.next_file ≤ file) (most : file ≤ FILE_NUMBER_LIMIT) (rises : state.floor.0 ≤ floor.0) (from : state.through.0 ≤ through.0) (to : through.0 ≤ now.last.0)
     (below : number < file) (free : is_live fold.families number ≡ false) where
-  fold_there : (f : FamilyFold) × (slice_get fold.families family.0 ≡ Some f)
+  pub fold_there : (f : FamilyFold) × (slice_get fold.families family.0 ≡ Some f)
   fold_there = there_too now.families fold.families family.0 state fits.all here
 
   state_is : IsOfFold fold_there.0 state

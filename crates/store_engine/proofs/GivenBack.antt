@@ -29,13 +29,15 @@ use Rattle.recovery.specs.Replayed.{IsLogName}
 use Rattle.recovery.specs.Tables.{ReadsAsTable, says_of}
 use Rattle.store_engine.specs.Calls.{RanOn}
 use Rattle.store_engine.specs.Engines.{HoldsAsBefore, HoldsNow, IsCurrent, IsEngineOf, IsOneFolder, IsRunning, engine_faults, held}
-use Rattle.store_engine.specs.Installing.{HoldsTable, IsGivenBack}
+use Rattle.store_engine.specs.Asides.{IsGivenBack}
+use Rattle.store_engine.specs.Installing.{IsFileOfTable}
 use Rattle.store_engine.specs.Jobs.{IsJobNumber}
 use Rattle.store_engine.specs.Steps.{ReservesEdit}
 use Rattle.store_engine.specs.Together.{AreNamed}
 use Rattle.store_engine.specs.declared.engine.Engine.{Engine}
 use Rattle.store_engine.specs.declared.fault.EngineFault.{EngineFault}
 use Rattle.store_engine.proofs.Aside.{aside_current, aside_now, aside_of, aside_one, aside_ran, aside_running, table_dead}
+use Rattle.store_engine.proofs.Counts.{more_faults}
 use Rattle.store_engine.proofs.Raised.{reserved_held, reserved_now, reserved_of}
 use Rattle.store_engine.proofs.Raising.{kept_before, kept_faults}
 
@@ -46,9 +48,6 @@ log_no_table n number log is = let e = is ∙ log.1 in cc
 
 manifest_no_table : (n : FileName) (number : ℕ) → IsManifestName n → Table number ≡ n → ⊥
 manifest_no_table n number either is = elim either [ inl q ↦ let e = is ∙ q in cc | inr q ↦ let e = is ∙ q in cc ]
-
-more_faults : (most a w k g : ℕ) → min (min (min (a + g) most + w) most + k) most ≡ min (min (min (a + w) most + k) most + g) most
-more_faults most a w k g = omega arith
 
 module _ {D F : Type 0} (d : disk.Ghosts D F) (f : file.Ghosts F) (now_last : IsNowLast d f) where
   -- no held file bears the name of a table
@@ -107,7 +106,7 @@ module _ {D F : Type 0} (d : disk.Ghosts D F) (f : file.Ghosts F) (now_last : Is
       back_before = record { current = back_current; holds = back_now; running = λ r. back_running }
 
       -- what the file holds is what a crash leaves of it, as long as the disk isn't called again
-      pub table_rests : (engine : Engine D F f) (table : Held) → engine.disk ≡ new.disk → AreNamed engine.manifest engine.wal → HoldsTable f given table → (image : Image) → MayLeave d f (held engine) (Table number) image → TableReads ReadsAsTable image (says_of table.contents)
+      pub table_rests : (engine : Engine D F f) (table : Held) → engine.disk ≡ new.disk → AreNamed engine.manifest engine.wal → IsFileOfTable f given table → (image : Image) → MayLeave d f (held engine) (Table number) image → TableReads ReadsAsTable image (says_of table.contents)
       table_rests engine table same are_named holds image left =
           let on_disk : d.may_leave new.disk (Table number) image = subst (λ x. d.may_leave x (Table number) image) same (left.free (table_apart engine number are_named)) in
           let is : image ≡ Some table.image = holds.rests image (back.crash image (subst (λ n. d.may_leave new.disk n image) (sym named) on_disk)) in

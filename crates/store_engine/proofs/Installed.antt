@@ -66,7 +66,8 @@ use Rattle.recovery.specs.Versions.{FitsFold, IsOfFold}
 use Rattle.store_engine.specs.Calls.{RanOn, RanUnder}
 use Rattle.store_engine.specs.Dropping.{AreGone}
 use Rattle.store_engine.specs.Engines.{HoldsNow, IsCurrent, IsEngineOf, IsRunning, held}
-use Rattle.store_engine.specs.Installing.{AreRemoved, EndsFlushBy, IsGivenBack, floor_over_now, floor_with, live_with}
+use Rattle.store_engine.specs.Asides.{AreRemoved, IsGivenBack}
+use Rattle.store_engine.specs.Installing.{EndsFlushBy, floor_over_now, floor_with, live_with}
 use Rattle.store_engine.specs.Jobs.{IsJobNumber}
 use Rattle.store_engine.specs.Now.{FitsFamily, IsNow}
 use Rattle.store_engine.specs.Older.{CoversOlder}

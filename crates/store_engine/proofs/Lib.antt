@@ -21,12 +21,16 @@ pub mod Writing
 pub mod Raising
 pub mod NowFlushed
 pub mod Loops
+pub mod Removing
 pub mod Aside
 pub mod FlushEdits
 pub mod DroppedLogs
+pub mod JobCalls
 pub mod GivenBack
+pub mod Discarding
 pub mod Installed
 pub mod InstallCalls
+pub mod FlushEnded
 pub mod Besides
 pub mod Leaving
 pub mod Covering

@@ -1,32 +1,16 @@
--- Steps of the loops over logs, memtables and families.
-use Rattle.std.proofs.Common.{◌≡◌, ◌⊎◌, ℕ, zero, suc, ◌+◌, ◌*◌, ◌^◌, ◌<◌, ◌≤◌, ◌==◌, Bool, cond, true, false, List, [], ◌∷◌, ◌++◌, drop, get_or, length, map, take, Option, Some, None, refl, sym, ap, ◌∙◌, subst, arith, inl, inr}
-use Rattle.std.specs.Prelude.{find, if◌then◌else◌, nat_lt, not, slice_get}
+-- Steps of the loops over memtables and families.
+use Rattle.std.proofs.Common.{◌≡◌, ℕ, zero, suc, ◌+◌, ◌*◌, ◌^◌, ◌<◌, ◌≤◌, ◌==◌, true, false, List, [], ◌∷◌, ◌++◌, get_or, length, map, Some, refl, sym, ap, subst, arith, inl, inr}
+use Rattle.std.specs.Prelude.{nat_lt, not, slice_get}
 use Rattle.std.specs.List.{flat_map}
-use Rattle.std.proofs.lemmas.Bool.{cases_Bool, ne_eqb}
-use Rattle.std.proofs.lemmas.List.{drop_all, drop_more, length-append}
+use Rattle.std.proofs.Math.Nat.{pow-suc}
+use Rattle.std.proofs.lemmas.Bool.{cases_Bool, lt-ltb, ne_eqb}
 use Rattle.ts_key.specs.declared.version.Version.{Version}
 use Rattle.memtable.specs.Memtables.{Memtable, joined, versions_of_memtable}
 use Rattle.sorted_run.specs.Sorts.{sorted}
-use Rattle.super_version.proofs.Lists.{flat_more, map_more}
 use Rattle.super_version.specs.declared.family.FamilyState.{FamilyState}
 use Rattle.store_engine.specs.Dropping.{lets_go, needs_log}
 
--- ---- the first that passes
-
-module _ {X : Type 0} (p : X → Bool) (xs : List X) (i : ℕ) (x : X) (here : i < length xs) (is : x ≡ get_or xs i x) where
-  behind : drop i xs ≡ x ∷ drop (i + 1) xs
-  behind = drop_more xs i x here ∙ ap (λ y. y ∷ drop (i + 1) xs) (sym is)
-
-  pub find_past : p x ≡ false → find p (drop (i + 1) xs) ≡ find p (drop i xs)
-  find_past no_one = sym (ap (find p) behind ∙ ap (λ b. cond b (Some x) (find p (drop (i + 1) xs))) no_one)
-
-  pub find_at : p x ≡ true → find p (drop i xs) ≡ Some x
-  find_at yes_it = ap (find p) behind ∙ ap (λ b. cond b (Some x) (find p (drop (i + 1) xs))) yes_it
-
-pub find_end : {X : Type 0} (p : X → Bool) (xs : List X) (i : ℕ) → length xs ≤ i → find p (drop i xs) ≡ None
-find_end p xs i past = ap (find p) (drop_all i xs past)
-
--- ---- memtables without a version
+-- ---- whether a memtable has a version
 
 pub none_run : (m : Memtable) → length m.runs ≡ 0 → length (versions_of_memtable m) ≡ 0
 none_run m none = ap (λ runs. length (sorted (joined runs))) (empty m.runs none) where
@@ -34,20 +18,31 @@ none_run m none = ap (λ runs. length (sorted (joined runs))) (empty m.runs none
   empty [] e = refl
   empty (r ∷ runs) e = absurd (omega (arith, e))
 
-pub some_or_none : (n : ℕ) → not (n == 0) ≡ false → n ≡ 0
-some_or_none zero e = refl
-some_or_none (suc n) e = let q : (suc n == 0) ≡ false = ne_eqb (suc n) 0 (λ z. omega (arith, z)) in let w : true ≡ false = rw q at e in absurd (cc)
+pub runs_some : (m : Memtable) (count : ℕ) → count ≡ length m.runs → 2 ^ count ≤ length (versions_of_memtable m) + 1 → nat_lt 0 count ≡ not (length (versions_of_memtable m) == 0)
+runs_some m zero is few = let n = none_run m (sym is) in let q : (length (versions_of_memtable m) == 0) ≡ true = ap (λ k. k == 0) n in rw q refl
+runs_some m (suc count) is few =
+    let up : 1 ≤ 2 ^ count = pow_some count in
+    let double : 2 ^ suc count ≡ 2 ^ count * 2 = pow-suc 2 count in
+    let q : (length (versions_of_memtable m) == 0) ≡ false = ne_eqb (length (versions_of_memtable m)) 0 (λ z. omega (arith, few, up, double, z)) in
+    let more : nat_lt 0 (suc count) ≡ true = lt-ltb 0 (suc count) (omega arith) in
+    rw (q, more) refl where
+  pow_some : (k : ℕ) → 1 ≤ 2 ^ k
+  pow_some zero = omega arith
+  pow_some (suc k) = let r = pow_some k in let d : 2 ^ suc k ≡ 2 ^ k * 2 = pow-suc 2 k in omega (arith, r, d)
 
-pub none_both : (xs ys : List Version) → length xs ≡ 0 → length ys ≡ 0 → length (xs ++ ys) ≡ 0
-none_both xs ys a b = let l = length-append xs ys in omega (arith, l, a, b)
-
-pub some_first : (xs ys : List Version) → not (length xs == 0) ≡ true → not (length (xs ++ ys) == 0) ≡ true
+some_first : (xs ys : List Version) → not (length xs == 0) ≡ true → not (length (xs ++ ys) == 0) ≡ true
 some_first [] ys e = absurd (cc)
 some_first (x ∷ xs) ys e = let q : (length ((x ∷ xs) ++ ys) == 0) ≡ false = ne_eqb (length ((x ∷ xs) ++ ys)) 0 (λ z. omega (arith, z)) in rw q refl
 
-pub some_second : (xs ys : List Version) → not (length ys == 0) ≡ true → not (length (xs ++ ys) == 0) ≡ true
+some_second : (xs ys : List Version) → not (length ys == 0) ≡ true → not (length (xs ++ ys) == 0) ≡ true
 some_second [] ys e = e
 some_second (x ∷ xs) ys e = some_first (x ∷ xs) ys (let q : (length (x ∷ xs) == 0) ≡ false = ne_eqb (length (x ∷ xs)) 0 (λ z. omega (arith, z)) in rw q refl)
+
+-- where one of the memtables has a version, there is one among all
+pub some_among : (ms : List Memtable) (i : ℕ) (m : Memtable) → slice_get ms i ≡ Some m → not (length (versions_of_memtable m) == 0) ≡ true → not (length (flat_map versions_of_memtable ms) == 0) ≡ true
+some_among [] i m there some = absurd (cc)
+some_among (x ∷ xs) zero m there some = let q : m ≡ x = cc in some_first (versions_of_memtable x) (flat_map versions_of_memtable xs) (subst (λ (z : Memtable). not (length (versions_of_memtable z) == 0) ≡ true) q some)
+some_among (x ∷ xs) (suc i) m there some = some_second (versions_of_memtable x) (flat_map versions_of_memtable xs) (some_among xs i m there some)
 
 -- ---- families
 
@@ -70,14 +65,3 @@ pub get-mapped : {A B : Type 0} (f : A → B) (xs : List A) (i : ℕ) (x : A) �
 get-mapped f [] i x l e = absurd (omega (arith, l))
 get-mapped f (y ∷ ys) zero x l e = ap (λ z. Some (f z)) (sym e)
 get-mapped f (y ∷ ys) (suc i) x l e = get-mapped f ys i x (omega (arith, l)) e
-
-pub runs_some : (m : Memtable) (count : ℕ) → count ≡ length m.runs → 2 ^ count ≤ length (versions_of_memtable m) + 1 → nat_lt 0 count ≡ not (length (versions_of_memtable m) == 0)
-runs_some m zero is few = let n = none_run m (sym is) in let q : (length (versions_of_memtable m) == 0) ≡ true = ap (λ k. k == 0) n in rw q refl
-runs_some m (suc count) is few =
-    let up : 1 ≤ 2 ^ count = pow_some count in
-    let double : 2 ^ suc count ≡ 2 * 2 ^ count = refl in
-    let q : (length (versions_of_memtable m) == 0) ≡ false = ne_eqb (length (versions_of_memtable m)) 0 (λ z. omega (arith, few, up, double, z)) in
-    rw q refl where
-  pow_some : (k : ℕ) → 1 ≤ 2 ^ k
-  pow_some zero = omega arith
-  pow_some (suc k) = let r = pow_some k in let d : 2 ^ suc k ≡ 2 * 2 ^ k = refl in omega (arith, r, d)

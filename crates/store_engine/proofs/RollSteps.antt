@@ -1,14 +1,16 @@
 -- The steps of a roll together: a sync, a new log, and the edit that adds it.
 use Rattle.std.proofs.Common.{◌≡◌, ◌⊎◌, ℕ, ◌+◌, ◌<◌, ◌≤◌, List, [], ◌∷◌, Result, Ok, Err, None, refl, sym, ap, ◌∙◌, subst, arith, inl, inr}
-use Rattle.std.specs.Prelude.{Contains, IfErr, OnErr, OnOk}
+use Rattle.std.specs.Prelude.{Contains, IfErr, OnErr, OnOk, Option}
 use Rattle.udt_disk.specs.Causes.{HasCause, plus_faults}
 use Rattle.udt_disk.specs.Joint.{Ran}
+use Rattle.udt_disk.specs.Runs.{IsSameFile}
 use Rattle.udt_disk.specs.Touches.{Touches}
 use Rattle.udt_disk.specs.declared.file.DiskFile as file
 use Rattle.udt_disk.specs.declared.disk.Disk as disk
 use Rattle.udt_disk.specs.declared.name.FileName.{FileName}
 use Rattle.udt_disk.specs.declared.name.FileName.TheVariants.{Log}
 use Rattle.udt_disk.proofs.Joints.{ran_on}
+use Rattle.udt_disk.proofs.TouchLemmas.{touches_nothing}
 use Rattle.wal.specs.declared.numbered.Numbered.{Numbered}
 use Rattle.wal.specs.Wals.{MayGoOn, wal_file, wal_pending}
 use Rattle.udt_model.specs.State.{State}
@@ -16,9 +18,9 @@ use Rattle.udt_model.specs.Crashes.{Course, IsOutcome}
 use Rattle.manifest_edit.specs.declared.edit.Edit.{Edit}
 use Rattle.manifest_edit.specs.declared.edit.FamilyEdit.{FamilyEdit}
 use Rattle.manifest_edit.specs.declared.edit.TableAt.{TableAt}
-use Rattle.manifest_fold.specs.declared.fold.FamilyFold.{FamilyFold}
+use Rattle.manifest_fold.specs.declared.fold.Folded.{Folded}
 use Rattle.manifest_fold.specs.declared.limits.TheConstants.{FILE_NUMBER_LIMIT}
-use Rattle.manifest_fold.specs.Folds.{families_with, fold_with, newest_log}
+use Rattle.manifest_fold.specs.Folds.{families_with, fold_with, is_live, newest_log}
 use Rattle.manifest.specs.Folders.{IsManifestName}
 use Rattle.manifest.specs.Manifest.{manifest_file, manifest_folded}
 use Rattle.floor_laws.proofs.Members.{contains_In}
@@ -47,17 +49,6 @@ use Rattle.store_engine.proofs.Answering.{ok_on, on_ok}
 use Rattle.store_engine.proofs.Counts.{cause_third}
 use Rattle.store_engine.proofs.Rolling.{added_of, added_ran, rolled_cause, rolled_ran}
 use Rattle.store_engine.proofs.Synced.{synced_cause, synced_of, synced_one, synced_ran}
-
-touches_none : {D F : Type 0} (d : disk.Ghosts D F) (T : FileName → Type 0) (x : D) → Touches d T x x
-touches_none d T x = record {
-  same = λ n ne. refl;
-  no_more = λ n i ne left. left;
-  later = omega arith;
-  nothing_else = λ t n i low ne since. inl since;
-  keeps = λ t n i low since. since;
-  told = refl;
-  model = refl;
-}
 
 module _ {D F : Type 0} (d : disk.Ghosts D F) (f : file.Ghosts F) (now_last : IsNowLast d f) (edit : Edit) (older : OlderLogs) (mid new : Engine D F f) where
   -- ---- whether or not the disk tells
@@ -88,6 +79,38 @@ module _ {D F : Type 0} (d : disk.Ghosts D F) (f : file.Ghosts F) (now_last : Is
   rolls_fold result (edited two three r1 e r ed) =
       on_ok result (manifest_folded new.manifest ≡ fold_with (manifest_folded three.manifest) edit) (manifest_folded new.manifest ≡ fold_with (manifest_folded mid.manifest) edit)
       (λ is. is ∙ ap (λ k. fold_with (manifest_folded k) edit) (r.manifest ∙ e.manifest)) ed.fold
+
+  -- the number of the next file rises by one or not, the manifest stays in its file, and a log that is added makes no table live
+  pub rolls_more : (result : Result (Unit {0}) EngineFault) → IsRolled d f edit older mid new result → (mid.next ≤ new.next) × (new.next ≤ mid.next + 1)
+  rolls_more result (unsynced fault e) = let k = e.next in (omega (arith, k), omega (arith, k))
+  rolls_more result (unrolled two fault e r) = let b = r.next_is in let k = e.next in (omega (arith, b, k), omega (arith, b, k))
+  rolls_more result (edited two three r1 e r ed) = let a = ed.next in let b = r.next in let k = e.next in (omega (arith, a, b, k), omega (arith, a, b, k))
+
+  same_file : (two : Engine D F f) → two.manifest ≡ mid.manifest → IsSameFile f (manifest_file mid.manifest) (manifest_file two.manifest)
+  same_file two is = record { name = ap (λ k. f.name (manifest_file k)) is; told = ap (λ k. f.is_told (manifest_file k)) is; model = ap (λ k. f.keeps_model (manifest_file k)) is }
+
+  pub rolls_file : (result : Result (Unit {0}) EngineFault) → IsRolled d f edit older mid new result → IsSameFile f (manifest_file mid.manifest) (manifest_file new.manifest)
+  rolls_file result (unsynced fault e) = same_file new e.manifest
+  rolls_file result (unrolled two fault e r) = same_file new (r.manifest ∙ e.manifest)
+  rolls_file result (edited two three r1 e r ed) =
+      let before = same_file three (r.manifest ∙ e.manifest) in
+      record { name = ed.same.name ∙ before.name; told = ed.same.told ∙ before.told; model = ed.same.model ∙ before.model }
+
+  -- the log is that of the new file
+  pub rolls_name : (result : Result (Unit {0}) EngineFault) → IsRolled d f edit older mid new result → OnOk result (f.name (wal_file new.wal) ≡ Log mid.next)
+  rolls_name result (unsynced fault e) = tt
+  rolls_name result (unrolled two fault e r) = tt
+  rolls_name result (edited two three r1 e r ed) = ok_on result (f.name (wal_file new.wal) ≡ Log mid.next) (ap (λ w. f.name (wal_file w)) ed.wal ∙ r.name ∙ ap Log e.next)
+
+  pub rolls_live : (result : Result (Unit {0}) EngineFault) → IsRolled d f edit older mid new result → edit.family ≡ None → (n : ℕ) → is_live (manifest_folded new.manifest).families n ≡ is_live (manifest_folded mid.manifest).families n
+  rolls_live result (unsynced fault e) none n = ap (λ k. is_live (manifest_folded k).families n) e.manifest
+  rolls_live result (unrolled two fault e r) none n = ap (λ k. is_live (manifest_folded k).families n) (r.manifest ∙ e.manifest)
+  rolls_live result (edited two three r1 e r ed) none n =
+      let before : is_live (manifest_folded three.manifest).families n ≡ is_live (manifest_folded mid.manifest).families n = ap (λ k. is_live (manifest_folded k).families n) (r.manifest ∙ e.manifest) in
+      elim result as (λ k. OnOk k (manifest_folded new.manifest ≡ fold_with (manifest_folded three.manifest) edit) → OnErr k (manifest_folded new.manifest ≡ manifest_folded three.manifest) → is_live (manifest_folded new.manifest).families n ≡ is_live (manifest_folded mid.manifest).families n) [
+        | Ok u ↦ λ fold same. ap (λ (z : Folded). is_live z.families n) fold ∙ ap (λ (o : Option FamilyEdit). is_live (families_with (manifest_folded three.manifest).families o) n) none ∙ before
+        | Err x ↦ λ fold same. ap (λ (z : Folded). is_live z.families n) same ∙ before
+      ] ed.fold ed.unchanged
 
   pub rolls_running : (result : Result (Unit {0}) EngineFault) → IsRolled d f edit older mid new result → OnOk result (IsRunning new)
   rolls_running result (unsynced fault e) = tt
@@ -122,7 +145,7 @@ module _ {D F : Type 0} (d : disk.Ghosts D F) (f : file.Ghosts F) (now_last : Is
       (subst (λ n. Touches d (IsRolledName (f.name (wal_file mid.wal)) n) two.disk after) e.next (subst (λ n. Touches d (IsRolledName n two.next) two.disk after) e.same.name t))
 
   pub rolls_touches : (result : Result (Unit {0}) EngineFault) → IsRolled d f edit older mid new result → Touches d (IsRolledName (f.name (wal_file mid.wal)) mid.next) mid.disk new.disk
-  rolls_touches result (unsynced fault e) = subst (λ x. Touches d (IsRolledName (f.name (wal_file mid.wal)) mid.next) mid.disk x) (sym e.disk) (touches_none d (IsRolledName (f.name (wal_file mid.wal)) mid.next) mid.disk)
+  rolls_touches result (unsynced fault e) = subst (λ x. Touches d (IsRolledName (f.name (wal_file mid.wal)) mid.next) mid.disk x) (sym e.disk) (touches_nothing d (IsRolledName (f.name (wal_file mid.wal)) mid.next) mid.disk)
   rolls_touches result (unrolled two fault e r) = rolled_name two e new.disk r.touches
   rolls_touches result (edited two three r1 e r ed) = subst (λ x. Touches d (IsRolledName (f.name (wal_file mid.wal)) mid.next) mid.disk x) (sym ed.disk) (rolled_name two e three.disk r.touches)
 

@@ -156,11 +156,12 @@ module _ {D F : Type 0} (d : disk.Ghosts D F) (f : file.Ghosts F) (now_last : Is
 
     pub synced_called : IsCalled d f old new result
     synced_called = elim result as (λ r. HasCause (engine_faults d f old) (engine_faults d f new) r → OnOk r (IsRunning new) → has_failed new ≡ is_disk_failure r → IfErr r (λ fault. fault ≡ DiskFault) → IsCalled d f old new r) [
-      | Ok u ↦ λ cause running failed fault. record { same = synced_folder; one = synced_one; next = synced.next; jobs = synced_jobs; untouched = tt; running = λ not. running; failed = failed; counted = cause.kept }
+      | Ok u ↦ λ cause running failed fault. record { same = synced_folder; one = synced_one; next = synced.next; older = synced.older; jobs = synced_jobs; untouched = tt; running = λ not. running; failed = failed; counted = cause.kept }
       | Err e ↦ λ cause running failed fault. record {
         same = synced_folder;
         one = synced_one;
         next = synced.next;
+        older = synced.older;
         jobs = synced_jobs;
         untouched = λ not. absurd (false≢true (sym not ∙ ap is_disk_fault fault));
         running = λ not. absurd (false≢true (sym not ∙ ap is_disk_fault fault));

@@ -9,6 +9,8 @@ pub mod Admission
 pub mod Laws
 pub mod Older
 pub mod Jobs
+pub mod Asides
+pub mod JobCalls
 pub mod Dropping
 pub mod Installing
 pub mod Sealing

@@ -8,6 +8,7 @@ use Rattle.udt_disk.specs.Causes.{IsCause, Rose, plus_faults}
 use Rattle.udt_disk.specs.Crash.{NoMore}
 use Rattle.udt_disk.specs.Joint.{IsFree, Ran}
 use Rattle.udt_disk.specs.Moments.{holding}
+use Rattle.udt_disk.specs.Runs.{IsSameFile}
 use Rattle.udt_disk.specs.Touches.{Touches}
 use Rattle.udt_disk.specs.declared.disk.Disk as disk
 use Rattle.udt_disk.specs.declared.file.DiskFile as file
@@ -17,8 +18,8 @@ use Rattle.wal.specs.Making.{IsWhileMade}
 use Rattle.wal.specs.Wals.{Holds, MayGoOn, wal_file, wal_pending, wal_sizes}
 use Rattle.manifest_edit.specs.declared.edit.Edit.{Edit}
 use Rattle.manifest_fold.specs.declared.limits.TheConstants.{FILE_NUMBER_LIMIT}
-use Rattle.manifest_fold.specs.Folds.{newest_log}
-use Rattle.manifest.specs.Manifest.{manifest_folded}
+use Rattle.manifest_fold.specs.Folds.{fold_with, newest_log}
+use Rattle.manifest.specs.Manifest.{manifest_file, manifest_folded}
 use Rattle.engine_laws.specs.Installs.{roll_edit}
 use Rattle.udt_model.specs.declared.reply.Reply.{Reply}
 use Rattle.udt_model.specs.declared.reply.Reply.TheVariants as replies
@@ -120,7 +121,9 @@ IsRolledName old number n = (n ≡ Log number) ⊎ (n ≡ old)
 pub record IsLogRolled {D F : Type 0} (d : disk.Ghosts D F) (f : file.Ghosts F) (older : OlderLogs) (old new : Engine D F f) (result : Result (Unit {0}) EngineFault) : Type 0 where
   pub manifest : new.manifest ≡ old.manifest
   pub next : OnOk result (new.next ≡ old.next + 1)
+  pub next_is : OnErr result (new.next ≡ old.next)
   pub older_is : OnOk result (new.older ≡ older)
+  pub older_stays : OnErr result (new.older ≡ old.older)
   pub holds : OnOk result (IsTrue (d.is_told old.disk) → Holds f new.wal [] [])
   pub goes_on : OnOk result ((first : ℕ) → MayGoOn f new.wal first)
   pub name : OnOk result (f.name (wal_file new.wal) ≡ Log old.next)
@@ -162,15 +165,32 @@ pub data SealsActive {D F : Type 0} (d : disk.Ghosts D F) (f : file.Ghosts F) (n
   stopped : (edit : Edit) (older : OlderLogs) (mid : Engine D F f) (fault : EngineFault) → PreparesRoll f now edit older old mid → IsRolled d f edit older mid new (Err fault) → SealsActive d f now family old new (Err fault)
   sealed : (edit : Edit) (older : OlderLogs) (mid : Engine D F f) (done : Sealed) → PreparesRoll f now edit older old mid → IsRolled d f edit older mid new (Ok tt) → IsRolledAs family now done → SealsActive d f now family old new (Ok done)
 
+-- The log is one of a new file, which the manifest names and behind which nothing waits, and the one before it is known to end at this
+-- last sequence.
+pub record HasRolled {D F : Type 0} (f : file.Ghosts F) (last : Seq) (old new : Engine D F f) : Type 0 where
+  pub name : f.name (wal_file new.wal) ≡ Log old.next
+  pub fold : manifest_folded new.manifest ≡ fold_with (manifest_folded old.manifest) (roll_edit last old.next)
+  pub opened : new.older.opened ≡ old.older.opened
+  pub logs : new.older.rolled.items ≡ old.older.rolled.items ++ record { number = newest_log (manifest_folded old.manifest).logs; last = last } ∷ []
+  pub pending : wal_pending new.wal ≡ 0
+
+-- No call was made on the disk, and what waits in the log and what is known of the older ones is as it was.
+pub record IsUnsealed {D F : Type 0} {f : file.Ghosts F} (old new : Engine D F f) : Type 0 where
+  pub held_is : held new ≡ held old
+  pub wal : new.wal ≡ old.wal
+  pub older : new.older ≡ old.older
+
 -- What a seal leaves, whether or not the disk tells what it holds: one folder, in which only the old log and the new one were touched; the
--- same number of the next file unless the log rolled, and one more then; nothing touched where the call was refused; an engine that may be
--- called unless the disk failed, and as many faults as before unless it did.
-pub record IsSealed {D F : Type 0} (d : disk.Ghosts D F) (f : file.Ghosts F) (old new : Engine D F f) (result : Result Sealed EngineFault) : Type 0 where
+-- number of the next file, which is one more exactly where the log rolled, and may be where the disk failed; nothing touched where it didn't
+-- roll and no disk failed; an engine that may be called unless the disk failed, and as many faults as before unless it did.
+pub record IsSealed {D F : Type 0} (d : disk.Ghosts D F) (f : file.Ghosts F) (last : Seq) (old new : Engine D F f) (result : Result Sealed EngineFault) : Type 0 where
   pub one : IsOneFolder d f old → IsOneFolder d f new
+  pub manifest : IsSameFile f (manifest_file old.manifest) (manifest_file new.manifest)
   pub next : is_disk_failure result ≡ false → new.next ≡ old.next + rolled_count result
+  pub numbers : (old.next ≤ new.next) × (new.next ≤ old.next + 1)
   pub jobs : (n : ℕ) → IsJobNumber old n → IsJobNumber new n
-  pub untouched : is_disk_failure result ≡ false → rolled_count result ≡ 0 → held new ≡ held old
-  pub pending : rolled_count result ≡ 1 → wal_pending new.wal ≡ 0
+  pub untouched : is_disk_failure result ≡ false → rolled_count result ≡ 0 → IsUnsealed old new
+  pub rolled : rolled_count result ≡ 1 → HasRolled f last old new
   pub touches : Touches d (IsRolledName (f.name (wal_file old.wal)) old.next) old.disk new.disk
   pub running : is_disk_failure result ≡ false → IsRunning new
   pub failed : has_failed new ≡ is_disk_failure result

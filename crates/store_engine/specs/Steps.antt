@@ -94,12 +94,13 @@ pub record IsSameFolder {D F : Type 0} (f : Ghosts F) (old new : Engine D F f) :
   pub wal : IsSameFile f (wal_file old.wal) (wal_file new.wal)
   pub manifest : IsSameFile f (manifest_file old.manifest) (manifest_file new.manifest)
 
--- What each call leaves, whether or not the disk tells what it holds: the same folder, still one, and numbers of files; nothing touched
--- where the call was refused; an engine that may be called unless the disk failed, and as many faults as before unless it did.
+-- What each call leaves, whether or not the disk tells what it holds: the same folder, still one, numbers of files, and what is known of
+-- the older logs; nothing touched where the call was refused; an engine that may be called unless the disk failed, and as many faults as before unless it did.
 pub record IsCalled {D F A : Type 0} (d : disk.Ghosts D F) (f : Ghosts F) (old new : Engine D F f) (result : Result A EngineFault) : Type 0 where
   pub same : IsSameFolder f old new
   pub one : IsOneFolder d f old → IsOneFolder d f new
   pub next : new.next ≡ old.next
+  pub older : new.older ≡ old.older
   pub jobs : (n : ℕ) → IsJobNumber old n → IsJobNumber new n
   pub untouched : IfErr result (λ fault. is_disk_fault fault ≡ false → held new ≡ held old)
   pub running : is_disk_failure result ≡ false → IsRunning new

@@ -87,6 +87,7 @@ impl<D: Disk> Engine<D> {
         requires { (old : D) × ArePartsOf D.Disk D.File.DiskFile old (parts_of disk manifest wal version.now) }
         ensures held { held result ≡ holding disk (wal_file wal ∷ manifest_file manifest ∷ []) }
         ensures next { result.next ≡ (manifest_folded manifest).next_file }
+        ensures older { (result.older.opened ≡ version.now.last) × (result.older.rolled.items ≡ []) }
         ensures running { IsRunning result }
         ensures one { IsOneFolder D.Disk D.File.DiskFile result }
         ensures current { IsCurrent result version.now }

@@ -1,6 +1,6 @@
 //! The installs of flushes: an edit makes a table live, and drops the logs that no family needs any more.
 
-ghost use Rattle.std.specs.Prelude.{◌≡◌, ◌≤◌, ℕ, [], Contains, IfErr, IfOk, Ok, Err, false, map};
+ghost use Rattle.std.specs.Prelude.{◌≡◌, ◌⊎◌, ◌≤◌, ℕ, [], Contains, IfErr, IfOk, Ok, Err, Some, false, map, slice_get};
 ghost use Rattle.std.specs.Arc.{arc_value};
 ghost use Rattle.udt_disk.specs.Touches.{Touches};
 ghost use Rattle.udt_disk.specs.declared.name.FileName.TheVariants.{Log};
@@ -8,12 +8,12 @@ ghost use Rattle.manifest_edit.specs.declared.edit.Edit.{Edit as EditOf};
 ghost use Rattle.manifest_fold.specs.Folds.{IsAccepted};
 ghost use Rattle.manifest.specs.Manifest.{IsEditReserved, manifest_folded};
 ghost use Rattle.udt_model.specs.Acts.Act.{flush_end as flush_end_act};
-ghost use Rattle.udt_model.specs.declared.reply.Reply.TheVariants.{Table as TableReply};
-ghost use Rattle.udt_model.specs.Crashes.{Course, course_after};
+ghost use Rattle.udt_model.specs.Crashes.{Course};
 ghost use Rattle.udt_model.specs.State.{Flush, State};
-ghost use Rattle.udt_model.specs.Steps.{after};
 ghost use Rattle.super_version.specs.Changes.{ChangesFamily, family_with_flush};
+ghost use Rattle.super_version.specs.declared.family.FamilyState.{FamilyState as StateOf};
 ghost use Rattle.engine_laws.specs.Installs.{flush_edit as edit_of_flush};
+ghost use Rattle.store_engine.specs.Asides.{IsRemoval};
 ghost use Rattle.store_engine.specs.Dropping.{AreGone, lets_go as lets_log_go, needs_log as needs_its_log};
 ghost use Rattle.store_engine.specs.Installing.{floor_over_now};
 ghost use Rattle.store_engine.specs.Replies.{is_disk_fault};
@@ -135,7 +135,7 @@ fn names_of_logs(alloc: Global, logs: &[u64]) -> Result<Vec<FileName>, NoMemory>
 /// Removes files. One that can't be removed stays: it is in nobody's way.
 fn remove_files<D: Disk>(disk: &mut D, names: &[FileName])
     ensures touches { Touches D.Disk (Contains names.now) disk.old disk.new }
-    ensures later { D.faults disk.old ≤ D.faults disk.new }
+    ensures gone { IsRemoval D.Disk names.now disk.old disk.new }
 {
     for name in names {
         let _ = disk.remove(*name);
@@ -145,7 +145,7 @@ fn remove_files<D: Disk>(disk: &mut D, names: &[FileName])
 impl<D: Disk> Engine<D> {
     ghost use Rattle.store_engine.specs.Calls.{RanUnder, Tells};
     ghost use Rattle.store_engine.specs.Engines.{HoldsAsBefore, HoldsNow, IsCurrent, IsRunning};
-    ghost use Rattle.store_engine.specs.Installing.{DropsLogs, EndsFlushBy, IsFlushInstall, IsGivenBack, IsInstallCalled, IsInstalled, MayInstall, live_with};
+    ghost use Rattle.store_engine.specs.Installing.{EndsFlushBy, IsFlushEnded, IsFlushInstall, IsFlushInstalled, IsInstallCalled, IsInstalled, MayInstall, after_flush_end, course_after_flush_end, flush_end_reply, live_with};
     ghost use Rattle.store_engine.specs.Steps.{ReservesEdit};
 
     /// The install of a flush that ended so, with this table. No call is made on the disk.
@@ -205,13 +205,6 @@ impl<D: Disk> Engine<D> {
         }
     }
 
-    /// Gives a file back to the disk.
-    fn give_back(&mut self, file: D::File)
-        ensures { IsGivenBack D.Disk D.File.DiskFile file self.old self.new }
-    {
-        self.disk.retire(file);
-    }
-
     /// Puts all that waits in the log and then the edit on the disk, and removes the files that are live no more. It takes no memory.
     fn install(&mut self, install: &Install) -> Result<(), EngineFault>
         requires running { IsRunning self.old }
@@ -231,6 +224,33 @@ impl<D: Disk> Engine<D> {
         }
         remove_files(&mut self.disk, &install.gone);
         Ok(())
+    }
+
+    /// Ends a flush so, with this table. Its file is given back in any case.
+    fn end_flush(
+        &mut self,
+        alloc: Global,
+        now: &SuperVersion,
+        end: FlushEnd,
+        table: Table,
+        file: D::File,
+    ) -> Result<Arc<SuperVersion>, EngineFault>
+        requires running { IsRunning self.old }
+        requires current { IsCurrent self.old now.now }
+        requires may { MayInstall D.File.DiskFile self.old now.now end.family end.through end.number file }
+        requires floor { (g : StateOf) → slice_get now.now.families end.family.0 ≡ Some g → g.floor.0 ≤ end.floor.0 }
+        ensures { IsFlushEnded D.Disk D.File.DiskFile arc_value now.now end table file self.old self.new result }
+    {
+        let ready = self.ready_flush(alloc, now, end, table);
+        self.give_back(file);
+        let install = match ready {
+            Ok(install) => install,
+            Err(fault) => return Err(fault),
+        };
+        match self.install(&install) {
+            Ok(()) => Ok(install.next),
+            Err(fault) => Err(fault),
+        }
     }
 
     /// Makes the table of a flush live in place of the `gone` oldest sealed memtables of a family, which has its versions up to
@@ -253,10 +273,9 @@ impl<D: Disk> Engine<D> {
         requires may { MayInstall D.File.DiskFile self.old now.now family through number file }
 
         ensures tells { (m : State) (c : Course) (job : Flush) → HoldsNow D.Disk D.File.DiskFile self.old now.now m c → EndsFlushBy D.File.DiskFile m now.now job family gone through number file out
-            → Tells m (flush_end_act family job.start) (TableReply number out.kept (floor_over_now now.now family out.floor)) result }
+            → Tells m (flush_end_act family job.start) (flush_end_reply now.now family number out) result }
         ensures holds { (m : State) (c : Course) (event : ℕ) (job : Flush) → HoldsNow D.Disk D.File.DiskFile self.old now.now m c → EndsFlushBy D.File.DiskFile m now.now job family gone through number file out
-            → IfOk result (λ next. HoldsNow D.Disk D.File.DiskFile self.new (arc_value next) (after m event (flush_end_act family job.start) (TableReply number out.kept (floor_over_now now.now family out.floor)))
-            (course_after m event c (flush_end_act family job.start) (TableReply number out.kept (floor_over_now now.now family out.floor)))) }
+            → IfOk result (λ next. HoldsNow D.Disk D.File.DiskFile self.new (arc_value next) (after_flush_end m event family job (flush_end_reply now.now family number out)) (course_after_flush_end m event c family job (flush_end_reply now.now family number out))) }
         ensures moments { (m : State) (c : Course) (event : ℕ) (job : Flush) → HoldsNow D.Disk D.File.DiskFile self.old now.now m c → EndsFlushBy D.File.DiskFile m now.now job family gone through number file out
             → RanUnder D.Disk D.File.DiskFile m c event (flush_end_act family job.start) self.old self.new }
         ensures refused { IfErr result (λ fault. is_disk_fault fault ≡ false → HoldsAsBefore D.Disk D.File.DiskFile self.old self.new) }
@@ -264,8 +283,9 @@ impl<D: Disk> Engine<D> {
 
         // Whether or not the disk tells what it holds.
         ensures shown { IfOk result (λ next. ChangesFamily family.0 (family_with_flush gone through (floor_over_now now.now family out.floor) (live_with number out.table)) now.now (arc_value next)) }
-        ensures drops { IfOk result (λ next. DropsLogs self.old self.new (arc_value next)) }
-        ensures called { IsInstallCalled D.Disk D.File.DiskFile file self.old self.new result }
+        ensures installed { IfOk result (λ next. IsFlushInstalled D.Disk D.File.DiskFile now.now family (floor_over_now now.now family out.floor) through number file self.old self.new (arc_value next)) }
+        ensures called { IsInstallCalled D.Disk D.File.DiskFile number file self.old self.new result }
+        ensures fault { IfErr result (λ fault. (fault ≡ EngineFault.NoMemory) ⊎ (fault ≡ EngineFault.DiskFault)) }
     {
         let TableOut {
             table,
@@ -279,15 +299,6 @@ impl<D: Disk> Engine<D> {
             number,
             floor: floor_behind(now, family, floor),
         };
-        let ready = self.ready_flush(alloc, now, end, table);
-        self.give_back(file);
-        let install = match ready {
-            Ok(install) => install,
-            Err(fault) => return Err(fault),
-        };
-        match self.install(&install) {
-            Ok(()) => Ok(install.next),
-            Err(fault) => Err(fault),
-        }
+        self.end_flush(alloc, now, end, table, file)
     }
 }

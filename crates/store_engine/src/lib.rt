@@ -5,7 +5,7 @@ mod admission;
 mod engine;
 mod fault;
 mod install;
-mod lab;
+mod job_files;
 mod latest;
 mod laws;
 mod older;

@@ -53,12 +53,7 @@ impl OlderLogs {
     }
 
     /// The same, and a log that is rolled.
-    pub(crate) fn with(
-        &self,
-        alloc: Global,
-        number: u64,
-        last: Seq,
-    ) -> Result<OlderLogs, NoMemory>
+    pub(crate) fn with(&self, alloc: Global, number: u64, last: Seq) -> Result<OlderLogs, NoMemory>
         ensures opened { IfOk result (λ older. older.opened ≡ self.now.opened) }
         ensures rolled { IfOk result (λ older. older.rolled.items ≡ self.now.rolled.items ++ record { number = number; last = last } ∷ []) }
     {

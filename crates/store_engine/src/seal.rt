@@ -14,11 +14,11 @@ ghost use Rattle.store_engine.specs.Sealing.{AnswersSeal, IsLogRolled, IsRolled,
 ghost use Rattle.store_engine.specs.Steps.{IsEdited};
 ghost use Rattle.store_engine.specs.Together.{IsReadyFor};
 
+use crate::NoMemory;
 use crate::engine::Engine;
 use crate::fault::EngineFault;
 use crate::older::OlderLogs;
 use crate::unflushed::{has_unflushed, has_versions};
-use crate::NoMemory;
 use manifest_edit::Edit;
 use manifest_fold::FILE_NUMBER_LIMIT;
 use memtable::Mem;
@@ -229,7 +229,7 @@ impl<D: Disk> Engine<D> {
         ensures answers { AnswersSeal (slice_get now.now.families family.0) self.old.next result }
         ensures shown { IfOk result (ShowsSealed family now.now) }
         ensures still { IfOk result (λ done. rolled_count result ≡ 0 → self.new ≡ self.old) }
-        ensures called { IsSealed D.Disk D.File.DiskFile self.old self.new result }
+        ensures called { IsSealed D.Disk D.File.DiskFile now.now.last self.old self.new result }
     {
         let Some(state) = now.family(family) else {
             return Err(EngineFault::UnknownFamily);

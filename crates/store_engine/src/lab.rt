@@ -1,8 +1,0 @@
-//! A place to check lemma files.
-ghost use Rattle.std.specs.Prelude.{◌≡◌};
-
-pub fn lab(n: u64) -> u64
-    ensures { result ≡ n }
-{
-    n
-}
