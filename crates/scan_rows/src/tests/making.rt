@@ -86,16 +86,7 @@ pub fn rows_upto(
         return Err(Fail::new("no family"));
     }
     let (low, high) = (range.low.as_ref(), range.high.as_ref());
-    let scan = Scan::new(
-        alloc,
-        now,
-        Family(0),
-        low,
-        high,
-        Ts(t),
-        Seq(s),
-        forward,
-    );
+    let scan = Scan::new(alloc, now, Family(0), low, high, Ts(t), Seq(s), forward);
     let Ok(mut scan) = scan else {
         return Err(Fail::new("no scan"));
     };
