@@ -8,7 +8,7 @@ use std::test::Fail;
 use store_engine::EngineFault;
 use super_version::SuperVersion;
 use ts_key::{Family, Form, Seq, Ts};
-use udt_disk::{FileName, MemDisk, Trouble};
+use udt_disk::{FileName, Outcome, Trouble};
 
 /// The table of the put of `\0` at 7 with sequence 1 and value `v` in family 0.
 const OF_FIRST: &[u8] =
@@ -80,12 +80,12 @@ const FLUSH_CALLS: &[(FileName, u64, u64)] = &[
 fn behind(
     alloc: Global,
     trouble: Trouble,
-    outcome: usize,
+    outcome: Outcome,
 ) -> Result<(SuperVersion, Option<EngineFault>), Fail> {
     let steps = [put(0, 7), Step::Seal { family: 0 }, FLUSH_FIRST];
     let disk = made(alloc, vec![in alloc; trouble]?)?.ok_or("no store")?;
     let (disk, fault) = history(alloc, disk, &steps)?;
-    let version = version_of(alloc, disk.after_crash(alloc, OUTCOMES[outcome])?)?;
+    let version = version_of(alloc, disk.after_crash(alloc, outcome)?)?;
     Ok((version, fault))
 }
 
@@ -93,13 +93,13 @@ fn behind(
 fn a_flush_that_stops_is_made_or_not(rt: HostRuntime) -> Result<(), Fail> {
     for (name, first, last) in FLUSH_CALLS {
         for call in *first..=*last {
-            for outcome in 0..OUTCOMES.len() {
+            for outcome in OUTCOMES {
                 let trouble = Trouble {
                     name: *name,
                     call,
                     lasting: true,
                 };
-                let (version, fault) = behind(rt.alloc(), trouble, outcome)?;
+                let (version, fault) = behind(rt.alloc(), trouble, *outcome)?;
                 let is_made = flushed_of(&version, 0) == Some((1, 1));
                 assert_eq!(rt; version.last, Seq(1));
                 assert_eq!(rt; fault.is_none(), call == *last, "{name:?} {call}");
@@ -162,8 +162,8 @@ fn a_log_that_cant_be_removed_stays(rt: HostRuntime) -> Result<(), Fail> {
         call: 10,
         lasting: true,
     };
-    for outcome in 0..OUTCOMES.len() {
-        let (version, fault) = behind(rt.alloc(), trouble, outcome)?;
+    for outcome in OUTCOMES {
+        let (version, fault) = behind(rt.alloc(), trouble, *outcome)?;
         assert_eq!(rt; fault, None);
         assert_eq!(rt; flushed_of(&version, 0), Some((1, 1)));
     }
