@@ -4,7 +4,6 @@ use Rattle.udt_disk.specs.declared.name.FileName.TheVariants.{Made}
 use Rattle.udt_disk.proofs.Moments.{leaves_all}
 use Rattle.manifest.specs.Folders.{Means}
 use Rattle.manifest.specs.Folders.Meaning.{no_store}
-use Rattle.udt_disk.specs.Joint.{Folder}
 use Rattle.recovery.specs.Making.{IsNewStore, IsNoneOrNew}
 use Rattle.recovery.proofs.NewStores.{unmade_behind, behind_look, files_step, leaves, leaves_behind, still_none, still_none_left, on_err, look_keeps, keeps_behind}
 use Rattle.recovery.proofs.making.make_store.Goals as goal
