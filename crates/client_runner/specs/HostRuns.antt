@@ -1,32 +1,26 @@
 -- Runs over the folder that stands under a path of a host.
-use Rattle.std.specs.Prelude.{◌≡◌, ℕ, List, None}
+use Rattle.std.specs.Prelude.{◌≡◌, ℕ, List}
 use Rattle.udt_disk.specs.Opens.{Standing}
 use Rattle.udt_disk.specs.OpensFolder.{Holding}
-use Rattle.udt_model.specs.declared.line.Line.{Line}
-use Rattle.udt_model.specs.State.{State, heads_of}
-use Rattle.udt_model.specs.Histories.{Point}
 use Rattle.client_lang.specs.declared.command.Command.{Command}
 use Rattle.client_lang.specs.Print.{print_header}
-use Rattle.solo_runner.specs.Expand.{IsRunHistory}
+use Rattle.client_lang.specs.Transcripts.{Transcript}
+use Rattle.solo_runner.specs.Expand.{IsAskedRun}
 use Rattle.client_runner.specs.Works.{IsRunLeft, IsRunStop, Spells}
 use Rattle.client_runner.specs.Left.{LeavesByName, ContinuesFrom, Crashes}
 use Rattle.client_runner.specs.Ready.{IsReadAs}
-use Rattle.client_runner.specs.Runs.{Waits}
-use Rattle.solo_runner.specs.Solo.{AreSoundUnless}
+use Rattle.client_runner.specs.Runs.{AreQuietUnless, Waits}
 use Rattle.client_runner.specs.Stops.{IsOpenStop}
 use Rattle.client_runner.specs.declared.output.Ready.{Ready}
 use Rattle.client_runner.specs.declared.status.Stop.{Stop}
 
--- The transcript of the commands waits, from a state that the folder stood for, and the folder keeps its lines.
+-- the transcript of the commands waits, and the folder keeps it
 pub record IsRunAt (old new : Holding) (leaves : LeavesByName) (before now : ℕ) (commands : List Command) (r : Ready) : Type 0 where
-  pub m : State
-  pub works : m.halted ≡ None
-  pub lines : List Line
-  pub end : Point
-  pub history : IsRunHistory m commands lines end
-  pub waits : Waits (print_header m.last.0 (heads_of m)) lines r
-  pub sound : AreSoundUnless before now lines
-  pub left : ContinuesFrom old new leaves m lines end
+  pub t : Transcript
+  pub asked : IsAskedRun commands t.lines
+  pub waits : Waits (print_header t.last t.heads) t.lines r
+  pub quiet : AreQuietUnless before now t.lines
+  pub left : ContinuesFrom old new leaves t
 
 -- the same for the commands of the file that stands there
 pub record IsRunFrom (standing : Standing) (old new : Holding) (leaves : LeavesByName) (before now : ℕ) (r : Ready) : Type 0 where

@@ -1,23 +1,26 @@
 -- What a command finds under the path of a folder, and what it leaves there.
-use Rattle.std.specs.Prelude.{◌≡◌, ◌≢◌, ℕ, Bool, true, false, if◌then◌else◌, List, ⊤, Some, None}
+use Rattle.std.specs.Prelude.{◌≡◌, ℕ, Bool, true, false, if◌then◌else◌, List, ⊤, Some, None}
 use Rattle.std.specs.List.{list_any}
 use Rattle.udt_disk.specs.Crash.{Image, NoMore}
 use Rattle.udt_disk.specs.Joint.{Folder}
 use Rattle.udt_disk.specs.OpensFolder.{Holding}
 use Rattle.udt_disk.specs.declared.name.FileName.{FileName}
-use Rattle.udt_disk.specs.declared.name.FileName.TheVariants.{Log}
 use Rattle.udt_model.specs.declared.line.Line.{Line}
 use Rattle.udt_model.specs.declared.line.FamilyHead.{FamilyHead}
 use Rattle.udt_model.specs.declared.reply.Reply.{Reply}
 use Rattle.udt_model.specs.declared.reply.Reply.TheVariants.{DroppedFault, Fault, Halted}
-use Rattle.udt_model.specs.State.{State}
-use Rattle.udt_model.specs.Histories.{Point, start}
+use Rattle.udt_model.specs.State.{State, heads_of}
+use Rattle.udt_model.specs.Histories.{Leads, Point, start}
 use Rattle.udt_model.specs.Crashes.{IsOutcome, course_start, course_behind, settled}
 use Rattle.manifest.specs.Folders.{Means}
 use Rattle.manifest.specs.Folders.Meaning.{no_store}
-use Rattle.engine_laws.specs.Standing.{FolderStands, new_state}
+use Rattle.engine_laws.specs.Standing.{FolderStands, StandsForSome, new_state}
+use Rattle.recovery.specs.Fault.{IsStop}
 use Rattle.recovery.specs.Making.{IsMakingName}
+use Rattle.recovery.specs.Opening.{RefusesOpening}
+use Rattle.recovery.specs.declared.fault.OpenFault.{OpenFault}
 use Rattle.recovery.specs.Tables.{ReadsAsTable}
+use Rattle.client_lang.specs.Transcripts.{Transcript}
 use Rattle.client_runner.specs.declared.status.Status.{Status}
 use Rattle.client_runner.specs.declared.status.Status.TheVariants as statuses
 
@@ -86,30 +89,37 @@ tells_fault reply = false
 abbrev pub status_of_lines : List Line → Status
 status_of_lines lines = if list_any (λ l. tells_fault l.reply) lines then statuses.DiskFault else statuses.Done
 
--- The folder keeps the lines that lead from the state m to this end: each folder that a crash may leave stands for an
--- outcome of theirs, and where no line tells a fault the folder, and each that a crash may leave, stands for all of them, as an opening
--- gives it: without snapshots or jobs.
-pub record IsLeft (m : State) (lines : List Line) (end : Point) (stands : Folder) (leaves : LeavesByName) : Type 0 where
-  pub crash : (folder : Folder) → MayBeLeft leaves folder → (left : State) × FolderStands ReadsAsTable folder left × IsOutcome end.state (course_behind (start m) (course_start m) lines) left
-  pub whole : status_of_lines lines ≡ statuses.Done → FolderStands ReadsAsTable stands (settled end.state)
-  pub whole_crash : status_of_lines lines ≡ statuses.Done → (folder : Folder) → MayBeLeft leaves folder → FolderStands ReadsAsTable folder (settled end.state)
+-- The folder keeps the lines that lead from the state m to this end: each folder that a crash may leave stands for an outcome of theirs,
+-- and where no line tells a fault it stands for all of them, as an opening gives it: without snapshots or jobs. What stands there is one
+-- of these, where the host keeps the model of crashes.
+pub record IsLeft (m : State) (lines : List Line) (end : Point) (leaves : LeavesByName) : Type 0 where
+  pub crash : (folder : Folder) → MayBeLeft leaves folder → StandsForSome ReadsAsTable folder (IsOutcome end.state (course_behind (start m) (course_start m) lines))
+  pub whole : status_of_lines lines ≡ statuses.Done → (folder : Folder) → MayBeLeft leaves folder → FolderStands ReadsAsTable folder (settled end.state)
 
--- The same of the folder under a path, which stood for m and nothing else. Every file but the live log stands as before, and so a
--- crash leaves it.
-pub record IsContinued (m : State) (lines : List Line) (end : Point) (folder : Folder) (new : Holding) (leaves : LeavesByName) : Type 0 where
-  pub opened : FolderStands ReadsAsTable folder m
-  pub only : (n : State) → FolderStands ReadsAsTable folder n → n ≡ m
+-- The transcript goes on from the state m: its header tells of m, its lines are a legal history from m to an end, and the folder keeps them.
+pub record GoesOnFrom (m : State) (t : Transcript) (leaves : LeavesByName) : Type 0 where
+  pub end : Point
+  pub legal : Leads (start m) t.lines end
+  pub last_is : t.last ≡ m.last.0
+  pub heads_are : t.heads ≡ heads_of m
+  pub left : IsLeft m t.lines end leaves
+
+-- the folder can be opened: nothing of it is refused
+abbrev pub IsOpenable : Folder → Type 0
+IsOpenable folder = (fault : OpenFault) → RefusesOpening folder fault → IsStop fault
+
+-- The same of the folder under a path: it could be opened, and the transcript goes on from each state that it stood for.
+pub record IsContinued (t : Transcript) (folder : Folder) (new : Holding) (leaves : LeavesByName) : Type 0 where
+  pub opened : IsOpenable folder
   pub stands : Folder
   pub new_is : new ≡ Some (Some stands)
-  pub left : IsLeft m lines end stands leaves
-  pub others : (n : FileName) → n ≢ Log opened.number → stands n ≡ folder n
-  pub others_crash : (n : FileName) (c : Image) → n ≢ Log opened.number → leaves n c → c ≡ folder n
+  pub each : (m : State) → FolderStands ReadsAsTable folder m → GoesOnFrom m t leaves
 
 -- where it is told what stands there
-abbrev pub ContinuesFrom : Holding → Holding → LeavesByName → State → List Line → Point → Type 0
-ContinuesFrom None new leaves m lines end = ⊤
-ContinuesFrom (Some None) new leaves m lines end = ⊥
-ContinuesFrom (Some (Some folder)) new leaves m lines end = IsContinued m lines end folder new leaves
+abbrev pub ContinuesFrom : Holding → Holding → LeavesByName → Transcript → Type 0
+ContinuesFrom None new leaves t = ⊤
+ContinuesFrom (Some None) new leaves t = ⊥
+ContinuesFrom (Some (Some folder)) new leaves t = IsContinued t folder new leaves
 
 -- ---- what making a store leaves
 

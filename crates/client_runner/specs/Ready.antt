@@ -1,8 +1,13 @@
 -- Transcripts that wait to be written, and why there is none.
-use Rattle.std.specs.Prelude.{◌≡◌, ◌⊎◌, ℕ, ◌≤◌, List, ◌++◌, length, All, Some}
+use Rattle.std.specs.Prelude.{◌≡◌, ◌⊎◌, ℕ, ◌≤◌, Bool, true, false, List, ◌++◌, length, All, None, Some}
 use Rattle.udt_disk.specs.Opens.{Standing, IsStanding}
+use Rattle.udt_disk.specs.declared.file.DiskFile as file
+use Rattle.udt_disk.specs.declared.disk.Disk as disk
+use Rattle.udt_model.specs.Crashes.{course_start}
 use Rattle.client_lang.specs.declared.command.Command.{Command}
-use Rattle.udt_model.specs.Histories.{IsSound}
+use Rattle.solo_store.specs.Stores.{HoldsStore, IsReady, flush_of}
+use Rattle.solo_store.specs.declared.store.Store.{Store}
+use Rattle.udt_model.specs.Histories.{HasFiles, IsSound}
 use Rattle.solo_runner.specs.Expand.{IsSoloHistory}
 use Rattle.client_lang.specs.declared.grammar.lines.ReadFault.{ReadFault}
 use Rattle.client_lang.specs.declared.grammar.lines.ReadFault.TheVariants as faults
@@ -19,6 +24,17 @@ use Rattle.client_runner.specs.declared.status.Status.{Status}
 use Rattle.client_runner.specs.declared.status.Stop.{Stop}
 use Rattle.client_runner.specs.declared.status.Stop.TheVariants.{TooLong, TooMany, BadLine, NoMemory}
 use Rattle.udt_model.specs.State.{heads_of}
+use Rattle.udt_model.specs.declared.reply.Reply.{Reply}
+use Rattle.udt_model.specs.declared.reply.Reply.TheVariants.{DroppedFault, DroppedFiles, Fault, Files, Halted}
+
+-- the reply tells that the disk failed, now or before, or that no file is left
+abbrev pub tells_trouble : Reply → Bool
+tells_trouble Fault = true
+tells_trouble DroppedFault = true
+tells_trouble (Halted n) = true
+tells_trouble (Files next) = true
+tells_trouble (DroppedFiles next) = true
+tells_trouble reply = false
 
 -- the commands of the file that stands there
 pub record IsReadAs (standing : Standing) (commands : List Command) : Type 0 where
@@ -38,12 +54,13 @@ text_of r = r.buffer.items ++ print_lines r.lines.items
 pub record IsTranscribed (commands : List Command) (r : Ready) : Type 0 where
   pub history : IsSoloHistory fresh commands r.lines.items
   pub sound : All IsSound r.lines.items
+  pub files : All HasFiles r.lines.items
   pub header : r.buffer.items ≡ print_header 0 (heads_of fresh)
   pub built : All IsBuiltLine r.lines.items
   pub room : HasRoomForLines r.buffer r.lines.items
 
 -- the text is the transcript of these bytes, and the buffer has the room to write it
-pub record IsReady (bytes : List ℕ) (r : Ready) : Type 0 where
+pub record IsReadyFor (bytes : List ℕ) (r : Ready) : Type 0 where
   pub transcript : IsTranscript bytes (text_of r)
   pub built : All IsBuiltLine r.lines.items
   pub room : HasRoomForLines r.buffer r.lines.items
@@ -52,7 +69,7 @@ pub record IsReady (bytes : List ℕ) (r : Ready) : Type 0 where
 pub record IsTried (standing : Standing) (r : Ready) : Type 0 where
   pub bytes : List ℕ
   pub stands : IsStanding standing (Some bytes)
-  pub ready : IsReady bytes r
+  pub ready : IsReadyFor bytes r
 
 -- the stop of a fault of reading
 abbrev pub stop_of_read : ReadFault → Stop
@@ -73,3 +90,9 @@ IsReadyStop bytes stop = ⊥
 abbrev pub IsMessage : List ℕ → Stop → Status → List ℕ → Type 0
 IsMessage path stop status text =
     ((status ≡ status_of stop) × (text ≡ message path stop)) ⊎ (TakesMemory stop × (status ≡ status_of NoMemory) × (text ≡ message path NoMemory))
+
+-- a store that no event was asked of holds the state of a new one
+pub record HoldsFresh {D F : Type 0} (d : disk.Ghosts D F) (f : file.Ghosts F) (store : Store D F f) : Type 0 where
+  pub ready : IsReady d f store
+  pub idle : flush_of store ≡ None
+  pub holds : HoldsStore d f store fresh (course_start fresh)

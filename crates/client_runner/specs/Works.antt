@@ -1,5 +1,5 @@
 -- What the commands print, the status that they mean, and what they leave of the folder.
-use Rattle.std.specs.Prelude.{◌≡◌, ℕ, ◌⊎◌, List, [], ◌∷◌, length, codes, Some, None}
+use Rattle.std.specs.Prelude.{◌≡◌, ℕ, ◌⊎◌, List, [], ◌∷◌, length, codes, Some}
 use Rattle.std.specs.Fmt.{decimal}
 use Rattle.udt_disk.specs.Causes.{Rose}
 use Rattle.udt_disk.specs.Opens.{Standing, IsStanding}
@@ -9,10 +9,8 @@ use Rattle.client_runner.specs.Commands.{IsHelpCommand, IsVersionCommand, IsTryC
 use Rattle.client_lang.specs.Grammar.{IsFile}
 use Rattle.client_lang.specs.Print.{line_of}
 use Rattle.udt_model.specs.declared.line.FamilyHead.{FamilyHead}
-use Rattle.udt_model.specs.declared.line.Line.{Line}
-use Rattle.udt_model.specs.State.{State}
-use Rattle.udt_model.specs.Histories.{Point, Leads, start}
-use Rattle.solo_runner.specs.Expand.{IsRunHistory}
+use Rattle.client_lang.specs.Transcripts.{Transcript}
+use Rattle.solo_runner.specs.Expand.{IsAskedRun}
 use Rattle.client_runner.specs.Inits.{IsInitLeft}
 use Rattle.client_runner.specs.Left.{ContinuesFrom, Crashes, IsMadeAt, IsUnopened, StaysAsItWas, status_of_lines}
 use Rattle.client_runner.specs.Stops.{IsFileStop, IsInitStop, IsOpenStop, message, status_of}
@@ -21,7 +19,7 @@ use Rattle.client_runner.specs.declared.words.TheConstants.{HELP, VERSION}
 use Rattle.client_runner.specs.declared.status.Status.{Status}
 use Rattle.client_runner.specs.declared.status.Status.TheVariants as statuses
 use Rattle.client_runner.specs.declared.status.Stop.{Stop}
-use Rattle.client_runner.specs.declared.status.Stop.TheVariants.{BadWords, NoStore, BadManifest, BadLog, DiskFault, NoMemory}
+use Rattle.client_runner.specs.declared.status.Stop.TheVariants.{BadWords, NoStore, BadManifest, MissingTable, BadTable, BadLog, DiskFault, NoMemory}
 
 -- ---- what a command is to print, and its status
 
@@ -67,19 +65,16 @@ IsInitWork old new crash before now families status text = IsMadeWork old new cr
 
 -- ---- run
 
--- The text is the transcript of the file from a state that the folder stood for, the status tells whether the disk failed, and the
--- folder keeps the lines.
+-- The text is a transcript of the file, the status tells whether the disk failed, and the transcript goes on from each state that the
+-- folder stood for, and is kept there.
 pub record IsRunDone (standing : Standing) (old new : Holding) (crash : Crashes) (before now : ℕ) (status : Status) (text : List ℕ) : Type 0 where
   pub bytes : List ℕ
   pub stands : IsStanding standing (Some bytes)
-  pub m : State
-  pub works : m.halted ≡ None
-  pub lines : List Line
-  pub end : Point
-  pub transcript : IsRunTranscript bytes text m lines end
-  pub status_is : status ≡ status_of_lines lines
+  pub t : Transcript
+  pub transcript : IsRunTranscript bytes text t
+  pub status_is : status ≡ status_of_lines t.lines
   pub cause : status ≡ statuses.DiskFault → Rose before now
-  pub left : ContinuesFrom old new crash.now m lines end
+  pub left : ContinuesFrom old new crash.now t
 
 -- a command file stands there
 pub record IsRead (standing : Standing) : Type 0 where
@@ -101,18 +96,17 @@ Spells standing commands = (bytes : List ℕ) × IsStanding standing (Some bytes
 pub record IsCutShort (IsAsked : List Command → Type 0) (old new : Holding) (crash : Crashes) : Type 0 where
   pub commands : List Command
   pub asked : IsAsked commands
-  pub m : State
-  pub lines : List Line
-  pub end : Point
-  pub legal : Leads (start m) lines end
-  pub all_or_none : (lines ≡ []) ⊎ IsRunHistory m commands lines end
-  pub left : ContinuesFrom old new crash.now m lines end
+  pub t : Transcript
+  pub all_or_none : (t.lines ≡ []) ⊎ IsAskedRun commands t.lines
+  pub left : ContinuesFrom old new crash.now t
 
 -- What is left of the folder, for this stop. One that is refused is as it was. Where the file isn't read the folder isn't opened.
 -- Where the disk failed it wasn't opened, or is as it was; where memory ran out it may go on.
 abbrev pub IsRunLeft : (List Command → Type 0) → Holding → Holding → Crashes → Stop → Type 0
 IsRunLeft IsAsked old new crash NoStore = StaysAsItWas old new crash
 IsRunLeft IsAsked old new crash (BadManifest at) = StaysAsItWas old new crash
+IsRunLeft IsAsked old new crash (MissingTable n) = StaysAsItWas old new crash
+IsRunLeft IsAsked old new crash (BadTable n) = StaysAsItWas old new crash
 IsRunLeft IsAsked old new crash (BadLog n at) = StaysAsItWas old new crash
 IsRunLeft IsAsked old new crash NoMemory = IsUnopened old new crash ⊎ (StaysAsItWas old new crash ⊎ IsCutShort IsAsked old new crash)
 IsRunLeft IsAsked old new crash DiskFault = IsUnopened old new crash ⊎ StaysAsItWas old new crash

@@ -1,19 +1,17 @@
 //! The command `try`: the commands of a file over a new store in memory.
-ghost use Rattle.std.specs.Prelude.{◌≡◌, ◌*◌, ◌-◌, ◌^◌, ◌<◌, ℕ, All, IsTrue, length, vec_capacity, IfOk, IfErr};
+ghost use Rattle.std.specs.Prelude.{◌≡◌, ◌*◌, ◌-◌, ◌^◌, ◌<◌, All, length, IfOk, IfErr};
 ghost use Rattle.std.specs.List.{list_any};
 ghost use Rattle.client_lang.specs.Print.{IsBuiltCommand};
 ghost use Rattle.client_lang.specs.Stamps.{IsStampedCommand};
 ghost use Rattle.engine_laws.specs.Standing.{FolderStands};
-ghost use Rattle.manifest.specs.Heads.{AreNew};
 ghost use Rattle.recovery.specs.Tables.{ReadsAsTable};
-ghost use Rattle.udt_disk.specs.Moments.{IsClean};
+ghost use Rattle.udt_disk.specs.Crash.{Image};
+ghost use Rattle.udt_disk.specs.declared.name.FileName.{FileName as NameOf};
 ghost use Rattle.udt_model.specs.State.{heads_of};
 ghost use Rattle.client_runner.specs.Hosts.{UsesFile};
-ghost use Rattle.client_runner.specs.Ready.{IsTranscribed, IsTried, tells_trouble as reply_tells};
+ghost use Rattle.client_runner.specs.Ready.{HoldsFresh, IsTranscribed, IsTried, tells_trouble as reply_tells};
 ghost use Rattle.client_runner.specs.Stops.{IsFileStop};
 ghost use Rattle.solo_runner.specs.Transcripts.{fresh};
-ghost use Rattle.solo_store.specs.Stores.{IsReady, flush_of};
-ghost use Rattle.client_runner.specs.Runs.{HoldsFresh};
 
 use crate::output::{Ready, header_of, ready_of};
 use crate::reading::read_commands;
@@ -25,7 +23,7 @@ use solo_runner::{Ran, run};
 use solo_store::Store;
 use std::alloc::{AllocError, Global};
 use ts_key::{Form, Name, NameFault, NoMemory, Ts};
-use udt_disk::{Host, MemDisk, Outcome, Text};
+use udt_disk::{Disk, DiskFile, Host, MemDisk, MemFile, Outcome, Text};
 use udt_model::{FamilyHead, Items, Line, Reply};
 
 /// The families of a store in memory: the one family `d`, which keeps its timestamps, with floor 0.
@@ -65,7 +63,7 @@ fn fresh_folder(alloc: Global, head: &Head) -> Result<MemDisk, NoMemory>
 fn store_in(alloc: Global, disk: MemDisk) -> Result<Store<MemDisk>, NoMemory>
     requires stands { FolderStands ReadsAsTable (⟦<MemDisk as Disk>⟧.stands disk) fresh }
     requires clean { (n : NameOf) (c : Image) → ⟦<MemDisk as Disk>⟧.may_leave disk n c → c ≡ ⟦<MemDisk as Disk>⟧.stands disk n }
-    ensures { IfOk result HoldsFresh }
+    ensures { IfOk result (HoldsFresh ⟦<MemDisk as Disk>⟧ ⟦<MemFile as DiskFile>⟧) }
 {
     let Ok(parts) = open_store(alloc, disk) else {
         return Err(AllocError);

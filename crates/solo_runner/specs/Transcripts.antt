@@ -4,9 +4,10 @@ use Rattle.ts_key.specs.declared.version.Form.TheVariants.{Persist}
 use Rattle.client_lang.specs.declared.command.Command.{Command}
 use Rattle.udt_model.specs.declared.line.Line.{Line}
 use Rattle.udt_model.specs.State.{State, unflushed, heads_of}
-use Rattle.udt_model.specs.Histories.{HasFiles, IsSound, Point}
-use Rattle.solo_runner.specs.Expand.{IsSoloHistory, IsRunHistory}
+use Rattle.udt_model.specs.Histories.{HasFiles, IsSound}
+use Rattle.solo_runner.specs.Expand.{IsAskedRun, IsSoloHistory}
 use Rattle.client_lang.specs.Print.{print_header, print_lines}
+use Rattle.client_lang.specs.Transcripts.{Transcript, print_transcript}
 use Rattle.client_lang.specs.Grammar.{IsFile}
 
 -- the one family d, which keeps its timestamps, at floor 0, and no version
@@ -25,11 +26,11 @@ pub record IsTranscript (file text : List ℕ) : Type 0 where
   pub files : All HasFiles lines
   pub printed : text ≡ print_header 0 (heads_of fresh) ++ print_lines lines
 
--- The file spells these commands and no others, and the text is the header and the printed lines of a legal history of them from
--- the state m to this end, with the runner's sync last.
-pub record IsRunTranscript (file text : List ℕ) (m : State) (lines : List Line) (end : Point) : Type 0 where
+-- The file spells these commands and no others, and the text is that of a transcript whose lines are those of the commands, each done
+-- once and in order, with the runner's sync last.
+pub record IsRunTranscript (file text : List ℕ) (t : Transcript) : Type 0 where
   pub commands : List Command
   pub spelled : IsFile file commands
   pub only : (other : List Command) → IsFile file other → other ≡ commands
-  pub history : IsRunHistory m commands lines end
-  pub printed : text ≡ print_header m.last.0 (heads_of m) ++ print_lines lines
+  pub asked : IsAskedRun commands t.lines
+  pub printed : text ≡ print_transcript t

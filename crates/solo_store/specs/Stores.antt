@@ -45,6 +45,10 @@ module _ {D F : Type 0} {f : file.Ghosts F} where
   abbrev pub engine_of : Store D F f → Engine D F f
   engine_of store = store.engine
 
+  -- the number of the event under which the disk failed
+  abbrev pub halted_of : Store D F f → Option ℕ
+  halted_of store = store.halted
+
   abbrev pub now_of : Store D F f → SuperVersion
   now_of store = arc_value store.version
 
