@@ -73,6 +73,8 @@ init_said old new crash before now families stop cause left status text (inr wan
 
 wanted_left : (IsAsked : List Command → Type 0) (old new : Holding) (crash : Crashes) (stop : Stop) → TakesMemory stop → IsRunLeft IsAsked old new crash stop → IsRunLeft IsAsked old new crash NoMemory
 wanted_left IsAsked old new crash (BadManifest at) takes h = inr (inl h)
+wanted_left IsAsked old new crash (MissingTable n) takes h = inr (inl h)
+wanted_left IsAsked old new crash (BadTable n) takes h = inr (inl h)
 wanted_left IsAsked old new crash (BadLog n at) takes h = inr (inl h)
 wanted_left IsAsked old new crash NoMemory takes h = h
 wanted_left IsAsked old new crash NoFile takes h = inl h
@@ -87,36 +89,31 @@ run_said standing old new crash before now file stop s status text (inl said) = 
 run_said standing old new crash before now file stop s status text (inr want) = inr (record { stop = NoMemory; cause = inl tt; status_is = want.1; text_is = want.2; left = wanted_left (Spells standing) old new crash stop want.0 s.left })
 
 -- the disk failed where a line tells it
-fault_rose : (before now : ℕ) (m : State) (lines : List Line) (end : Point) (status : Status) → All IsBuiltLine lines → m.halted ≡ None → Leads (start m) lines end → AreSoundUnless before now lines → status ≡ status_of_lines lines → status ≡ statuses.DiskFault → Rose before now
-fault_rose before now m lines end status built works legal (inr rose) e fault = rose
-fault_rose before now m lines end status built works legal (inl sound) e fault =
-    let none : list_any (λ l. tells_fault l.reply) lines ≡ false = none_told (start m) end lines refl built works legal sound in
-    absurd (cc (rw none at (sym e ∙ fault)))
+fault_rose : (before now : ℕ) (lines : List Line) (status : Status) → AreQuietUnless before now lines → status ≡ status_of_lines lines → status ≡ statuses.DiskFault → Rose before now
+fault_rose before now lines status (inr rose) e fault = rose
+fault_rose before now lines status (inl quiet) e fault = absurd (cc (rw (none_any (λ (l : Line). tells_fault l.reply) lines quiet) at (sym e ∙ fault)))
 
-text_is : (r : Ready) (header : List ℕ) (lines : List Line) → r.buffer.items ≡ header → r.lines.items ≡ lines → text_of r ≡ header ++ print_lines lines
-text_is r header lines h l = ap (λ (t : List ℕ). t ++ print_lines r.lines.items) h ∙ ap (λ (ls : List Line). header ++ print_lines ls) l
+text_is : (r : Ready) (t : Transcript) → r.buffer.items ≡ print_header t.last t.heads → r.lines.items ≡ t.lines → text_of r ≡ print_transcript t
+text_is r t h l = ap (λ (front : List ℕ). front ++ print_lines r.lines.items) h ∙ ap (λ (ls : List Line). print_header t.last t.heads ++ print_lines ls) l
 
 pub run_told : (standing : Standing) (old new : Holding) (was leaves : LeavesByName) (before now : ℕ) (file : List ℕ) (r : Ready) (status : Status) → IsRunFrom standing old new leaves before now r → status ≡ status_of_lines r.lines.items
     → IsRunWork standing old new (crashes was leaves) before now file status (text_of r)
 run_told standing old new was leaves before now file r status from e =
     let run = from.run in
-    let lines_are : status ≡ status_of_lines run.lines = e ∙ ap status_of_lines run.waits.lines_are in
+    let lines_are : status ≡ status_of_lines run.t.lines = e ∙ ap status_of_lines run.waits.lines_are in
     inl (record {
       bytes = from.read.bytes;
       stands = from.read.stands;
-      m = run.m;
-      works = run.works;
-      lines = run.lines;
-      end = run.end;
+      t = run.t;
       transcript = record {
         commands = from.commands;
         spelled = from.read.spelled;
         only = from.read.only;
-        history = run.history;
-        printed = text_is r (print_header run.m.last.0 (heads_of run.m)) run.lines run.waits.header_is run.waits.lines_are;
+        asked = run.asked;
+        printed = text_is r run.t run.waits.header_is run.waits.lines_are;
       };
       status_is = lines_are;
-      cause = fault_rose before now run.m run.lines run.end status (subst (λ (ls : List Line). All IsBuiltLine ls) run.waits.lines_are run.waits.built) run.works run.history.legal run.sound lines_are;
+      cause = fault_rose before now run.t.lines status run.quiet lines_are;
       left = run.left;
     })
 

@@ -10,7 +10,7 @@ use Rattle.udt_disk.specs.declared.disk.Disk as disk
 use Rattle.udt_model.specs.declared.line.Line.{Line}
 use Rattle.client_runner.specs.Left.{LeavesByName}
 use Rattle.udt_disk.specs.Moments.{IsClean}
-use Rattle.solo_runner.specs.Solo.{AreSoundUnless}
+use Rattle.client_runner.specs.Runs.{AreQuietUnless}
 
 -- ---- counts
 
@@ -18,9 +18,9 @@ use Rattle.solo_runner.specs.Solo.{AreSoundUnless}
 pub rose_with : (before opened now start end : ℕ) → opened ≡ before → now ≡ plus_faults opened end → Rose start end → Rose before now
 rose_with before opened now start end kept is rose = omega (arith, kept, is, rose)
 
-pub sound_with : (before opened now start end : ℕ) (lines : List Line) → opened ≡ before → now ≡ plus_faults opened end → AreSoundUnless start end lines → AreSoundUnless before now lines
-sound_with before opened now start end lines kept is (inl sound) = inl sound
-sound_with before opened now start end lines kept is (inr rose) = inr (rose_with before opened now start end kept is rose)
+pub quiet_with : (before opened now start end : ℕ) (lines : List Line) → opened ≡ before → now ≡ plus_faults opened end → AreQuietUnless start end lines → AreQuietUnless before now lines
+quiet_with before opened now start end lines kept is (inl quiet) = inl quiet
+quiet_with before opened now start end lines kept is (inr rose) = inr (rose_with before opened now start end kept is rose)
 
 -- ---- a folder that was opened, and given back
 

@@ -5,24 +5,29 @@ use Rattle.udt_disk.specs.Crash.{NoMore}
 use Rattle.udt_disk.specs.Opens.{Standing}
 use Rattle.udt_disk.specs.OpensFolder.{Holding, IsNoFolder}
 use Rattle.udt_disk.specs.declared.name.FileName.{FileName}
+use Rattle.udt_disk.specs.Causes.{Rose}
 use Rattle.udt_model.specs.declared.line.Line.{Line}
 use Rattle.client_lang.specs.declared.command.Command.{Command}
 use Rattle.client_runner.specs.Works.{IsRunLeft, Spells}
 use Rattle.client_runner.specs.HostRuns.{IsRunAt, IsRunFrom, IsStoppedAt, IsStoppedFrom}
 use Rattle.client_runner.specs.Left.{LeavesByName, Crashes, crashes, IsUnopened, StaysAsItWas, ContinuesFrom}
 use Rattle.client_runner.specs.Ready.{IsReadAs}
-use Rattle.solo_runner.specs.Solo.{AreSoundUnless}
+use Rattle.client_runner.specs.Runs.{AreQuietUnless}
 use Rattle.client_runner.specs.Stops.{IsFileStop, IsOpenStop}
 use Rattle.client_runner.specs.declared.output.Ready.{Ready}
 use Rattle.client_runner.specs.declared.status.Stop.{Stop}
 use Rattle.client_runner.specs.declared.status.Stop.TheVariants as stops
-use Rattle.solo_runner.proofs.SoloLemmas.{rose_earlier}
+
+pub rose_earlier : (a b c : ℕ) → a ≤ b → Rose b c → Rose a c
+rose_earlier a b c le rose = grind arith
 
 -- what was counted when the folder was asked for is no less than before the file was read
 stop_earlier : (holding : Holding) (first before now : ℕ) (stop : Stop) → first ≤ before → IsOpenStop holding before now stop → IsOpenStop holding first now stop
 stop_earlier holding first before now stops.DiskFault le cause = rose_earlier first before now le cause
 stop_earlier holding first before now stops.NoStore le cause = cause
 stop_earlier holding first before now (stops.BadManifest at) le cause = cause
+stop_earlier holding first before now (stops.MissingTable number) le cause = cause
+stop_earlier holding first before now (stops.BadTable number) le cause = cause
 stop_earlier holding first before now (stops.BadLog number at) le cause = cause
 stop_earlier holding first before now stops.NoMemory le cause = tt
 stop_earlier holding first before now stops.BadWords le cause = absurd cause
@@ -33,9 +38,9 @@ stop_earlier holding first before now (stops.BadLine n) le cause = absurd cause
 stop_earlier holding first before now stops.SourceFault le cause = absurd cause
 stop_earlier holding first before now stops.StoreExists le cause = absurd cause
 
-sound_earlier : (first before now : ℕ) (lines : List Line) → first ≤ before → AreSoundUnless before now lines → AreSoundUnless first now lines
-sound_earlier first before now lines le (inl sound) = inl sound
-sound_earlier first before now lines le (inr rose) = inr (rose_earlier first before now le rose)
+quiet_earlier : (first before now : ℕ) (lines : List Line) → first ≤ before → AreQuietUnless before now lines → AreQuietUnless first now lines
+quiet_earlier first before now lines le (inl quiet) = inl quiet
+quiet_earlier first before now lines le (inr rose) = inr (rose_earlier first before now le rose)
 
 pub run_from : (standing : Standing) (old mid new : Holding) (leaves : LeavesByName) (first before now : ℕ) (commands : List Command) (r : Ready) → IsReadAs standing commands → mid ≡ old → first ≤ before
     → IsRunAt mid new leaves before now commands r → IsRunFrom standing old new leaves first now r
@@ -43,14 +48,11 @@ run_from standing old mid new leaves first before now commands r read same le ru
   commands = commands;
   read = read;
   run = record {
-    m = run.m;
-    works = run.works;
-    lines = run.lines;
-    end = run.end;
-    history = run.history;
+    t = run.t;
+    asked = run.asked;
     waits = run.waits;
-    sound = sound_earlier first before now run.lines le run.sound;
-    left = subst (λ (h : Holding). ContinuesFrom h new leaves run.m run.lines run.end) same run.left;
+    quiet = quiet_earlier first before now run.t.lines le run.quiet;
+    left = subst (λ (h : Holding). ContinuesFrom h new leaves run.t) same run.left;
   };
 }
 
@@ -68,11 +70,13 @@ as_it_was_from (Some (Some folder)) new was between now earlier h = h
 left_from : (P Q : List Command → Type 0) → ((asked : List Command) → P asked → Q asked) → (old new : Holding) (was between now : LeavesByName) → ((n : FileName) → NoMore (was n) (between n)) → (stop : Stop) → IsRunLeft P old new (crashes between now) stop → IsRunLeft Q old new (crashes was now) stop
 left_from P Q more old new was between now earlier stops.NoStore h = as_it_was_from old new was between now earlier h
 left_from P Q more old new was between now earlier (stops.BadManifest at) h = as_it_was_from old new was between now earlier h
+left_from P Q more old new was between now earlier (stops.MissingTable n) h = as_it_was_from old new was between now earlier h
+left_from P Q more old new was between now earlier (stops.BadTable n) h = as_it_was_from old new was between now earlier h
 left_from P Q more old new was between now earlier (stops.BadLog n at) h = as_it_was_from old new was between now earlier h
 left_from P Q more old new was between now earlier stops.NoMemory (inl h) = inl (unopened_from old old new was between now refl earlier h)
 left_from P Q more old new was between now earlier stops.NoMemory (inr (inl h)) = inr (inl (as_it_was_from old new was between now earlier h))
 left_from P Q more old new was between now earlier stops.NoMemory (inr (inr h)) =
-    inr (inr (record { commands = h.commands; asked = more h.commands h.asked; m = h.m; lines = h.lines; end = h.end; legal = h.legal; all_or_none = h.all_or_none; left = h.left }))
+    inr (inr (record { commands = h.commands; asked = more h.commands h.asked; t = h.t; all_or_none = h.all_or_none; left = h.left }))
 left_from P Q more old new was between now earlier stops.DiskFault (inl h) = inl (unopened_from old old new was between now refl earlier h)
 left_from P Q more old new was between now earlier stops.DiskFault (inr h) = inr (as_it_was_from old new was between now earlier h)
 left_from P Q more old new was between now earlier stops.StoreExists h = unopened_from old old new was between now refl earlier h

@@ -1,7 +1,8 @@
--- Where no line of a run tells a fault, all is synced at its end.
-use Rattle.std.proofs.Common.{◌≡◌, inl, inr, ℕ, ◌+◌, Bool, true, false, if◌then◌else◌, ◌||◌, List, [], ◌∷◌, ◌++◌, refl, sym, ap, ◌∙◌, subst}
-use Rattle.std.specs.Prelude.{Some, None, Option}
+-- Where no line of a run tells a fault, the runner's sync is done.
+use Rattle.std.proofs.Common.{◌≡◌, ◌⊎◌, inl, inr, ℕ, ◌<◌, ◌≤◌, Bool, true, false, if◌then◌else◌, ◌||◌, List, [], ◌∷◌, ◌++◌, Option, Some, None, refl, sym, ap, ◌∙◌, subst, arith}
+use Rattle.std.specs.Prelude.{All}
 use Rattle.std.specs.List.{list_any}
+use Rattle.std.proofs.lemmas.List.Elements.{All-head, All-tail}
 use Rattle.std.proofs.lemmas.List.Folds.{list_any-append}
 use Rattle.udt_model.specs.declared.event.Event.{Event}
 use Rattle.udt_model.specs.declared.event.Event.TheVariants.{Sync}
@@ -9,22 +10,25 @@ use Rattle.udt_model.specs.declared.reply.Reply.{Reply}
 use Rattle.udt_model.specs.declared.reply.Reply.TheVariants.{Done, Halted}
 use Rattle.udt_model.specs.declared.line.Line.{Line}
 use Rattle.udt_model.specs.declared.line.Who.TheVariants.{Client}
+use Rattle.udt_model.specs.Acts.Act.{sync_all}
+use Rattle.udt_model.specs.Lines.{IsReply}
+use Rattle.udt_model.specs.Names.{Names}
 use Rattle.udt_model.specs.State.{State}
-use Rattle.solo_runner.specs.Named.{IsReply, after}
-use Rattle.udt_model.specs.Histories.{Point, start, IsLegal, behind, Leads, own_lines}
-use Rattle.udt_model.specs.Crashes.{Course, course_start, course_behind}
-use Rattle.solo_runner.specs.Named.{course_after}
-use Rattle.solo_runner.proofs.Naming.{after_agrees, reply_agrees_back}
+use Rattle.udt_model.specs.Steps.{IsFault, IsOutOfFiles, IsReplyTo, IsTold}
+use Rattle.udt_model.specs.Histories.{IsLegal, IsSound, Leads, Point, behind, own_lines, start}
 use Rattle.client_lang.specs.declared.command.Command.{Command}
-use Rattle.client_lang.specs.Print.{IsBuilt}
-use Rattle.solo_runner.specs.Expand.{IsRunHistory}
+use Rattle.solo_runner.specs.Expand.{IsAskedRun}
+use Rattle.solo_runner.specs.Sessions.{IsUnhalted}
+use Rattle.solo_runner.proofs.Histories.{height_kept}
 use Rattle.client_runner.specs.Left.{status_of_lines, tells_fault}
 use Rattle.client_runner.specs.declared.status.Status.TheVariants as statuses
-use Rattle.solo_runner.proofs.SoloLemmas.{course_push, height_kept}
 
--- where the lines tell no fault, the state works at their end and all of it is synced
-abbrev pub Settles : State → List Line → Point → Type 0
-Settles m lines end = status_of_lines lines ≡ statuses.Done → (end.state.halted ≡ None) × ((course_behind (start m) (course_start m) lines).synced ≡ end.state.last.0)
+-- ---- lines that tell no fault
+
+-- none of them does
+pub none_any : (p : Line → Bool) (lines : List Line) → All (λ (l : Line). p l ≡ false) lines → list_any p lines ≡ false
+none_any p [] h = refl
+none_any p (l ∷ lines) h = rw (All-head (λ (x : Line). p x ≡ false) l lines h) (none_any p lines (All-tail (λ (x : Line). p x ≡ false) l lines h))
 
 none_tells : (told : Bool) → (if told then statuses.DiskFault else statuses.Done) ≡ statuses.Done → told ≡ false
 none_tells true e = cc e
@@ -42,6 +46,8 @@ last_none : (lines : List Line) (line : Line) → list_any (λ (l : Line). tells
 last_none lines line e =
     second_none (list_any (λ (l : Line). tells_fault l.reply) lines) (tells_fault line.reply) (sym (list_any-append (λ (l : Line). tells_fault l.reply) lines (line ∷ [])) ∙ e)
 
+-- ---- the last line
+
 -- lines and one more lead over the point between them
 record Splits (p : Point) (lines : List Line) (line : Line) (end : Point) : Type 0 where
   pub mid : Point
@@ -56,35 +62,41 @@ splits : (p : Point) (lines : List Line) (line : Line) (end : Point) → Leads p
 splits p [] line end h = record { mid = p; before = refl; legal = h.0; end_is = h.1 }
 splits p (l ∷ lines) line end h = splits_more p l lines line end h.0 (splits (behind p l) lines line end h.1)
 
--- a sync of a store that works, which tells no fault, is done
-sync_done : (halted : Option ℕ) (m : State) (reply : Reply) → m.halted ≡ halted → IsReply m Sync reply → tells_fault reply ≡ false → (halted ≡ None) × (reply ≡ Done)
-sync_done halted m reply is (inr (inl want)) none = absurd (cc want.1)
-sync_done halted m reply is (inr (inr fault)) none = absurd (cc (ap tells_fault fault.0, none))
-sync_done None m reply is (inl told) none = (refl, rw is at told)
-sync_done (Some n) m reply is (inl told) none = absurd (let e : reply ≡ Halted n = rw is at told in cc (ap tells_fault e, none))
+-- what the model tells a sync, where that is no fault, is that it is done
+told_done : (halted : Option ℕ) (m : State) (reply : Reply) → m.halted ≡ halted → IsTold m sync_all reply → tells_fault reply ≡ false → reply ≡ Done
+told_done None m reply is told none = rw is at told
+told_done (Some n) m reply is told none = absurd (let e : reply ≡ Halted n = rw is at told in cc (ap tells_fault e, none))
 
--- the runner's sync settles the lines before it
-settled_by : (m : State) (lines : List Line) (line : Line) (end : Point) → Leads (start m) (lines ++ line ∷ []) end → line.event ≡ Sync → tells_fault line.reply ≡ false
-    → (end.state.halted ≡ None) × ((course_behind (start m) (course_start m) (lines ++ line ∷ [])).synced ≡ end.state.last.0)
-settled_by m lines line end leads event none =
-    let s = splits (start m) lines line end leads in
-    let built : IsBuilt line.event = subst IsBuilt (sym event) tt in
-    let low : s.mid.height ≡ 0 = height_kept (start m) s.mid lines s.before in
-    let reply : IsReply s.mid.state Sync line.reply =
-    subst (λ (e : Event). IsReply s.mid.state e line.reply) event (reply_agrees_back s.mid.height s.mid.state (s.mid.names line.who) line.event line.reply low built s.legal.reply) in
-    let done = sync_done s.mid.state.halted s.mid.state line.reply refl reply none in
-    let state : end.state ≡ s.mid.state =
-    ap (λ (p : Point). p.state) s.end_is ∙ after_agrees s.mid.state (s.mid.names line.who) (s.mid.number + 1) line.event line.reply built ∙ ap (λ (e : Event). after s.mid.state (s.mid.number + 1) e line.reply) event ∙ ap (λ (r : Reply). after s.mid.state (s.mid.number + 1) Sync r) done.1 in
-    let c : Course = course_behind (start m) (course_start m) lines in
-    let course : course_behind (start m) (course_start m) (lines ++ line ∷ []) ≡ record c { synced = s.mid.state.last.0 } =
-    course_push (start m) s.mid (course_start m) lines line built s.before
-    ∙ ap (λ (e : Event). course_after s.mid.state (s.mid.number + 1) c e line.reply) event ∙ ap (λ (r : Reply). course_after s.mid.state (s.mid.number + 1) c Sync r) done.1 in
-    (ap (λ (x : State). x.halted) state ∙ done.0, ap (λ (x : Course). x.synced) course ∙ ap (λ (x : State). x.last.0) (sym state))
+reply_done : (m : State) (reply : Reply) → IsReplyTo m sync_all reply → tells_fault reply ≡ false → reply ≡ Done
+reply_done m reply to none =
+    elim to.is [
+      | inl told ↦ told_done m.halted m reply refl told none
+      | inr (inl fault) ↦ absurd (cc (ap tells_fault fault.0, none))
+      | inr (inr files) ↦ absurd files
+    ]
 
-pub session_settles : (m : State) (commands : List Command) (lines : List Line) (end : Point) → IsRunHistory m commands lines end → Settles m lines end
-session_settles m commands lines end h done =
+-- so it is of a legal sync of a history that isn't too long
+sync_done : (height : ℕ) (m : State) (names : Names) (reply : Reply) → height ≡ 0 → IsReply height m names Sync reply → tells_fault reply ≡ false → reply ≡ Done
+sync_done height m names reply low (inl to) none = reply_done m reply to none
+sync_done height m names reply low (inr (running, inl want)) none = absurd (cc want.1)
+sync_done height m names reply low (inr (running, inr long)) none = let far = long.2 in absurd (omega (arith, low, far))
+
+-- the runner's sync is done where no line tells a fault
+pub session_syncs : (m : State) (commands : List Command) (lines : List Line) (end : Point) → Leads (start m) lines end → (asked : IsAskedRun commands lines) → status_of_lines lines ≡ statuses.Done → asked.sync.reply ≡ Done
+session_syncs m commands lines end legal asked done =
     let before : List Line = own_lines (Client 1) lines in
-    let leads : Leads (start m) (before ++ h.sync ∷ []) end = subst (λ (ls : List Line). Leads (start m) ls end) h.rest h.legal in
-    let none : list_any (λ (l : Line). tells_fault l.reply) (before ++ h.sync ∷ []) ≡ false = ap (list_any (λ (l : Line). tells_fault l.reply)) (sym h.rest) ∙ no_line_tells lines done in
-    let both = settled_by m before h.sync end leads h.is_sync (last_none before h.sync none) in
-    (both.0, ap (λ (ls : List Line). (course_behind (start m) (course_start m) ls).synced) h.rest ∙ both.1)
+    let leads : Leads (start m) (before ++ asked.sync ∷ []) end = subst (λ (ls : List Line). Leads (start m) ls end) asked.rest legal in
+    let none : list_any (λ (l : Line). tells_fault l.reply) (before ++ asked.sync ∷ []) ≡ false = ap (list_any (λ (l : Line). tells_fault l.reply)) (sym asked.rest) ∙ no_line_tells lines done in
+    let s = splits (start m) before asked.sync end leads in
+    let low : s.mid.height ≡ 0 = height_kept (start m) s.mid before s.before in
+    let reply : IsReply s.mid.height s.mid.state (s.mid.names asked.sync.who) Sync asked.sync.reply =
+    subst (λ (e : Event). IsReply s.mid.height s.mid.state (s.mid.names asked.sync.who) e asked.sync.reply) asked.is_sync s.legal.reply in
+    sync_done s.mid.height s.mid.state (s.mid.names asked.sync.who) asked.sync.reply low reply (last_none before asked.sync none)
+
+-- ---- lines that tell no fault, unless the count rose
+
+quiet_reply : (reply : Reply) → (l : Line) → l.reply ≡ reply → IsSound l → IsUnhalted l → tells_fault l.reply ≡ false
+quiet_reply reply l is sound unhalted = grind (arith, is, sound, unhalted)
+
+pub all_quiet : (lines : List Line) → All IsSound lines → All IsUnhalted lines → All (λ (l : Line). tells_fault l.reply ≡ false) lines
+all_quiet lines sound unhalted = λ k l lt. quiet_reply l.reply l refl (sound k l lt) (unhalted k l lt)
