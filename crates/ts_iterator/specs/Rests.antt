@@ -11,7 +11,7 @@ use Rattle.ts_iterator.specs.declared.scan.Scan.{Scan}
 use Rattle.ts_iterator.specs.declared.scan.Way.{Way}
 use Rattle.ts_iterator.specs.declared.scan.Way.TheVariants as ways
 use Rattle.ts_iterator.specs.Helds.{item_held_by}
-use Rattle.ts_iterator.specs.Rows.{least_key, rows_down, rows_up}
+use Rattle.ts_iterator.specs.Rows.{is_passed, least_key, rows_down, rows_up}
 use Rattle.ts_iterator.specs.Sources.{source_walk_place, walked_sources}
 use Rattle.ts_iterator.specs.Walks.{ahead, back_from}
 
@@ -25,10 +25,11 @@ rest_down_from items x best place = rows_down x.floor (least_key x.low) x.high x
 abbrev pub rest_down : {C : Type 0} → (C → List Item) → (C → ℕ) → Down C → List Row
 rest_down items place x = rest_down_from items x (item_held_by x.best) (place x.cursor)
 
--- it stands at this version, which isn't below the lower bound
-pub record StandsIn {C : Type 0} (items : C → List Item) (place : C → ℕ) (x : Down C) (v : Item) : Type 0 where
+-- it stands at this version, which isn't below the lower bound, and which gives nothing or not
+pub record StandsIn {C : Type 0} (items : C → List Item) (place : C → ℕ) (x : Down C) (v : Item) (passed : Bool) : Type 0 where
   pub at : Some v ≡ standing (items x.cursor) (place x.cursor)
   pub inside : is_below v.sort_key.key (least_key x.low) ≡ false
+  pub is : is_passed x.high x.t.0 x.s.0 v ≡ passed
 
 abbrev pub rest_of : Way → List Row
 rest_of (ways.Up x) = rest_up (λ m. walked_sources m.children.items) (λ m. source_walk_place m.before m.children.items) x

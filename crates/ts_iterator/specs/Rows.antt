@@ -78,7 +78,11 @@ abbrev pub given_before : Ts → Option Item → Item → List Row
 given_before floor None v = []
 given_before floor (Some b) v = if are_of_one_key b v then [] else emit floor b
 
+-- downwards, a version that gives nothing: it isn't below the upper bound, or the read doesn't see it
+abbrev pub is_passed : Option (List ℕ) → ℕ → ℕ → Item → Bool
+is_passed high t s v = is_past high v.sort_key.key || not (is_item_within t s v)
+
 -- downwards, over the versions from the greatest on, where `best` is the last one found; below the lower bound it ends
 abbrev pub rows_down : Ts → List ℕ → Option (List ℕ) → ℕ → ℕ → Option Item → List Item → List Row
 rows_down floor low high t s best [] = emit_of floor best
-rows_down floor low high t s best (v ∷ vs) = if is_below v.sort_key.key low then emit_of floor best else (if is_past high v.sort_key.key || not (is_item_within t s v) then rows_down floor low high t s best vs else given_before floor best v ++ rows_down floor low high t s (Some v) vs)
+rows_down floor low high t s best (v ∷ vs) = if is_below v.sort_key.key low then emit_of floor best else (if is_passed high t s v then rows_down floor low high t s best vs else given_before floor best v ++ rows_down floor low high t s (Some v) vs)

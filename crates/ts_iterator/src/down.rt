@@ -1,10 +1,10 @@
 //! A scan downwards.
-ghost use Rattle.std.specs.Prelude.{ℕ, [], ◌∷◌, ◌≡◌, ◌<◌, ◌-◌, ◌||◌, Some, true, false, not, reverse, IfOk, MatchOption, MatchResult};
+ghost use Rattle.std.specs.Prelude.{ℕ, [], ◌∷◌, ◌≡◌, ◌<◌, ◌-◌, Some, true, false, reverse, IfOk, MatchOption, MatchResult};
 ghost use Rattle.ts_key.specs.Items.{Item};
 ghost use Rattle.ts_key.specs.Lists.{below, standing};
 ghost use Rattle.ts_key.specs.Order.{sort_key_of};
-ghost use Rattle.ts_key.specs.Visible.{is_item_seen, is_item_within};
-ghost use Rattle.ts_iterator.specs.Rows.{emit_of, given_before, is_past as is_past_bound, least_key, range_rows};
+ghost use Rattle.ts_key.specs.Visible.{is_item_seen};
+ghost use Rattle.ts_iterator.specs.Rows.{emit_of, given_before, is_passed, least_key, range_rows};
 ghost use Rattle.ts_iterator.specs.Helds.{item_held_by, held_item};
 ghost use Rattle.ts_iterator.specs.Rests.{StandsIn, rest_down, rest_down_from, rows_given};
 ghost use Rattle.ts_iterator.specs.Walks.{IsLastBelow, StandsUpto, top_of};
@@ -34,8 +34,7 @@ pub(crate) struct Down<'a, C> {
 
 /// Whether the version isn't below the upper bound, or the read doesn't see it.
 fn is_passed_over(high: &Option<Key>, key: &KeyRef<'_>, t: Ts, s: Seq) -> bool
-    ensures { (v : Item) → v.sort_key ≡ sort_key_of key.now
-        → result ≡ (is_past_bound high.now v.sort_key.key || not (is_item_within t.0 s.0 v)) }
+    ensures { (v : Item) → v.sort_key ≡ sort_key_of key.now → result ≡ is_passed high.now t.0 s.0 v }
 {
     is_past(high, key.key) || !(key.ts.0 <= t.0 && key.seq.0 <= s.0)
 }
@@ -86,8 +85,7 @@ fn go_to_best<'a, C: Holding<'a>>(
     s: Seq,
 ) -> Option<Held<'a>>
     ensures same { C.items cursor.new ≡ C.items cursor.old }
-    ensures best { let v = held_item held.entry in Some v ≡ standing (C.items cursor.old) (C.place cursor.old)
-        → is_item_seen v.sort_key.key t.0 s.0 v ≡ true
+    ensures best { let v = held_item held.entry in Some v ≡ standing (C.items cursor.old) (C.place cursor.old) → is_item_seen v.sort_key.key t.0 s.0 v ≡ true
         → StandsUpto v.sort_key.key t.0 s.0 (C.items cursor.old) (C.place cursor.old) (C.place cursor.new) (item_held_by result) }
 {
     if many {
@@ -152,10 +150,10 @@ impl<'a, C: Holding<'a> + Drop> Down<'a, C> {
 
     /// Goes back past a version that gives nothing; where many of its key were passed, past all that are above the timestamp.
     fn pass_over(&mut self, key: &KeyRef<'a>)
-        ensures lower { (v : Item) → v.sort_key ≡ sort_key_of key.now → StandsIn C.items C.place self.old v → C.place self.new.cursor < C.place self.old.cursor }
-        ensures rest { (v : Item) → v.sort_key ≡ sort_key_of key.now → StandsIn C.items C.place self.old v
-            → (is_past_bound self.old.high v.sort_key.key || not (is_item_within self.old.t.0 self.old.s.0 v)) ≡ true
-            → rest_down C.items C.place self.new ≡ rest_down C.items C.place self.old }
+        ensures lower { (v : Item) → v.sort_key ≡ sort_key_of key.now
+            → StandsIn C.items C.place self.old v true → C.place self.new.cursor < C.place self.old.cursor }
+        ensures rest { (v : Item) → v.sort_key ≡ sort_key_of key.now
+            → StandsIn C.items C.place self.old v true → rest_down C.items C.place self.new ≡ rest_down C.items C.place self.old }
     {
         if self.passed.are_many() && self.t.0 < key.ts.0 {
             go_before(&mut self.cursor, key);
@@ -166,12 +164,10 @@ impl<'a, C: Holding<'a> + Drop> Down<'a, C> {
 
     /// Goes back past the last version found; where many of its key were passed, past all others that the read sees.
     fn pass_found(&mut self, held: Held<'a>)
-        ensures lower { let v = held_item held.entry in StandsIn C.items C.place self.old v
-            → (is_past_bound self.old.high v.sort_key.key || not (is_item_within self.old.t.0 self.old.s.0 v)) ≡ false
+        ensures lower { StandsIn C.items C.place self.old (held_item held.entry) false
             → C.place self.new.cursor < C.place self.old.cursor }
-        ensures rest { let v = held_item held.entry in StandsIn C.items C.place self.old v
-            → (is_past_bound self.old.high v.sort_key.key || not (is_item_within self.old.t.0 self.old.s.0 v)) ≡ false
-            → rest_down C.items C.place self.new ≡ rest_down_from C.items self.old (Some v) (C.place self.old.cursor - 1) }
+        ensures rest { StandsIn C.items C.place self.old (held_item held.entry) false → rest_down C.items C.place self.new
+            ≡ rest_down_from C.items self.old (Some (held_item held.entry)) (C.place self.old.cursor - 1) }
     {
         let many = self.passed.are_many();
         self.best = go_to_best(&mut self.cursor, held, many, self.t, self.s);

@@ -38,7 +38,7 @@ loop-held-smaller-then-is_passed_over g c =
     let v = held_item c.in-Some.held in
     let own = c.key_ref-key.ensures in
     let inside = ap (λ (k : SortKey). is_below k.key (least_key x.low)) (sym own) ∙ sym c.is_below.ensures ∙ c.if-is_below.false in
-    c.pass_over.ensures.lower v (sym own) (record { at = c.in-Some.ensures; inside = inside })
+    c.pass_over.ensures.lower v (sym own) (record { at = c.in-Some.ensures; inside = inside; is = sym (c.is_passed_over.ensures v (sym own)) ∙ c.if-is_passed_over.true })
 
 pub loop-held-preserved-then-is_passed_over : goal.loop-held-preserved-then-is_passed_over
 loop-held-preserved-then-is_passed_over g c =
@@ -46,7 +46,7 @@ loop-held-preserved-then-is_passed_over g c =
     let v = held_item c.in-Some.held in
     let own = c.key_ref-key.ensures in
     let inside = ap (λ (k : SortKey). is_below k.key (least_key x.low)) (sym own) ∙ sym c.is_below.ensures ∙ c.if-is_below.false in
-    c.pass_over.ensures.rest v (sym own) (record { at = c.in-Some.ensures; inside = inside }) (sym (c.is_passed_over.ensures v (sym own)) ∙ c.if-is_passed_over.true)
+    c.pass_over.ensures.rest v (sym own) (record { at = c.in-Some.ensures; inside = inside; is = sym (c.is_passed_over.ensures v (sym own)) ∙ c.if-is_passed_over.true })
     ∙ c.loop-held.invariant
 
 pub loop-held-smaller : goal.loop-held-smaller
@@ -55,7 +55,7 @@ loop-held-smaller g c =
     let v = held_item c.in-Some.held in
     let own = c.key_ref-key.ensures in
     let inside = ap (λ (k : SortKey). is_below k.key (least_key x.low)) (sym own) ∙ sym c.is_below.ensures ∙ c.if-is_below.false in
-    c.pass_found.ensures.lower (record { at = c.in-Some.ensures; inside = inside }) (sym (c.is_passed_over.ensures v (sym own)) ∙ c.if-is_passed_over.false)
+    c.pass_found.ensures.lower (record { at = c.in-Some.ensures; inside = inside; is = sym (c.is_passed_over.ensures v (sym own)) ∙ c.if-is_passed_over.false })
 
 pub returns-in-Some-row : goal.returns-in-Some-row
 returns-in-Some-row g c =
@@ -71,7 +71,7 @@ returns-in-Some-row g c =
     let after = rows_down x.floor (least_key x.low) x.high x.t.0 x.s.0 (Some v) (back_from (p - 1) vs) in
     sym c.loop-held.invariant ∙ found
     ∙ ap (λ (r : List Row). r ++ after) (sym row ∙ ap rows_given c.in-Some-row.is)
-    ∙ ap (λ (r : List Row). c.in-Some-row.row ∷ r) (sym (c.pass_found.ensures.rest (record { at = c.in-Some.ensures; inside = inside }) out))
+    ∙ ap (λ (r : List Row). c.in-Some-row.row ∷ r) (sym (c.pass_found.ensures.rest (record { at = c.in-Some.ensures; inside = inside; is = out })))
 
 pub loop-held-preserved : goal.loop-held-preserved
 loop-held-preserved g c =
@@ -85,6 +85,6 @@ loop-held-preserved g c =
     let found = finds x.floor (least_key x.low) x.high x.t.0 x.s.0 (item_held_by x.best) vs p v c.in-Some.ensures inside out in
     let row = c.in_ok-row-3.ensures v (sym own) in
     let after = rows_down x.floor (least_key x.low) x.high x.t.0 x.s.0 (Some v) (back_from (p - 1) vs) in
-    c.pass_found.ensures.rest (record { at = c.in-Some.ensures; inside = inside }) out
+    c.pass_found.ensures.rest (record { at = c.in-Some.ensures; inside = inside; is = out })
     ∙ sym (found ∙ ap (λ (r : List Row). r ++ after) (sym row ∙ ap rows_given c.in_default-row.is))
     ∙ c.loop-held.invariant

@@ -22,7 +22,7 @@ returns-then-self-key-clause-lower g c = λ v own h.
     lower_front x.floor (least_key x.low) x.high x.t.0 x.s.0 (item_held_by x.best) v h.inside above from vs (g.C.Placed.place x.cursor) (g.C.Placed.place c.go_before.new.cursor) (g.C.Placed.ordered x.cursor) h.at place
 
 pub returns-then-self-key-clause-rest : goal.returns-then-self-key-clause-rest
-returns-then-self-key-clause-rest g c = λ v own h out.
+returns-then-self-key-clause-rest g c = λ v own h.
     let x = c.args.self.now in
     let k = c.args.key.now in
     let vs = g.C.Placed.items x.cursor in
@@ -36,14 +36,14 @@ returns-then-self-key-clause-rest g c = λ v own h out.
     let place = c.go_before.ensures.place ∙ ap (λ (p : SortKey). below (top_of p.key) vs) (sym own) in
     ap (λ (ys : List Item). rows_down x.floor (least_key x.low) x.high x.t.0 x.s.0 best (back_from q ys)) c.go_before.ensures.same
     ∙ over_front x.floor (least_key x.low) x.high x.t.0 x.s.0 best v h.inside above from vs p q (g.C.Placed.ordered x.cursor) h.at place
-    ∙ passes x.floor (least_key x.low) x.high x.t.0 x.s.0 best vs p v h.at h.inside out
+    ∙ passes x.floor (least_key x.low) x.high x.t.0 x.s.0 best vs p v h.at h.inside h.is
 
 pub returns-else-are_many-clause-rest : goal.returns-else-are_many-clause-rest
-returns-else-are_many-clause-rest g c = λ v own h out.
+returns-else-are_many-clause-rest g c = λ v own h.
     let x = c.args.self.now in
     let vs = g.C.Placed.items x.cursor in
     let p = g.C.Placed.place x.cursor in
     let best = item_held_by x.best in
     ap (λ (ys : List Item). rows_down x.floor (least_key x.low) x.high x.t.0 x.s.0 best (back_from (g.C.Placed.place c.prev.new.self) ys)) c.prev.ensures.same
     ∙ ap (λ (m : ℕ). rows_down x.floor (least_key x.low) x.high x.t.0 x.s.0 best (back_from m vs)) c.prev.ensures.place
-    ∙ passes x.floor (least_key x.low) x.high x.t.0 x.s.0 best vs p v h.at h.inside out
+    ∙ passes x.floor (least_key x.low) x.high x.t.0 x.s.0 best vs p v h.at h.inside h.is
