@@ -1,15 +1,13 @@
 -- What a command meant, from what its parts answered.
 use Rattle.std.proofs.Common.{◌≡◌, ℕ, false, List, [], ◌++◌, Option, refl, sym, ap, subst, ◌∙◌, inl, inr}
-use Rattle.std.specs.Prelude.{All, Some, None}
-use Rattle.std.specs.List.{list_any}
+use Rattle.std.specs.Prelude.{Some, None}
 use Rattle.udt_disk.specs.Causes.{Rose}
 use Rattle.udt_disk.specs.Opens.{Standing}
 use Rattle.udt_disk.specs.OpensFolder.{Holding}
 use Rattle.udt_model.specs.declared.line.FamilyHead.{FamilyHead}
 use Rattle.udt_model.specs.declared.line.Line.{Line}
-use Rattle.udt_model.specs.State.{State, heads_of}
-use Rattle.udt_model.specs.Histories.{Point, Leads, start}
-use Rattle.client_lang.specs.Print.{IsBuiltLine, print_header, print_lines}
+use Rattle.client_lang.specs.Print.{print_header, print_lines}
+use Rattle.client_lang.specs.Transcripts.{Transcript, print_transcript}
 use Rattle.client_runner.specs.Commands.{IsRunCommand}
 use Rattle.client_runner.specs.Ends.{IsEnd}
 use Rattle.client_runner.specs.Works.{IsInitWork, IsRunLeft, IsRunWork}
@@ -18,13 +16,13 @@ use Rattle.client_runner.specs.HostRuns.{IsRunFrom, IsStoppedFrom}
 use Rattle.client_runner.specs.Inits.{IsInitLeft}
 use Rattle.client_runner.specs.Left.{Crashes, LeavesByName, crashes, status_of_lines, tells_fault}
 use Rattle.client_runner.specs.Ready.{IsMessage, text_of}
-use Rattle.solo_runner.specs.Solo.{AreSoundUnless}
+use Rattle.client_runner.specs.Runs.{AreQuietUnless}
 use Rattle.client_runner.specs.Stops.{IsInitStop, TakesMemory}
 use Rattle.client_runner.specs.declared.output.Ready.{Ready}
 use Rattle.client_runner.specs.declared.status.Status.{Status}
 use Rattle.client_runner.specs.declared.status.Status.TheVariants as statuses
 use Rattle.client_runner.specs.declared.status.Stop.{Stop}
-use Rattle.client_runner.specs.declared.status.Stop.TheVariants.{NoFile, TooLong, TooMany, BadLine, StoreExists, BadManifest, BadLog, DiskFault, NoMemory}
+use Rattle.client_runner.specs.declared.status.Stop.TheVariants.{NoFile, TooLong, TooMany, BadLine, StoreExists, BadManifest, MissingTable, BadTable, BadLog, DiskFault, NoMemory}
 use Rattle.client_runner.specs.Works.{Spells}
 use Rattle.client_runner.specs.Left.{IsUnmadeAt, StaysAsItWas, TellsFolder}
 use Rattle.client_lang.specs.declared.command.Command.{Command}
@@ -32,7 +30,7 @@ use Rattle.manifest.specs.Folders.{Means}
 use Rattle.manifest.specs.Folders.Meaning.{no_store, bad_at}
 use Rattle.udt_disk.specs.Joint.{Folder}
 use Rattle.client_runner.proofs.FolderLemmas.{not_bad}
-use Rattle.client_runner.proofs.FaultLemmas.{none_told}
+use Rattle.client_runner.proofs.SyncLemmas.{none_any}
 use Rattle.client_runner.proofs.OutputLemmas.{Appends-nil}
 
 -- what ends in one way ends in each that follows from it

@@ -15,6 +15,7 @@ use Rattle.client_runner.specs.Works.{IsFileWork, IsRunWork}
 use Rattle.client_lang.specs.declared.grammar.lines.ReadFault.TheVariants as faults
 use Rattle.client_lang.specs.Grammar.{IsFile}
 use Rattle.client_runner.specs.Left.{Crashes, status_of_lines, tells_fault}
+use Rattle.recovery.specs.Fault.{IsStop}
 use Rattle.recovery.specs.Opening.{RefusesOpening}
 use Rattle.client_runner.specs.Runs.{stop_of_opening}
 use Rattle.client_runner.specs.Stops.{IsFileStop, message, status_of}
@@ -25,8 +26,9 @@ use Rattle.recovery.specs.declared.fault.OpenFault.TheVariants as opening
 use Rattle.client_runner.specs.declared.status.Status.{Status}
 use Rattle.client_runner.specs.declared.status.Status.TheVariants as statuses
 use Rattle.client_runner.specs.declared.status.Stop.{Stop}
-use Rattle.client_runner.specs.declared.status.Stop.TheVariants.{NoFile, TooLong, TooMany, BadLine, SourceFault, NoStore, BadManifest, BadLog, NoMemory}
-use Rattle.plain_recovery.proofs.OneRefusal.{IsToldRefusal, one_opening_refusal, refused_stands_for_none}
+use Rattle.client_runner.specs.declared.status.Stop.TheVariants.{NoFile, TooLong, TooMany, BadLine, SourceFault, NoStore, BadManifest, MissingTable, BadTable, BadLog, NoMemory}
+use Rattle.recovery.proofs.OneRefusal.{one_refusal}
+use Rattle.recovery.proofs.Unrefused.{none_refused}
 use Rattle.client_runner.proofs.FileLemmas.{not_refused, no_stop, not_missing, not_read, told_stop}
 use Rattle.client_runner.proofs.FolderLemmas.{IsOther, missing_met, opening_met}
 
@@ -93,12 +95,12 @@ other_want before now stop meant e quiet (inr want) = inr (e ∙ ap status_of wa
 
 pub run_done : (standing : Standing) (old new : Holding) (crash : Crashes) (before now : ℕ) (file : List ℕ) (meant : Status) (text bytes : List ℕ) (commands : List Command) (folder : Folder) (m : State)
     → standing ≡ Some (Some bytes) → IsFile bytes commands → old ≡ Some (Some folder) → FolderStands ReadsAsTable folder m → (Rose before now → ⊥) → IsRunWork standing old new crash before now file meant text → IsDoneOrWant meant
-run_done standing old new crash before now file meant text bytes commands folder m s spelled holds stands quiet (inl done) = run_is_done done.lines before now meant done.status_is done.cause quiet
+run_done standing old new crash before now file meant text bytes commands folder m s spelled holds stands quiet (inl done) = run_is_done done.t.lines before now meant done.status_is done.cause quiet
 run_done standing old new crash before now file meant text bytes commands folder m s spelled holds stands quiet (inr r) =
     elim r.cause [
       | inl cause ↦ inr (r.status_is ∙ ap status_of (no_stop standing before now r.stop bytes commands s spelled quiet cause))
       | inr cause ↦ elim (opening_met old folder before now r.stop holds cause.1) [
-        | inl met ↦ absurd (refused_stands_for_none folder met.0 met.1 met.3 m stands)
+        | inl met ↦ absurd (met.1 (none_refused folder m met.0 stands met.3))
         | inr other ↦ other_want before now r.stop meant r.status_is quiet other
       ]
     ]
@@ -122,22 +124,26 @@ read_meant standing path told SourceFault before now meant text bytes commands s
 read_meant standing path told NoMemory before now meant text bytes commands s spelled h e = inr (inr (inr e))
 read_meant standing path told stop before now meant text bytes commands s spelled h e = absurd h
 
-opening_status : (fault : OpenFault) → IsToldRefusal fault → status_of (stop_of_opening fault) ≡ statuses.Folder
+opening_status : (fault : OpenFault) → (IsStop fault → ⊥) → status_of (stop_of_opening fault) ≡ statuses.Folder
 opening_status opening.NoStore t = refl
 opening_status (opening.BadManifest at) t = refl
+opening_status (opening.MissingTable n) t = refl
+opening_status (opening.BadTable n) t = refl
 opening_status (opening.BadLog n at) t = refl
-opening_status opening.DiskFault t = absurd t
-opening_status opening.NoMemory t = absurd t
+opening_status opening.DiskFault t = absurd (t tt)
+opening_status opening.NoMemory t = absurd (t tt)
 
 -- the cause that the host tells: no folder stands there, or one that is refused
 abbrev IsOpeningTold : Holding → Stop → Type 0
-IsOpeningTold holding told = ((told ≡ NoStore) × (holding ≡ Some None)) ⊎ ((folder : Folder) × (fault : OpenFault) × (holding ≡ Some (Some folder)) × IsToldRefusal fault × (told ≡ stop_of_opening fault) × RefusesOpening folder fault)
+IsOpeningTold holding told = ((told ≡ NoStore) × (holding ≡ Some None)) ⊎ ((folder : Folder) × (fault : OpenFault) × (holding ≡ Some (Some folder)) × (IsStop fault → ⊥) × (told ≡ stop_of_opening fault) × RefusesOpening folder fault)
 
 opening_told : (holding : Holding) (told : Stop) → TellsOpenStop holding told → IsOpeningTold holding told
 opening_told holding NoStore (inl missing) = inl (refl, missing)
-opening_told holding NoStore (inr t) = inr (t.0, opening.NoStore, t.1, tt, refl, t.2)
-opening_told holding (BadManifest at) t = inr (t.0, opening.BadManifest at, t.1, tt, refl, t.2)
-opening_told holding (BadLog n at) t = inr (t.0, opening.BadLog n at, t.1, tt, refl, t.2)
+opening_told holding NoStore (inr t) = inr (t.0, opening.NoStore, t.1, (λ stop. stop), refl, t.2)
+opening_told holding (BadManifest at) t = inr (t.0, opening.BadManifest at, t.1, (λ stop. stop), refl, t.2)
+opening_told holding (MissingTable n) t = inr (t.0, opening.MissingTable n, t.1, (λ stop. stop), refl, t.2)
+opening_told holding (BadTable n) t = inr (t.0, opening.BadTable n, t.1, (λ stop. stop), refl, t.2)
+opening_told holding (BadLog n at) t = inr (t.0, opening.BadLog n at, t.1, (λ stop. stop), refl, t.2)
 opening_told holding stop t = absurd t
 
 missing_refused : (standing : Standing) (old new : Holding) (crash : Crashes) (before now : ℕ) (file : List ℕ) (meant : Status) (text bytes : List ℕ) (commands : List Command) → standing ≡ Some (Some bytes) → IsFile bytes commands → old ≡ Some None
@@ -153,15 +159,15 @@ missing_refused standing old new crash before now file meant text bytes commands
     ]
 
 folder_refused : (standing : Standing) (old new : Holding) (crash : Crashes) (before now : ℕ) (file : List ℕ) (meant : Status) (text bytes : List ℕ) (commands : List Command) (folder : Folder) (fault : OpenFault) → standing ≡ Some (Some bytes) → IsFile bytes commands
-    → old ≡ Some (Some folder) → IsToldRefusal fault → RefusesOpening folder fault → IsRunWork standing old new crash before now file meant text → IsOpenMeant file (stop_of_opening fault) meant text
+    → old ≡ Some (Some folder) → (IsStop fault → ⊥) → RefusesOpening folder fault → IsRunWork standing old new crash before now file meant text → IsOpenMeant file (stop_of_opening fault) meant text
 folder_refused standing old new crash before now file meant text bytes commands folder fault s spelled holds told why (inl done) =
-    absurd (refused_stands_for_none folder fault told why done.m (rw holds at done.left).opened)
+    absurd (told ((rw holds at done.left).opened fault why))
 folder_refused standing old new crash before now file meant text bytes commands folder fault s spelled holds told why (inr r) =
     elim r.cause [
       | inl cause ↦ read_meant standing file (stop_of_opening fault) r.stop before now meant text bytes commands s spelled cause r.status_is
       | inr cause ↦ elim (opening_met old folder before now r.stop holds cause.1) [
         | inl met ↦
-            let same : met.0 ≡ fault = one_opening_refusal folder met.0 fault met.1 told met.3 why in
+            let same : met.0 ≡ fault = one_refusal folder met.0 fault met.1 told met.3 why in
             let stop_is : r.stop ≡ stop_of_opening fault = met.2 ∙ ap stop_of_opening same in
             inl (r.status_is ∙ ap status_of stop_is ∙ opening_status fault told, r.text_is ∙ ap (message file) stop_is)
         | inr other ↦ other_meant file (stop_of_opening fault) r.stop before now meant text r.status_is other

@@ -1,5 +1,5 @@
 -- Runs over a store, and over a folder.
-use Rattle.std.specs.Prelude.{◌≡◌, ◌⊎◌, ℕ, ◌+◌, ◌*◌, ◌-◌, ◌^◌, ◌<◌, ◌≤◌, ⊤, List, [], All, IsTrue, IfOk, OnOk, Result, None, Vec, length, map, vec_capacity}
+use Rattle.std.specs.Prelude.{◌≡◌, ◌⊎◌, ℕ, ◌+◌, ◌*◌, ◌-◌, ◌^◌, ◌<◌, ◌≤◌, ⊤, List, [], All, IsTrue, IsOk, IfOk, Result, None, Vec, length, map, vec_capacity}
 use Rattle.std.specs.declared.alloc.Global.{Global}
 use Rattle.udt_disk.specs.Causes.{Rose}
 use Rattle.udt_disk.specs.Crash.{Image}
@@ -123,5 +123,4 @@ pub record HasRunParts {D F E : Type 0} (d : disk.Ghosts D F) (f : file.Ghosts F
   pub all_or_none : (lines ≡ []) ⊎ IsAskedRun commands lines
   pub ready : IfOk result (λ r. IsAskedRun commands lines × Waits (header_of_opened parts) lines r)
   pub quiet : AreQuietUnless (parts_faults d f parts) (d.faults new) lines
-  pub later : parts_faults d f parts ≤ d.faults new
-  pub left : (opened : D) → ArePartsOf d f opened parts → ((OnOk result ⊥ × IsSameFolder d opened new) ⊎ GoesOnFromEach d opened new (transcript_of parts lines))
+  pub left : (opened : D) → ArePartsOf d f opened parts → (((IsOk result → ⊥) × IsSameFolder d opened new) ⊎ GoesOnFromEach d opened new (transcript_of parts lines))

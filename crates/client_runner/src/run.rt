@@ -142,7 +142,6 @@ fn run_disk<D: Disk>(
     ensures stopped { IfErr result.1 (IsRunRefused D.Disk disk result.0 commands.items) }
     ensures told { D.is_told result.0 ≡ D.is_told disk }
     ensures model { D.keeps_model result.0 ≡ D.keeps_model disk }
-    ensures later { D.faults disk ≤ D.faults result.0 }
 {
     match open_store(alloc, disk) {
         Ok(parts) => {
