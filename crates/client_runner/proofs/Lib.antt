@@ -3,9 +3,7 @@ pub mod FlowLemmas
 pub mod Transcribing
 pub mod OutputLemmas
 pub mod SyncLemmas
-pub mod LiveLog
-pub mod Closing
-pub mod MadeLines
+pub mod Openable
 pub mod RunParts
 pub mod OpenedRun
 pub mod SameFolders
@@ -13,7 +11,6 @@ pub mod GivenBack
 pub mod GivenRuns
 pub mod GivenMakings
 pub mod HostLemmas
-pub mod FaultLemmas
 pub mod FileLemmas
 pub mod FolderLemmas
 pub mod RunEnds

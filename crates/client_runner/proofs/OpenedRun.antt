@@ -43,7 +43,7 @@ module _ {D F : Type 0} (d : disk.Ghosts D F) (f : file.Ghosts F) where
       subst (λ (n : ℕ). AreQuietUnless n (d.faults new) lines) from.kept (quiet_fresh (d.faults parts.disk) (f.faults (wal_file parts.wal)) (f.faults (manifest_file parts.manifest)) (d.faults new) lines from.wal_fresh from.manifest_fresh quiet)
 
   kept_all : {E : Type 0} (A : Type 0) (old new : D) (t : Transcript) (r : Ready) → ((IsOk {E = E} (Ok r) → ⊥) × A) ⊎ GoesOnFromEach d old new t → GoesOnFromEach d old new t
-  kept_all A old new t r (inl none) = absurd (none.0 _)
+  kept_all A old new t r (inl none) = absurd (none.0 refl)
   kept_all A old new t r (inr each) = each
 
   pub run_ready : {E : Type 0} (old new : D) (parts : Parts D F f) (commands : List Command) (r : Ready) → IsOpenedFrom old parts → HasRunParts {E = E} d f parts new commands (Ok r) → IsRunReady d old new commands r

@@ -132,5 +132,5 @@ module _ {D F : Type 0} (d : disk.Ghosts D F) (f : file.Ghosts F) where
     all_or_none = inl refl;
     ready = tt;
     quiet = inl (λ k l lt. absurd (cc lt));
-    left = λ opened of. inl (λ x. x, same opened of);
+    left = λ opened of. inl ((λ is. cc is), same opened of);
   }

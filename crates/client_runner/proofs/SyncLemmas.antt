@@ -2,7 +2,7 @@
 use Rattle.std.proofs.Common.{◌≡◌, ◌⊎◌, inl, inr, ℕ, ◌<◌, ◌≤◌, Bool, true, false, if◌then◌else◌, ◌||◌, List, [], ◌∷◌, ◌++◌, Option, Some, None, refl, sym, ap, ◌∙◌, subst, arith}
 use Rattle.std.specs.Prelude.{All}
 use Rattle.std.specs.List.{list_any}
-use Rattle.std.proofs.lemmas.List.Elements.{All-head, All-tail}
+use Rattle.std.proofs.lemmas.List.Elements.{All-cons, All-head, All-nil, All-tail}
 use Rattle.std.proofs.lemmas.List.Folds.{list_any-append}
 use Rattle.udt_model.specs.declared.event.Event.{Event}
 use Rattle.udt_model.specs.declared.event.Event.TheVariants.{Sync}
@@ -29,6 +29,15 @@ use Rattle.client_runner.specs.declared.status.Status.TheVariants as statuses
 pub none_any : (p : Line → Bool) (lines : List Line) → All (λ (l : Line). p l ≡ false) lines → list_any p lines ≡ false
 none_any p [] h = refl
 none_any p (l ∷ lines) h = rw (All-head (λ (x : Line). p x ≡ false) l lines h) (none_any p lines (All-tail (λ (x : Line). p x ≡ false) l lines h))
+
+either_false : (a b : Bool) → (a || b) ≡ false → (a ≡ false) × (b ≡ false)
+either_false true b e = absurd (cc e)
+either_false false b e = (refl, e)
+
+-- and where none of them does, each doesn't
+pub all_none : (p : Line → Bool) (lines : List Line) → list_any p lines ≡ false → All (λ (l : Line). p l ≡ false) lines
+all_none p [] e = All-nil (λ (l : Line). p l ≡ false)
+all_none p (l ∷ lines) e = let both = either_false (p l) (list_any p lines) e in All-cons (λ (x : Line). p x ≡ false) l lines both.0 (all_none p lines both.1)
 
 none_tells : (told : Bool) → (if told then statuses.DiskFault else statuses.Done) ≡ statuses.Done → told ≡ false
 none_tells true e = cc e

@@ -1,7 +1,7 @@
 use Rattle.std.proofs.Common.{◌∙◌, ap}
 use Rattle.std.specs.Prelude.{Err}
 use Rattle.udt_disk.specs.declared.traits.Failed.{Failed}
-use Rattle.plain_recovery.proofs.MakeLemmas.{unmade_opened}
+use Rattle.recovery.proofs.NewStores.{unmade_opened}
 use Rattle.client_runner.specs.Left.{crashes}
 use Rattle.client_runner.proofs.GivenBack.{given_back}
 use Rattle.client_runner.proofs.GivenMakings.{IsMakingFailed, init_left, made_at}
