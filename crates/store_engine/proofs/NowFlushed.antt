@@ -90,7 +90,7 @@ once_distinct w h k = let e = same w in let o = h k in omega (arith, e, o) where
 
 -- ---- the new table
 
-table_moves : (t : LiveTable) (ts : List LiveTable) → IsPermutation (t ∷ ts) (with_table t ts)
+pub table_moves : (t : LiveTable) (ts : List LiveTable) → IsPermutation (t ∷ ts) (with_table t ts)
 table_moves t [] = IsPermutation-refl (t ∷ [])
 table_moves t (o ∷ os) = elim (cases_Bool (nat_lt o.number t.number)) [
   | inl y ↦ rw y (IsPermutation-trans (t ∷ o ∷ os) (o ∷ t ∷ os) (o ∷ with_table t os) (IsPermutation-middle (t ∷ []) o os) (IsPermutation-cons o (t ∷ os) (with_table t os) (table_moves t os)))
