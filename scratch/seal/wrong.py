@@ -67,6 +67,54 @@ SETS={
  ('older.rt',"""        rolled.push(RolledLog { number, last })?;
 """,""""""),
 ],
+4:[
+ ('seal.rt',"""        if self.next == FILE_NUMBER_LIMIT {
+            return Err(EngineFault::FilesFull { next: self.next });
+        }
+        if !has_versions""","""        if self.next + 1 >= FILE_NUMBER_LIMIT {
+            return Err(EngineFault::FilesFull { next: self.next });
+        }
+        if !has_versions"""),  # FilesFull one too early
+ ('seal.rt',"""self.older.with(alloc, newest, now.last)""","""self.older.with(alloc, self.next, now.last)"""),  # of another log
+ ('job_files.rt',"""        if self.next == FILE_NUMBER_LIMIT {
+            return Err(EngineFault::FilesFull { next: self.next });
+        }
+""",""""""),  # no end of numbers
+ ('engine.rt',"""older: OlderLogs::new(alloc, version.last),""","""older: OlderLogs::new(alloc, Seq(u64::MAX)),"""),  # logs of the opening are kept for ever
+ ('seal.rt',"""    let version = now.sealed(alloc, family)?;""","""    let version = now.copy()?;"""),  # nothing is sealed
+ ('older.rt',"""            Some(log) => log.last,
+            None => self.opened,""","""            Some(log) => log.last,
+            None => Seq(0),"""),  # a log of the opening covers nothing
+],
+5:[
+ ('seal.rt',"""        self.seal_active(alloc, now, family)
+    }""","""        let (version, mems) = match version_with_seal(alloc, now, family) {
+            Ok(made) => made,
+            Err(_) => return Err(EngineFault::NoMemory),
+        };
+        match self.sync_log() {
+            Ok(()) => {
+                self.next += 1;
+                Ok(Sealed::Rolled { version, mems })
+            }
+            Err(fault) => Err(fault),
+        }
+    }"""),  # Rolled, and the log isn't rolled (take seal's Answers away)
+ ('seal.rt',"""                self.older = older;
+                Ok(())
+            }
+            Err(Failed) => {
+                self.failed = true;""","""                self.older = older;
+                Ok(())
+            }
+            Err(Failed) => {
+                self.next = 0;
+                self.failed = true;"""),  # the numbers begin anew behind a fault
+ ('job_files.rt',"""        self.give_back(file);
+    }""","""        self.give_back(file);
+        self.next = 1;
+    }"""),  # numbers are given again behind a discard
+],
 }
 for p,a,b in SETS[int(sys.argv[2])]:
     s=open(root+p).read()
