@@ -87,6 +87,8 @@ SETS={
             None => Seq(0),"""),  # a log of the opening covers nothing
 ],
 5:[
+ ('seal.rt',"""    out.reverse();
+""",""""""),  # mems from the newest on (take from_last's Answers away)
  ('seal.rt',"""        self.seal_active(alloc, now, family)
     }""","""        let (version, mems) = match version_with_seal(alloc, now, family) {
             Ok(made) => made,
