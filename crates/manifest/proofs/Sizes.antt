@@ -4,10 +4,10 @@ use Rattle.std.specs.Prelude.{IsTrue, ◌||◌, ◌==◌, nat_lt}
 use Rattle.std.specs.List.{All, flat_map, list_all}
 use Rattle.std.proofs.lemmas.List.Elements.{All-head, All-tail}
 use Rattle.std.proofs.lemmas.Bool.Decides.{nat_tests}
-use Rattle.byteorder.specs.Endian.{little_bytes}
-use Rattle.byteorder.specs.Numbers.{length-bytes_low_first}
 use Rattle.gate_log.specs.Frames.{IsBody}
 use Rattle.ts_key.specs.Names.{is_name, is_name_byte}
+use Rattle.ts_key.specs.Numbers.{number_bytes}
+use Rattle.ts_key.proofs.NumberBytes.{length-number_bytes}
 use Rattle.udt_model.specs.declared.line.FamilyHead.{FamilyHead}
 use Rattle.manifest.specs.Heads.{form_code, family_text, head_text, IsNamed}
 
@@ -31,7 +31,7 @@ families_short (f ∷ families) named =
 
 pub head_fits : (families : List FamilyHead) → All IsNamed families → length families ≤ 16 → IsBody (head_text families)
 head_fits families named few =
-    let count = length-append (little_bytes 4 (length families)) (flat_map family_text families) in
-    let four = length-bytes_low_first 0 4 (length families) in
+    let count = length-append (number_bytes 4 (length families)) (flat_map family_text families) in
+    let four = length-number_bytes 4 (length families) in
     let short = families_short families named in
     record { some = omega arith; short = omega arith }

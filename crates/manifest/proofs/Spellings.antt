@@ -1,10 +1,10 @@
 -- Bytes spell one thing at most.
 use Rattle.std.proofs.Common.{◌≡◌, ◌==◌, ℕ, ◌<◌, true, false, List, [], ◌∷◌, ◌++◌, length, take, drop, refl, sym, ap, ◌∙◌, arith, append_assoc}
 use Rattle.std.specs.List.{All, flat_map}
-use Rattle.std.proofs.lemmas.List.{take_at, drop_at}
+use Rattle.std.proofs.lemmas.List.{take-append-drop, take_at, drop_at}
 use Rattle.std.proofs.lemmas.List.Elements.{All-head, All-tail}
-use Rattle.byteorder.specs.Endian.{little_number}
-use Rattle.byteorder.specs.Numbers.{little_number-reads_back}
+use Rattle.ts_key.specs.Numbers.{number_bytes}
+use Rattle.ts_key.proofs.NumberBytes.{length-number_bytes, number_bytes-unique}
 use Rattle.ts_key.specs.declared.version.Form.{Form}
 use Rattle.ts_key.specs.declared.version.Form.TheVariants.{Persist, Strip}
 use Rattle.ts_key.specs.declared.numbers.Ts.{Ts}
@@ -115,16 +115,19 @@ no_more (f ∷ fs) (g ∷ gs) x y p q long none same =
 
 -- ---- heads
 
-pub count_of : (body : List ℕ) (families : List FamilyHead) → IsHead body families → little_number 4 (drop 2 body) ≡ length families
-count_of body families h =
-    ap (λ (l : List ℕ). little_number 4 (drop 2 l)) h.is
-    ∙ little_number-reads_back 4 (length families) (flat_map family_text families) (omega (arith, h.new.few))
+-- what is read behind the first two bytes is how many families there are
+pub count_of : (body : List ℕ) (families : List FamilyHead) (count : ℕ) → count < 2 ^ 32 → take 4 (drop 2 body) ≡ number_bytes 4 count → IsHead body families → count ≡ length families
+count_of body families count fits counted h =
+    let here : number_bytes 4 count ++ drop 4 (drop 2 body) ≡ number_bytes 4 (length families) ++ flat_map family_text families =
+    ap (λ (l : List ℕ). l ++ drop 4 (drop 2 body)) (sym counted) ∙ take-append-drop 4 (drop 2 body) ∙ ap (drop 2) h.is in
+    (number_bytes-unique 4 count (length families) (drop 4 (drop 2 body)) (flat_map family_text families) (omega (arith, fits)) (omega (arith, h.new.few)) here).0
 
 pub families_of : (body : List ℕ) (families : List FamilyHead) → IsHead body families → drop 6 body ≡ flat_map family_text families
+unfolding number_bytes
 families_of body families h = ap (drop 6) h.is
 
-spelled_of : (body : List ℕ) (families : List FamilyHead) → IsHead body families → AreSpelled (drop 6 body) (little_number 4 (drop 2 body)) families
-spelled_of body families h = record { long = sym (count_of body families h); new = h.new.each; named = h.named; is = families_of body families h }
+spelled_of : (body : List ℕ) (families : List FamilyHead) (count : ℕ) → count ≡ length families → IsHead body families → AreSpelled (drop 6 body) count families
+spelled_of body families count counted h = record { long = sym counted; new = h.new.each; named = h.named; is = families_of body families h }
 
 -- so many families are one list
 pub spelled_once : (bytes : List ℕ) (count : ℕ) (fs gs : List FamilyHead) → AreSpelled bytes count fs → AreSpelled bytes count gs → fs ≡ gs
@@ -133,12 +136,15 @@ spelled_once bytes count fs gs p q =
 
 -- a body is the head of one list of families at most
 pub head_once : (body : List ℕ) (fs gs : List FamilyHead) → IsHead body fs → IsHead body gs → fs ≡ gs
-head_once body fs gs p q = spelled_once (drop 6 body) (little_number 4 (drop 2 body)) fs gs (spelled_of body fs p) (spelled_of body gs q)
+head_once body fs gs p q =
+    let same : number_bytes 4 (length fs) ++ flat_map family_text fs ≡ number_bytes 4 (length gs) ++ flat_map family_text gs = ap (drop 2) (sym p.is ∙ q.is) in
+    let long = (number_bytes-unique 4 (length fs) (length gs) (flat_map family_text fs) (flat_map family_text gs) (omega (arith, p.new.few)) (omega (arith, q.new.few)) same).0 in
+    spelled_once (drop 6 body) (length fs) fs gs (spelled_of body fs (length fs) refl p) (spelled_of body gs (length fs) long q)
 
 -- the families that are spelled there have one name twice
-pub names_again : (body : List ℕ) (fs : List FamilyHead) → AreSpelled (drop 6 body) (little_number 4 (drop 2 body)) fs → differ fs ≡ false → (families : List FamilyHead) → IsHead body families → ⊥
-names_again body fs p same families h =
-    let e = spelled_once (drop 6 body) (little_number 4 (drop 2 body)) fs families p (spelled_of body families h) in
+pub names_again : (body : List ℕ) (fs : List FamilyHead) (count : ℕ) → count < 2 ^ 32 → take 4 (drop 2 body) ≡ number_bytes 4 count → AreSpelled (drop 6 body) count fs → differ fs ≡ false → (families : List FamilyHead) → IsHead body families → ⊥
+names_again body fs count fits counted p same families h =
+    let e = spelled_once (drop 6 body) count fs families p (spelled_of body families count (count_of body families count fits counted h) h) in
     let apart : differ families ≡ true = h.new.apart in
     let at : differ families ≡ false = rw (← e) same in
     cc

@@ -3,7 +3,7 @@ use Rattle.std.specs.Prelude.{◌≡◌, ℕ, ◌≤◌, Bool, true, not, ◌&&�
 use Rattle.ts_key.specs.declared.limits.TheConstants.{FAMILY_LIMIT}
 use Rattle.std.specs.List.{flat_map, list_any, All}
 use Rattle.std.specs.Str.{bytes_eq}
-use Rattle.byteorder.specs.Endian.{little_bytes}
+use Rattle.ts_key.specs.Numbers.{number_bytes}
 use Rattle.ts_key.specs.Names.{is_name}
 use Rattle.ts_key.specs.declared.version.Form.{Form}
 use Rattle.ts_key.specs.declared.version.Form.TheVariants.{Persist, Strip}
@@ -21,7 +21,7 @@ family_text f = length f.name ∷ (f.name ++ form_code f.form ∷ 8 ∷ [])
 
 -- a head: its kind, its version, the count of its families as u32, and each family
 abbrev pub head_text : List FamilyHead → List ℕ
-head_text families = 1 ∷ 1 ∷ (little_bytes 4 (length families) ++ flat_map family_text families)
+head_text families = 1 ∷ 1 ∷ (number_bytes 4 (length families) ++ flat_map family_text families)
 
 -- ---- the families of a head
 

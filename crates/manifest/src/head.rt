@@ -13,8 +13,8 @@ ghost use Rattle.std.specs.Str.{bytes_eq};
 ghost use Rattle.manifest.specs.Heads.{form_code, family_text, head_text, differ, AreNew, IsNewFamily, IsNamed};
 
 use crate::NoMemory;
-use byteorder::{ByteOrder, LittleEndian};
 use std::alloc::Global;
+use ts_key::coding::put_u32;
 use ts_key::{FAMILY_LIMIT, Form, STAMP_SIZE};
 use udt_model::{FamilyHead, Items};
 
@@ -84,11 +84,9 @@ pub(crate) fn write_head(alloc: Global, families: &[FamilyHead]) -> Result<Vec<u
     ensures text { IfOk result (λ body. body.items ≡ head_text families.now) }
     ensures named { OnOk result (All IsNamed families.now) }
 {
-    let mut count = [0; 4];
-    LittleEndian::write_u32(&mut count, families.len() as u32);
     let mut body = Vec::new(alloc);
     body.extend_from_slice(&[HEAD, VERSION])?;
-    body.extend_from_slice(&count)?;
+    put_u32(&mut body, families.len() as u32)?;
     push_families(&mut body, families)?;
     Ok(body)
 }

@@ -7,8 +7,8 @@ ghost use Rattle.manifest.specs.Reading.{StartsWithName, StartsWithFamily, AreSp
 
 use crate::NoMemory;
 use crate::head::{HEAD, PERSIST, STRIP, VERSION, names_differ};
-use byteorder::{ByteOrder, LittleEndian};
 use std::alloc::{AllocError, Global};
+use ts_key::coding::u32_of;
 use ts_key::{FAMILY_LIMIT, Form, Name, NameFault, STAMP_SIZE, Ts};
 use udt_model::FamilyHead;
 
@@ -19,7 +19,7 @@ pub(crate) fn read_head(alloc: Global, body: &[u8]) -> Result<Option<Vec<FamilyH
     if body.len() < 6 || body[0] != HEAD || body[1] != VERSION {
         return Ok(None);
     }
-    let count = LittleEndian::read_u32(&body[2..]) as usize;
+    let count = u32_of(&body[2..6]) as usize;
     if count == 0 || count > FAMILY_LIMIT {
         return Ok(None);
     }
