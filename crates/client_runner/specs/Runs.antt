@@ -1,5 +1,5 @@
 -- Runs over a store, and over a folder.
-use Rattle.std.specs.Prelude.{◌≡◌, ◌⊎◌, ℕ, ◌+◌, ◌*◌, ◌-◌, ◌^◌, ◌<◌, ◌≤◌, ⊤, List, [], All, IsTrue, IsOk, IfOk, Result, None, Vec, length, map, vec_capacity}
+use Rattle.std.specs.Prelude.{◌≡◌, ◌⊎◌, ℕ, ◌+◌, ◌*◌, ◌-◌, ◌^◌, ◌<◌, ◌≤◌, false, List, [], All, IsTrue, IsOk, IfOk, Result, None, Vec, length, map, vec_capacity}
 use Rattle.std.specs.declared.alloc.Global.{Global}
 use Rattle.udt_disk.specs.Causes.{Rose}
 use Rattle.udt_disk.specs.Crash.{Image}
