@@ -21,6 +21,12 @@ while True:
                 w=os.readlink(f'/proc/{p}/cwd').split('/')
                 if len(w)>3 and w[2]=='h' and not ci: n=num('/work/h/log/nice_'+w[3],n)
             except Exception: pass
+            try:
+                cwd=os.readlink(f'/proc/{p}/cwd')
+                for l in open('/work/h/log/boost'):
+                    a,b=l.split()
+                    if cwd.endswith(a): n=int(b)
+            except Exception: pass
             for t in os.listdir(f'/proc/{p}/task'):
                 try: os.setpriority(os.PRIO_PROCESS,int(t),n)
                 except Exception: pass
