@@ -1,5 +1,5 @@
 -- What a run over a host comes to, since its command file was read.
-use Rattle.std.proofs.Common.{◌≡◌, inl, inr, ℕ, ◌≤◌, List, refl, sym, ◌∙◌, subst}
+use Rattle.std.proofs.Common.{◌≡◌, inl, inr, ℕ, ◌≤◌, List, refl, sym, ◌∙◌, subst, arith}
 use Rattle.std.specs.Prelude.{Some, None}
 use Rattle.udt_disk.specs.Crash.{NoMore}
 use Rattle.udt_disk.specs.Opens.{Standing}

@@ -1,6 +1,7 @@
 pub mod WordLemmas
 pub mod FlowLemmas
 pub mod Transcribing
+pub mod Fresh
 pub mod OutputLemmas
 pub mod SyncLemmas
 pub mod Openable

@@ -1,6 +1,6 @@
 -- A folder that was opened is refused by nothing.
-use Rattle.std.proofs.Common.{◌≡◌, ℕ, ◌≤◌, List, ◌∷◌, ◌++◌, [], length, Some, None, refl, sym, ap, ◌∙◌, subst, arith, inl, append_assoc}
-use Rattle.std.specs.Prelude.{⊎_elim, Contains, map}
+use Rattle.std.proofs.Common.{◌≡◌, ℕ, ◌≤◌, List, ◌∷◌, ◌++◌, [], length, Some, None, refl, sym, ap, ◌∙◌, subst, arith, inl, append_assoc, ⊎_elim}
+use Rattle.std.specs.Prelude.{Contains}
 use Rattle.std.proofs.lemmas.List.{length-map}
 use Rattle.udt_disk.specs.Crash.{Image}
 use Rattle.udt_disk.specs.Joint.{Folder}

@@ -42,17 +42,17 @@ module _ {D F : Type 0} (d : disk.Ghosts D F) (f : file.Ghosts F) where
   quiet_from old new parts lines from quiet =
       subst (λ (n : ℕ). AreQuietUnless n (d.faults new) lines) from.kept (quiet_fresh (d.faults parts.disk) (f.faults (wal_file parts.wal)) (f.faults (manifest_file parts.manifest)) (d.faults new) lines from.wal_fresh from.manifest_fresh quiet)
 
-  kept_all : {E : Type 0} (A : Type 0) (old new : D) (t : Transcript) (r : Ready) → ((IsOk {E = E} (Ok r) → ⊥) × A) ⊎ GoesOnFromEach d old new t → GoesOnFromEach d old new t
-  kept_all A old new t r (inl none) = absurd (none.0 refl)
-  kept_all A old new t r (inr each) = each
+  kept_all : (E A : Type 0) (old new : D) (t : Transcript) (r : Ready) → ((IsOk {E = E} (Ok r) → ⊥) × A) ⊎ GoesOnFromEach d old new t → GoesOnFromEach d old new t
+  kept_all E A old new t r (inl none) = absurd (none.0 refl)
+  kept_all E A old new t r (inr each) = each
 
   pub run_ready : {E : Type 0} (old new : D) (parts : Parts D F f) (commands : List Command) (r : Ready) → IsOpenedFrom old parts → HasRunParts {E = E} d f parts new commands (Ok r) → IsRunReady d old new commands r
-  run_ready old new parts commands r from run = record {
+  run_ready {E} old new parts commands r from run = record {
     t = transcript_of parts run.lines;
     asked = run.ready.0;
     waits = run.ready.1;
     quiet = quiet_from old new parts run.lines from run.quiet;
-    kept = record { opened = can_open old parts from; each = kept_all (IsSameFolder d old new) old new (transcript_of parts run.lines) r (run.left old from.of) };
+    kept = record { opened = can_open old parts from; each = kept_all E (IsSameFolder d old new) old new (transcript_of parts run.lines) r (run.left old from.of) };
   }
 
   pub run_refused : {E : Type 0} (old new : D) (parts : Parts D F f) (commands : List Command) (e : E) → IsOpenedFrom old parts → HasRunParts d f parts new commands (Err e) → IsRunRefused d old new commands NoMemory

@@ -1,6 +1,7 @@
 -- A session over the parts of a store.
-use Rattle.std.proofs.Common.{◌⊎◌, ◌≡◌, inl, inr, ℕ, List, [], ◌∷◌, map, refl, sym, ap, ◌∙◌, subst}
+use Rattle.std.proofs.Common.{◌⊎◌, ◌≡◌, inl, inr, ℕ, List, [], ◌∷◌, map, Some, false, refl, sym, ap, ◌∙◌, subst}
 use Rattle.std.specs.Prelude.{All, None, IfOk, IsTrue, OnOk, Result, Ok, Err}
+use Rattle.std.proofs.lemmas.List.Elements.{All-nil}
 use Rattle.udt_disk.specs.Causes.{Rose}
 use Rattle.udt_disk.specs.Joint.{Folder, IsImage}
 use Rattle.udt_disk.specs.Moments.{IsClean, alone}
@@ -119,7 +120,7 @@ module _ {D F : Type 0} (d : disk.Ghosts D F) (f : file.Ghosts F) where
     lines = [];
     all_or_none = inl refl;
     ready = tt;
-    quiet = inl (λ k l lt. absurd (cc lt));
+    quiet = inl (All-nil (λ (l : Line). tells_fault l.reply ≡ false));
     left = λ opened of. inr (λ told clean m stands.
         let holds = of_parts.holds opened m of told (clean_live d opened (manifest_folded parts.manifest) clean) stands in
         goes_on opened new parts first first m [] (start m) of told stands of_parts closed holds refl holds (λ done. (of_parts.works, of_parts.pending)));
@@ -131,6 +132,6 @@ module _ {D F : Type 0} (d : disk.Ghosts D F) (f : file.Ghosts F) where
     lines = [];
     all_or_none = inl refl;
     ready = tt;
-    quiet = inl (λ k l lt. absurd (cc lt));
+    quiet = inl (All-nil (λ (l : Line). tells_fault l.reply ≡ false));
     left = λ opened of. inl ((λ is. cc is), same opened of);
   }

@@ -1,5 +1,5 @@
 -- Where no line of a run tells a fault, the runner's sync is done.
-use Rattle.std.proofs.Common.{◌≡◌, ◌⊎◌, inl, inr, ℕ, ◌<◌, ◌≤◌, Bool, true, false, if◌then◌else◌, ◌||◌, List, [], ◌∷◌, ◌++◌, Option, Some, None, refl, sym, ap, ◌∙◌, subst, arith}
+use Rattle.std.proofs.Common.{◌≡◌, ◌⊎◌, inl, inr, ℕ, ◌<◌, ◌≤◌, Bool, true, false, if◌then◌else◌, ◌||◌, List, [], ◌∷◌, ◌++◌, get_or, Option, Some, None, refl, sym, ap, ◌∙◌, subst, arith}
 use Rattle.std.specs.Prelude.{All}
 use Rattle.std.specs.List.{list_any}
 use Rattle.std.proofs.lemmas.List.Elements.{All-cons, All-head, All-nil, All-tail}
@@ -108,4 +108,4 @@ quiet_reply : (reply : Reply) → (l : Line) → l.reply ≡ reply → IsSound l
 quiet_reply reply l is sound unhalted = grind (arith, is, sound, unhalted)
 
 pub all_quiet : (lines : List Line) → All IsSound lines → All IsUnhalted lines → All (λ (l : Line). tells_fault l.reply ≡ false) lines
-all_quiet lines sound unhalted = λ k l lt. quiet_reply l.reply l refl (sound k l lt) (unhalted k l lt)
+all_quiet lines sound unhalted = λ k l lt. quiet_reply (get_or lines k l).reply (get_or lines k l) refl (sound k l lt) (unhalted k l lt)

@@ -1,5 +1,5 @@
 -- The transcript of a run over a store in memory.
-use Rattle.std.proofs.Common.{◌≡◌, ℕ, false, List, sym, subst, arith}
+use Rattle.std.proofs.Common.{◌≡◌, ℕ, false, List, get_or, sym, subst, arith}
 use Rattle.std.specs.Prelude.{All, IfOk, Result, Ok, Err}
 use Rattle.std.specs.List.{list_any}
 use Rattle.udt_disk.specs.declared.file.DiskFile as file
@@ -53,8 +53,8 @@ transcribed commands lines header (Ok ready) history built none is front told ro
     subst (λ (ls : List Line). IsSoloHistory fresh commands ls → All IsBuiltLine ls → list_any (λ (l : Line). tells_trouble l.reply) ls ≡ false → HasRoomForLines ready.buffer ls → IsTranscribed commands ready) (sym told)
     (λ history built none room. record {
       history = history;
-      sound = λ k l lt. sound_reply l.reply (all_none (λ (x : Line). tells_trouble x.reply) ready.lines.items none k l lt);
-      files = λ k l lt. files_reply l.reply (all_none (λ (x : Line). tells_trouble x.reply) ready.lines.items none k l lt);
+      sound = λ k l lt. sound_reply (get_or ready.lines.items k l).reply (all_none (λ (x : Line). tells_trouble x.reply) ready.lines.items none k l lt);
+      files = λ k l lt. files_reply (get_or ready.lines.items k l).reply (all_none (λ (x : Line). tells_trouble x.reply) ready.lines.items none k l lt);
       header = subst (λ (text : List ℕ). ready.buffer.items ≡ text) is front;
       built = built;
       room = room;
