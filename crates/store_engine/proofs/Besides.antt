@@ -1,6 +1,6 @@
 -- Acts that an engine doesn't take: what they leave of the state that it holds.
 use Rattle.std.proofs.Common.{◌≡◌, ℕ, ◌<◌, ◌≤◌, Bool, false, List, length, Option, refl, sym, ap, ◌∙◌, subst, inl, inr}
-use Rattle.std.specs.Prelude.{All, Contains, IsTrue, if◌then◌else◌, slice_get}
+use Rattle.std.specs.Prelude.{All, Contains, IsTrue, if◌then◌else◌, slice_get, Some}
 use Rattle.std.proofs.lemmas.Bool.{false≢true}
 use Rattle.ts_key.specs.declared.numbers.Seq.{Seq}
 use Rattle.ts_key.specs.declared.version.Version.{Version}
@@ -8,7 +8,7 @@ use Rattle.udt_disk.specs.declared.file.DiskFile as file
 use Rattle.udt_disk.specs.declared.disk.Disk as disk
 use Rattle.udt_model.specs.declared.reply.Reply.{Reply}
 use Rattle.udt_model.specs.declared.reply.Reply.TheVariants.{Done, DroppedFault, DroppedFiles, DroppedMemory, Fault, Halted, Inputs, Kept, OkAt, Table}
-use Rattle.udt_model.specs.State.{FamilyState, State}
+use Rattle.udt_model.specs.State.{FamilyState, Flush, State}
 use Rattle.udt_model.specs.Versions.{between}
 use Rattle.udt_model.specs.Acts.{Act}
 use Rattle.udt_model.specs.Acts.Act.{compact_end, compact_start, flush_end, flush_start, make_snapshot, raise, release, sync_all, write}
@@ -29,14 +29,15 @@ use Rattle.store_engine.specs.declared.engine.Engine.{Engine}
 record StandsBeside (m next : State) : Type 0 where
   kept : AreSameKept m next
   used : next.used ≡ m.used
+  flush : (job : Flush) → next.flush ≡ Some job → m.flush ≡ Some job
   halted : next.halted ≡ m.halted
 
 beside_itself : (m : State) → StandsBeside m m
-beside_itself m = record { kept = record { families = refl; versions = refl; last = refl }; used = refl; halted = refl }
+beside_itself m = record { kept = record { families = refl; versions = refl; last = refl }; used = refl; flush = λ job is. is; halted = refl }
 
 beside_job : (m : State) (act : Act) → StandsBeside m (without_job m act)
-beside_job m (flush_end i start) = record { kept = record { families = refl; versions = refl; last = refl }; used = refl; halted = refl }
-beside_job m (compact_end i start) = record { kept = record { families = refl; versions = refl; last = refl }; used = refl; halted = refl }
+beside_job m (flush_end i start) = record { kept = record { families = refl; versions = refl; last = refl }; used = refl; flush = λ job is. absurd (cc); halted = refl }
+beside_job m (compact_end i start) = record { kept = record { families = refl; versions = refl; last = refl }; used = refl; flush = λ job is. is; halted = refl }
 beside_job m act = beside_itself m
 
 stands_beside : (m : State) (number : ℕ) (act : Act) (reply : Reply) → IsTrue (is_beside act reply) → StandsBeside m (after m number act reply)
@@ -47,11 +48,11 @@ stands_beside m number act DroppedMemory is = beside_job m act
 stands_beside m number act (DroppedFiles next) is = beside_job m act
 stands_beside m number (write ops sync) (OkAt last) is = absurd (false≢true is)
 stands_beside m number (raise i floor) Done is = absurd (false≢true is)
-stands_beside m number make_snapshot (OkAt seq) is = record { kept = record { families = refl; versions = refl; last = refl }; used = refl; halted = refl }
-stands_beside m number (release event) Done is = record { kept = record { families = refl; versions = refl; last = refl }; used = refl; halted = refl }
+stands_beside m number make_snapshot (OkAt seq) is = record { kept = record { families = refl; versions = refl; last = refl }; used = refl; flush = λ job is. is; halted = refl }
+stands_beside m number (release event) Done is = record { kept = record { families = refl; versions = refl; last = refl }; used = refl; flush = λ job is. is; halted = refl }
 stands_beside m number (flush_start i) (OkAt through) is = absurd (false≢true is)
 stands_beside m number (flush_end i start) (Table table kept floor) is = absurd (false≢true is)
-stands_beside m number (compact_start i pick) (Inputs inputs level) is = record { kept = record { families = refl; versions = refl; last = refl }; used = refl; halted = refl }
+stands_beside m number (compact_start i pick) (Inputs inputs level) is = record { kept = record { families = refl; versions = refl; last = refl }; used = refl; flush = λ job is. is; halted = refl }
 stands_beside m number (compact_end i start) (Kept kept pieces) is = absurd (false≢true is)
 stands_beside m number act reply is = beside_itself m
 
@@ -75,14 +76,15 @@ failing_beside m number o (flush_end i start) reply is = refl
 failing_beside m number o (compact_end i start) reply is = refl
 failing_beside m number o act reply is = refl
 
-now_beside : (now : SuperVersion) (m next : State) → AreSameKept m next → IsNow now m → IsNow now next
-now_beside now m next k shows = record {
+now_beside : (now : SuperVersion) (m next : State) → AreSameKept m next → ((job : Flush) → next.flush ≡ Some job → m.flush ≡ Some job) → IsNow now m → IsNow now next
+now_beside now m next k flush shows = record {
   last = shows.last ∙ sym k.last;
   count = shows.count ∙ ap length (sym k.families);
   families = λ family f g at there.
       subst (λ (vs : List Version). IsFamilyNow family (between family f.through.0 next.last.0 vs) f g) (sym k.versions)
       (subst (λ (q : Seq). IsFamilyNow family (between family f.through.0 q.0 m.versions) f g) (sym k.last)
       (shows.families family f g (ap (λ (fs : List FamilyState). slice_get fs family.0) (sym k.families) ∙ at) there));
+  flush = λ job g is there. shows.flush job g (flush job is) there;
 }
 
 module _ (m : State) (c : Course) (number : ℕ) (act : Act) (reply : Reply) (is : IsTrue (is_beside act reply)) where
@@ -112,8 +114,9 @@ module _ (m : State) (c : Course) (number : ℕ) (act : Act) (reply : Reply) (is
         engine_of = h.engine_of;
         holds = keeps_holds m next c (course_after m number c act reply) h.says h.waiting b.kept (sound_after m number act reply h.holds.sound told)
             (course_sound m c number act reply h.holds.sound h.holds.course.sound told) (ends_beside c.ends act reply is) synced_beside h.holds;
-        shows = now_beside now m next b.kept h.shows;
+        shows = now_beside now m next b.kept b.flush h.shows;
         used = subst (λ ns. All (λ n. n < engine.next) ns) (sym b.used) h.used;
+        covers = h.covers;
         runs = b.halted ∙ h.runs;
         unfailed = failing_beside m number c.failing act reply is ∙ h.unfailed;
       }

@@ -41,7 +41,7 @@ some_is : {X : Type 0} (x y : X) → Some x ≡ Some y → x ≡ y
 some_is x y e = cc
 
 -- what stands in a list of which one is changed
-get_changed : {X : Type 0} (n k : ℕ) (change : X → X) (xs : List X) (y : X) → slice_get (item_changed_at n change xs) k ≡ Some y → (x : X) × (slice_get xs k ≡ Some x) × ((k ≡ n → y ≡ change x) × ((k ≡ n → ⊥) → y ≡ x))
+pub get_changed : {X : Type 0} (n k : ℕ) (change : X → X) (xs : List X) (y : X) → slice_get (item_changed_at n change xs) k ≡ Some y → (x : X) × (slice_get xs k ≡ Some x) × ((k ≡ n → y ≡ change x) × ((k ≡ n → ⊥) → y ≡ x))
 get_changed n k change [] y there = absurd cc
 get_changed zero zero change (x ∷ xs) y there = (x, refl, ((λ e. sym (some_is (change x) y there)), λ ne. absurd (ne refl)))
 get_changed zero (suc k) change (x ∷ xs) y there = (y, there, ((λ e. absurd (omega (arith, e))), λ ne. refl))
@@ -50,7 +50,7 @@ get_changed (suc n) (suc k) change (x ∷ xs) y there =
     let r = get_changed n k change xs y there in
     (r.0, r.1, ((λ e. r.2.0 (omega (arith, e))), λ ne. r.2.1 (λ e. ne (ap suc e))))
 
-length_changed : {X : Type 0} (n : ℕ) (change : X → X) (xs : List X) → length (item_changed_at n change xs) ≡ length xs
+pub length_changed : {X : Type 0} (n : ℕ) (change : X → X) (xs : List X) → length (item_changed_at n change xs) ≡ length xs
 length_changed n change [] = refl
 length_changed zero change (x ∷ xs) = refl
 length_changed (suc n) change (x ∷ xs) = ap suc (length_changed n change xs)

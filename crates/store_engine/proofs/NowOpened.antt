@@ -1,5 +1,5 @@
 -- The super version of an opened folder shows each state that the folder stands for.
-use Rattle.std.proofs.Common.{◌≡◌, ℕ, zero, suc, ◌+◌, ◌<◌, ◌≤◌, ◌&&◌, ◌==◌, Bool, true, false, List, [], ◌∷◌, ◌++◌, get_or, length, map, Some, refl, sym, ap, ◌∙◌, subst, arith, inl, inr, append-nil}
+use Rattle.std.proofs.Common.{◌≡◌, ℕ, zero, suc, ◌+◌, ◌<◌, ◌≤◌, ◌&&◌, ◌==◌, Bool, true, false, List, [], ◌∷◌, ◌++◌, get_or, length, map, Some, None, refl, sym, ap, ◌∙◌, subst, arith, inl, inr, append-nil}
 use Rattle.std.specs.Prelude.{filter, nat_le, nat_lt, slice_get}
 use Rattle.std.specs.Cmp.{IsStrictWeakOrder}
 use Rattle.std.specs.List.{AllByRecursion, flat_map}
@@ -348,8 +348,8 @@ numbers_are : (opened : List Opened) → map number_at (map table_place_of opene
 numbers_are [] = refl
 numbers_are (o ∷ opened) = ap (λ (ns : List ℕ). o.table.number ∷ ns) (numbers_are opened)
 
-pub now_opened : (folder : Folder) (fold : Folded) (version : SuperVersion) (m : State) (c : Course) (shown : IsShown folder fold version) → IsStrictlyIncreasing (map number_at (map table_place_of shown.opened)) → HoldsState m c (account_of fold shown) [] → IsNow version m
-now_opened folder fold version m c shown ascending holds =
+pub now_opened : (folder : Folder) (fold : Folded) (version : SuperVersion) (m : State) (c : Course) (shown : IsShown folder fold version) → IsStrictlyIncreasing (map number_at (map table_place_of shown.opened)) → m.flush ≡ None → HoldsState m c (account_of fold shown) [] → IsNow version m
+now_opened folder fold version m c shown ascending idle holds =
     let up = rising_sorted (map opened_number shown.opened) (subst IsStrictlyIncreasing (numbers_are shown.opened) ascending) in
     let batches = batches_of shown.logs fold.logs in
     let h = holds_of m holds.sound in
@@ -365,4 +365,5 @@ now_opened folder fold version m c shown ascending holds =
           above_between i f.through.0 m.last.0 m.versions bounded ∙ holds.unflushed i f of ∙ ap (λ (bs : List _). above i f.through.0 (logs.versions_of bs)) (append-nil batches) ∙ ap (λ (s : Seq). above i s.0 (logs.versions_of batches)) (sym through) in
           subst (λ (z : ModelFamily). IsFamilyNow i (between i f.through.0 m.last.0 m.versions) z g) ff.1.1
           (family_opened folder fold shown.opened shown.tables up holds.well i ff.0 (logs.versions_of batches) (between i f.through.0 m.last.0 m.versions) g ff.1.0 (shown.shows.families.each i.0 ff.0 g ff.1.0 there) is);
+      flush = λ job g is there. absurd (let e = sym idle ∙ is in cc);
     }

@@ -19,10 +19,11 @@ use Rattle.super_version.specs.declared.family.FamilyState.{FamilyState}
 use Rattle.super_version.specs.declared.version.SuperVersion.{SuperVersion}
 use Rattle.floor_laws.proofs.States.{changed_other, changed_same, length-changed, some_same}
 use Rattle.store_engine.specs.Admission.{raise_fault}
-use Rattle.store_engine.specs.Now.{FitsFamily, IsNow, IsFamilyNow}
+use Rattle.store_engine.specs.Now.{FitsFamily, IsBeingFlushed, IsNow, IsFamilyNow}
 use Rattle.store_engine.specs.declared.fault.EngineFault.{EngineFault}
 use Rattle.store_engine.specs.declared.fault.EngineFault.TheVariants.{FloorFell}
 use Rattle.store_engine.proofs.Admitting.{both}
+use Rattle.store_engine.proofs.Current.{get_changed}
 
 -- ---- one item changed
 
@@ -88,6 +89,13 @@ now_raised m old new number family floor ok shows changes = record {
     | inl none ↦ absurd (gone i f of none.0)
     | inr some ↦ each i f g some.0 some.1.0 of there some.1.1.0 some.1.1.1
   ];
+  flush = λ job g is there.
+      let o = get_changed family.0 job.family.0 (family_with_floor floor) old.families g (subst (λ l. slice_get l job.family.0 ≡ Some g) changes.families there) in
+      let being = shows.flush job o.0 is o.1 in
+      elim (same_or_not job.family.0 family.0) [
+        | inl e ↦ subst (IsBeingFlushed job) (sym (o.2.0 e)) (record { taken = being.taken; later = being.later })
+        | inr n ↦ subst (IsBeingFlushed job) (sym (o.2.1 n)) being
+      ];
 } where
   gone : (i : Family) (f : ModelFamily) → slice_get (model.changed_at family.0 (model.with_floor floor) m.families) i.0 ≡ Some f → slice_get m.families i.0 ≡ None → ⊥
   gone i f of none = elim (same_or_not i.0 family.0) [

@@ -21,7 +21,7 @@ use Rattle.manifest.proofs.Edits.{rests_fold}
 use Rattle.super_version.specs.declared.version.SuperVersion.{SuperVersion}
 use Rattle.engine_laws.specs.Joints.{IsNowLast, OneRan}
 use Rattle.engine_laws.specs.JointLaws.{RestIn}
-use Rattle.engine_laws.specs.Moves.{IsEditReady, added_tables}
+use Rattle.engine_laws.specs.Moves.{IsEditReady, TableRests, added_tables}
 use Rattle.engine_laws.specs.Standing.{Says, StandsForSome}
 use Rattle.engine_laws.specs.Engine.{HoldsState, IsOutcomeOr, MayEdit, newest_log_of, with_edit}
 use Rattle.engine_laws.proofs.Joined.{edit_rests, ran_edit}
@@ -29,6 +29,7 @@ use Rattle.engine_laws.proofs.Moving.{edit_ready}
 use Rattle.floor_laws.proofs.Members.{contains_In}
 use Rattle.recovery.specs.Tables.{ReadsAsTable}
 use Rattle.store_engine.specs.Engines.{HoldsNow, IsEngineOf, held}
+use Rattle.store_engine.specs.Older.{CoversOlder}
 use Rattle.store_engine.specs.Steps.{IsEdited, ReservesEdit}
 use Rattle.store_engine.specs.declared.engine.Engine.{Engine}
 use Rattle.store_engine.specs.declared.fault.EngineFault.{EngineFault}
@@ -67,6 +68,7 @@ module _ {D F : Type 0} (d : disk.Ghosts D F) (f : file.Ghosts F) (now_last : Is
       holds = h.holds;
       shows = h.shows;
       used = subst (λ k. All (λ n. n < k) m.used) (sym kept.next) h.used;
+      covers = subst (λ o. CoversOlder o h.says) (sym kept.older) h.covers;
       runs = h.runs;
       unfailed = h.unfailed;
     }
@@ -77,7 +79,7 @@ module _ {D F : Type 0} (d : disk.Ghosts D F) (f : file.Ghosts F) (now_last : Is
     pub edited_held : held new ≡ holding two.disk (wal_file two.wal ∷ manifest_file new.manifest ∷ [])
     edited_held = same_joint new.disk two.disk (wal_file new.wal) (wal_file two.wal) (manifest_file new.manifest) (manifest_file new.manifest) edited.disk (ap (λ w. wal_file w) edited.wal) refl
 
-    module _ (m next : State) (c : Course) (s : Says) (h : HoldsState m c s []) (of : IsEngineOf d f two s []) (may : MayEdit m s edit next) (logs : edit.add_logs ≡ []) (tables : (t : TableAt) → Contains (added_tables edit.family) t → ⊥) where
+    module _ (m next : State) (c : Course) (s : Says) (h : HoldsState m c s []) (of : IsEngineOf d f two s []) (may : MayEdit m s edit next) (logs : edit.add_logs ≡ []) (tables : (t : TableAt) → Contains (added_tables edit.family) t → TableRests ReadsAsTable (MayLeave d f (held two)) s t.number) where
       abbrev name : FileName
       name = f.name (manifest_file two.manifest)
 
@@ -88,7 +90,7 @@ module _ {D F : Type 0} (d : disk.Ghosts D F) (f : file.Ghosts F) (now_last : Is
       done = wal_file two.wal ∷ manifest_file new.manifest ∷ []
 
       ready : IsEditReady ReadsAsTable (MayLeave d f (holding two.disk start)) s edit
-      ready = edit_ready ReadsAsTable (MayLeave d f (holding two.disk start)) name s edit may.leads.accepted of.rests (λ n i. absurd (contains_In [] n (subst (λ ns. Contains ns n) logs i))) (λ t i. absurd (tables t i))
+      ready = edit_ready ReadsAsTable (MayLeave d f (holding two.disk start)) name s edit may.leads.accepted of.rests (λ n i. absurd (contains_In [] n (subst (λ ns. Contains ns n) logs i))) tables
 
       ran_one : OneRan f start done (manifest_file two.manifest) (manifest_file new.manifest)
       ran_one = second_ran f (wal_file two.wal) (manifest_file two.manifest) (manifest_file new.manifest) edited.same.name

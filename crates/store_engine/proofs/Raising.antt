@@ -42,6 +42,7 @@ use Rattle.store_engine.specs.declared.engine.Engine.{Engine}
 use Rattle.store_engine.specs.declared.fault.EngineFault.{EngineFault}
 use Rattle.store_engine.proofs.Answering.{folder_on, on_ok}
 use Rattle.store_engine.proofs.Counts.{cause_third}
+use Rattle.store_engine.proofs.Covering.{covers_same_logs, covers_synced}
 use Rattle.store_engine.proofs.Raised.{edited_of, edited_ran, reserved_held, reserved_now, reserved_of}
 use Rattle.store_engine.proofs.Synced.{synced_cause, synced_folder, synced_of, synced_ran}
 use Rattle.store_engine.proofs.Together.{newest_stays}
@@ -150,7 +151,7 @@ module _ {D F : Type 0} (d : disk.Ghosts D F) (f : file.Ghosts F) (now_last : Is
           second_ran = ran_on d f (λ folder. StandsForSome ReadsAsTable folder (IsOutcomeUnder m c number (raise family floor))) (held old) (held two) (held new) (first_ran two (Ok tt) synced now m c number family floor h)
               (ran_more d f (λ folder. StandsForSome ReadsAsTable folder (IsOutcomeOr m c (after m number (raise family floor) Done))) (λ folder. StandsForSome ReadsAsTable folder (IsOutcomeUnder m c number (raise family floor)))
               (λ folder o. (o.0, o.1, under_act m c number (raise family floor) Done o.0 (told_of m (raise family floor) Done told (λ e. absurd (cc)) (λ b. b)) refl refl o.2)) (held two) (held new)
-              (edited_ran d f now_last edit two new second edited m (after m number (raise family floor) Done) c s1 h1 of_two may no_logs no_tables))
+              (edited_ran d f now_last edit two new second edited m (after m number (raise family floor) Done) c s1 h1 of_two may no_logs (λ t i. absurd (no_tables t i))))
 
           pub second_now : (next : SuperVersion) → IsNow next (after m number (raise family floor) Done) → OnOk second (HoldsNow d f new next (after m number (raise family floor) Done) (course_after m number c (raise family floor) Done))
           second_now next shows = on_ok second (IsEngineOf d f new (with_edit s1 edit) []) (HoldsNow d f new next (after m number (raise family floor) Done) (course_after m number c (raise family floor) Done))
@@ -161,10 +162,11 @@ module _ {D F : Type 0} (d : disk.Ghosts D F) (f : file.Ghosts F) (now_last : Is
                 holds = act_holds m c h.says h.waiting number (raise family floor) Done edit h.holds told refl refl may;
                 shows = shows;
                 used = subst (λ k. All (λ n. n < k) m.used) (sym (edited.next ∙ synced.next ∙ kept.next)) h.used;
+                covers = covers_same_logs two.older new.older s1 edit edited.older no_logs (ap (λ (e : Edit). e.drop_logs) is) (covers_synced old.older two.older h.says h.waiting (synced.older ∙ kept.older) h.covers);
                 runs = h.runs;
                 unfailed = h.unfailed;
               })
-              (edited_of d f now_last edit two new second edited m (after m number (raise family floor) Done) c s1 h1 of_two may no_logs no_tables (newest_stays s1.fold edit no_logs (ap (λ (e : Edit). e.drop_logs) is)))
+              (edited_of d f now_last edit two new second edited m (after m number (raise family floor) Done) c s1 h1 of_two may no_logs (λ t i. absurd (no_tables t i)) (newest_stays s1.fold edit no_logs may.leads.accepted.logs.one))
 
         -- a version goes on with it, whether or not the disk tells
         pub second_current : (next : SuperVersion) → FitsFold (fold_with (manifest_folded old.manifest) edit) next → next.last ≡ now.last → IsCurrent old now → OnOk second (IsCurrent new next)

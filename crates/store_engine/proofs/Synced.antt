@@ -34,7 +34,9 @@ use Rattle.engine_laws.proofs.Syncing.{sync_holds}
 use Rattle.recovery.specs.Tables.{ReadsAsTable}
 use Rattle.recovery.specs.Versions.{FitsFold}
 use Rattle.store_engine.specs.Engines.{HoldsNow, IsCurrent, IsEngineOf, IsOneFolder, IsRunning, engine_faults, has_failed, held}
+use Rattle.store_engine.specs.Jobs.{IsJobNumber}
 use Rattle.store_engine.specs.Now.{IsNow}
+use Rattle.store_engine.specs.Older.{CoversOlder}
 use Rattle.store_engine.specs.Steps.{IsCalled, IsLogSynced, IsSameFolder}
 use Rattle.store_engine.specs.Together.{AreTogether}
 use Rattle.store_engine.specs.declared.engine.Engine.{Engine}
@@ -44,6 +46,8 @@ use Rattle.store_engine.specs.Calls.{is_disk_failure}
 use Rattle.store_engine.specs.Replies.{is_disk_fault}
 use Rattle.store_engine.proofs.Answering.{disk_cause, on_ok, one_stays}
 use Rattle.store_engine.proofs.Counts.{cause_second}
+use Rattle.store_engine.proofs.Covering.{covers_synced}
+use Rattle.store_engine.proofs.JobNumbers.{jobs_kept}
 use Rattle.store_engine.proofs.Files.{first_ran, same_joint}
 
 module _ {D F : Type 0} (d : disk.Ghosts D F) (f : file.Ghosts F) (now_last : IsNowLast d f) where
@@ -111,9 +115,9 @@ module _ {D F : Type 0} (d : disk.Ghosts D F) (f : file.Ghosts F) (now_last : Is
       ] (synced.holds (s.logs (newest_log_of s)) waiting of.log)
 
       -- it goes on with what it held
-      pub synced_now : (number : ℕ) (now : SuperVersion) → IsReplyTo m sync_all Done → IsNow now m → All (λ n. n < old.next) m.used → m.halted ≡ None → c.failing ≡ None
+      pub synced_now : (number : ℕ) (now : SuperVersion) → IsReplyTo m sync_all Done → IsNow now m → All (λ n. n < old.next) m.used → CoversOlder old.older s → m.halted ≡ None → c.failing ≡ None
           → OnOk result (HoldsNow d f new now (after m number sync_all Done) (course_after m number c sync_all Done))
-      synced_now number now told shows used runs unfailed =
+      synced_now number now told shows used covers runs unfailed =
           on_ok result (IsEngineOf d f new (with_batches s waiting) []) (HoldsNow d f new now (after m number sync_all Done) (course_after m number c sync_all Done))
           (λ of_new. record {
             says = with_batches s waiting;
@@ -122,6 +126,7 @@ module _ {D F : Type 0} (d : disk.Ghosts D F) (f : file.Ghosts F) (now_last : Is
             holds = sync_holds m c s waiting h number told;
             shows = shows;
             used = subst (λ k. All (λ n. n < k) m.used) (sym synced.next) used;
+            covers = covers_synced old.older new.older s waiting synced.older covers;
             runs = runs;
             unfailed = unfailed;
           }) synced_of
@@ -146,13 +151,18 @@ module _ {D F : Type 0} (d : disk.Ghosts D F) (f : file.Ghosts F) (now_last : Is
         (subst (λ k. HasCause (engine_faults d f old) (plus_faults (plus_faults a y) (f.faults (manifest_file k))) result) (sym synced.manifest)
         (cause_second a (f.faults (wal_file old.wal)) y b result synced.cause))
 
+    synced_jobs : (n : ℕ) → IsJobNumber old n → IsJobNumber new n
+    synced_jobs = jobs_kept f old new synced.next (ap manifest_folded synced.manifest)
+
     pub synced_called : IsCalled d f old new result
     synced_called = elim result as (λ r. HasCause (engine_faults d f old) (engine_faults d f new) r → OnOk r (IsRunning new) → has_failed new ≡ is_disk_failure r → IfErr r (λ fault. fault ≡ DiskFault) → IsCalled d f old new r) [
-      | Ok u ↦ λ cause running failed fault. record { same = synced_folder; one = synced_one; next = synced.next; untouched = tt; running = λ not. running; failed = failed; counted = cause.kept }
+      | Ok u ↦ λ cause running failed fault. record { same = synced_folder; one = synced_one; next = synced.next; older = synced.older; jobs = synced_jobs; untouched = tt; running = λ not. running; failed = failed; counted = cause.kept }
       | Err e ↦ λ cause running failed fault. record {
         same = synced_folder;
         one = synced_one;
         next = synced.next;
+        older = synced.older;
+        jobs = synced_jobs;
         untouched = λ not. absurd (false≢true (sym not ∙ ap is_disk_fault fault));
         running = λ not. absurd (false≢true (sym not ∙ ap is_disk_fault fault));
         failed = failed;

@@ -49,6 +49,7 @@ use Rattle.store_engine.specs.Engines.{HoldsNow, IsEngineOf, IsOneFolder}
 use Rattle.store_engine.specs.Parts.{ArePartsOf}
 use Rattle.store_engine.specs.Together.{AreNamed, AreTogether}
 use Rattle.store_engine.specs.declared.engine.Engine.{Engine}
+use Rattle.store_engine.proofs.Covering.{covers_opened}
 use Rattle.store_engine.proofs.NowOpened.{now_opened}
 use Rattle.store_engine.proofs.Together.{named_on}
 
@@ -144,6 +145,17 @@ module _ {D F : Type 0} (d : disk.Ghosts D F) (f : file.Ghosts F) (old : D) (par
     most = let e = is in let l = well.next in omega (arith, e, l);
   }
 
+  -- all batches of the live logs may stand there, and the last sequence of the version is theirs
+  parts_logged : (told : IsTrue (d.is_told old)) → All (IsLoggedBatch (length fold.families)) (batches_of (are.opened told).shown.logs fold.logs)
+  parts_logged told =
+      let o = are.opened told in
+      reads_logged ReadsAsTable (d.stands old) (account_of fold o.shown) (opened_reads (d.stands old) fold parts.version o.means o.shown)
+
+  parts_last : (told : IsTrue (d.is_told old)) → parts.version.last.0 ≡ last_of fold.last.0 (batches_of (are.opened told).shown.logs fold.logs)
+  parts_last told =
+      let o = are.opened told in
+      ap (λ (q : Seq). q.0) o.shown.shows.sequence ∙ last_over_is fold.last.0 (batches_of o.shown.logs fold.logs) o.shown.behind
+
   pub parts_go_on : MayGoOn f parts.wal (parts.version.last.0 + 1)
   parts_go_on told =
       let o = are.opened (subst IsTrue are.wal_told told) in
@@ -153,10 +165,9 @@ module _ {D F : Type 0} (d : disk.Ghosts D F) (f : file.Ghosts F) (old : D) (par
       let older = batches_of logs top.older in
       let live = batches_of logs fold.logs in
       let is : live ≡ older ++ o.wal.batches = ap (batches_of logs) top.is ∙ batches_append logs top.older (n ∷ []) ∙ ap (λ z. older ++ z) (append-nil (logs n) ∙ sym (newest_same (subst IsTrue are.wal_told told))) in
-      let s = account_of fold o.shown in
-      let all : All (IsLoggedBatch (length fold.families)) live = reads_logged ReadsAsTable (d.stands old) s (opened_reads (d.stands old) fold parts.version o.means o.shown) in
+      let all = parts_logged (subst IsTrue are.wal_told told) in
       let logged = all_right (length fold.families) older o.wal.batches (subst (λ z. All (IsLoggedBatch (length fold.families)) z) is all) in
-      let last : parts.version.last.0 ≡ last_of fold.last.0 (older ++ o.wal.batches) = ap (λ (q : Seq). q.0) o.shown.shows.sequence ∙ last_over_is fold.last.0 live o.shown.behind ∙ ap (last_of fold.last.0) is in
+      let last : parts.version.last.0 ≡ last_of fold.last.0 (older ++ o.wal.batches) = parts_last (subst IsTrue are.wal_told told) ∙ ap (last_of fold.last.0) is in
       let next = next_behind (length fold.families) fold.last.0 older o.wal.batches logged in
       (o.wal.batches, [], o.wal.replayed.shown, subst (λ bs. IsNextSequence (next_sequence bs) (parts.version.last.0 + 1)) (sym (append-nil o.wal.batches)) (subst (λ k. IsNextSequence (next_sequence o.wal.batches) (k + 1)) (sym last) next))
 
@@ -207,8 +218,8 @@ module _ {D F : Type 0} (d : disk.Ghosts D F) (f : file.Ghosts F) (old : D) (par
         let o = are.opened told in
         subst (λ bs. log.Holds f parts.wal bs []) (newest_same told) (o.wal.replayed.rests (λ c left. clean (Log (newest_log fold.logs)) c (newest_live fold well) left))
 
-    pub parts_now : (engine : Engine D F f) → engine.disk ≡ parts.disk → engine.manifest ≡ parts.manifest → engine.wal ≡ parts.wal → fold.next_file ≤ engine.next → (m : State) → FolderStands ReadsAsTable (d.stands old) m → HoldsNow d f engine parts.version m (course_start m)
-    parts_now engine disk manifest wal more m stands =
+    pub parts_now : (engine : Engine D F f) → engine.disk ≡ parts.disk → engine.manifest ≡ parts.manifest → engine.wal ≡ parts.wal → fold.next_file ≤ engine.next → engine.older.rolled.items ≡ [] → engine.older.opened ≡ parts.version.last → (m : State) → FolderStands ReadsAsTable (d.stands old) m → HoldsNow d f engine parts.version m (course_start m)
+    parts_now engine disk manifest wal more rolled opened m stands =
         let o = are.opened told in
         let h : HoldsState m (course_start m) says [] = opened_states (d.stands old) fold parts.version m o.means o.shown stands in
         let settled = stands.stands.settled in
@@ -226,9 +237,10 @@ module _ {D F : Type 0} (d : disk.Ghosts D F) (f : file.Ghosts F) (old : D) (par
           waiting = [];
           engine_of = of_parts;
           holds = h;
-          shows = now_opened (d.stands old) fold parts.version m (course_start m) o.shown o.shown.tables.places.ascending h;
+          shows = now_opened (d.stands old) fold parts.version m (course_start m) o.shown o.shown.tables.places.ascending (sym (ap (λ (q : State). q.flush) settled)) h;
           used = subst (λ ns. All (λ n. n < engine.next) ns) (ap (λ (q : State). q.used) settled) (subst (λ fs. All (λ n. n < engine.next) (flat_map (λ (g : FamilyState). numbers_of g.tables) fs)) (sym h.families)
               (All-from (λ n. n < engine.next) (flat_map (λ (g : FamilyState). numbers_of g.tables) (families_said says.tables fold)) (λ n held. let l = said_low says.tables fold well n held in omega (arith, l, more))));
+          covers = covers_opened engine.older says parts.version.last.0 rolled (ap (λ (q : Seq). q.0) opened) (parts_last told) o.shown.sequence (parts_logged told);
           runs = sym (ap (λ (q : State). q.halted) settled);
           unfailed = refl;
         }

@@ -141,6 +141,12 @@ module _ {D F : Type 0} (d : disk.Ghosts D F) (f : file.Ghosts F) (now_last : Is
       | inr waited ↦ ap (λ (e : Engine D F f). e.next) waited.3 ∙ added.next
     ]
 
+    pub end_older : new.older ≡ old.older
+    end_older = elim either [
+      | inl synced ↦ synced.older ∙ added.older
+      | inr waited ↦ ap (λ (e : Engine D F f). e.older) waited.3 ∙ added.older
+    ]
+
     pub end_manifest : new.manifest ≡ old.manifest
     end_manifest = elim either [
       | inl synced ↦ synced.manifest ∙ added.manifest

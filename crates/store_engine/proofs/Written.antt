@@ -39,6 +39,8 @@ use Rattle.store_engine.specs.Steps.{IsAdded, IsLogSynced, IsSameFolder}
 use Rattle.store_engine.specs.Together.{AreTogether}
 use Rattle.store_engine.specs.declared.engine.Engine.{Engine}
 use Rattle.store_engine.specs.declared.fault.EngineFault.{EngineFault}
+use Rattle.store_engine.specs.Older.{CoversOlder}
+use Rattle.store_engine.proofs.Covering.{covers_synced}
 use Rattle.store_engine.proofs.Answering.{on_ok}
 use Rattle.store_engine.proofs.Files.{first_ran, same_joint}
 use Rattle.store_engine.proofs.Together.{named_on}
@@ -96,6 +98,7 @@ module _ {D F : Type 0} (d : disk.Ghosts D F) (f : file.Ghosts F) (now_last : Is
           holds = h.holds;
           shows = h.shows;
           used = subst (λ k. All (λ n. n < k) m.used) (sym added.next) h.used;
+          covers = subst (λ o. CoversOlder o h.says) (sym added.older) h.covers;
           runs = h.runs;
           unfailed = h.unfailed;
         };
@@ -139,6 +142,7 @@ module _ {D F : Type 0} (d : disk.Ghosts D F) (f : file.Ghosts F) (now_last : Is
       holds = write_waits m c h.says h.waiting number ops (m.last.0 + length ops) h.holds told fits refl;
       shows = shows;
       used = used_mid;
+      covers = subst (λ o. CoversOlder o h.says) (sym added.older) h.covers;
       runs = h.runs;
       unfailed = h.unfailed;
     }
@@ -193,6 +197,7 @@ module _ {D F : Type 0} (d : disk.Ghosts D F) (f : file.Ghosts F) (now_last : Is
           holds = written_holds m c number ops s h.waiting h.holds fits sync asked;
           shows = shows;
           used = subst (λ k. All (λ n. n < k) m.used) (sym (synced.next ∙ added.next)) h.used;
+          covers = covers_synced old.older new.older s more (synced.older ∙ added.older) h.covers;
           runs = h.runs;
           unfailed = h.unfailed;
         })

@@ -19,6 +19,7 @@ use Rattle.engine_laws.specs.JointLaws.{RestIn}
 use Rattle.recovery.specs.Tables.{ReadsAsTable}
 use Rattle.recovery.specs.Versions.{FitsFold}
 use Rattle.store_engine.specs.Now.{IsNow}
+use Rattle.store_engine.specs.Older.{CoversOlder}
 use Rattle.store_engine.specs.Together.{AreNamed, AreTogether}
 use Rattle.store_engine.specs.declared.engine.Engine.{Engine}
 
@@ -63,8 +64,8 @@ module _ {D F : Type 0} (d : disk.Ghosts D F) (f : file.Ghosts F) where
     pub log : log.Holds f engine.wal (s.logs (newest_log_of s)) waiting
     pub one : IsOneFolder engine
 
-  -- The engine and this super version hold the state on its course. No disk has failed under it, and each number that a table has had
-  -- is below that of the next file.
+  -- The engine and this super version hold the state on its course. No disk has failed under it, each number that a table has had is
+  -- below that of the next file, and what is known of the older logs is so.
   pub record HoldsNow (engine : Engine D F f) (now : SuperVersion) (m : State) (c : Course) : Type 0 where
     pub says : Says
     pub waiting : List Numbered
@@ -72,6 +73,7 @@ module _ {D F : Type 0} (d : disk.Ghosts D F) (f : file.Ghosts F) where
     pub holds : HoldsState m c says waiting
     pub shows : IsNow now m
     pub used : All (λ n. n < engine.next) m.used
+    pub covers : CoversOlder engine.older says
     pub runs : m.halted ≡ None
     pub unfailed : c.failing ≡ None
 

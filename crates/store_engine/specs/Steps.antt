@@ -18,6 +18,7 @@ use Rattle.super_version.specs.Writes.{AddsBatch}
 use Rattle.super_version.specs.declared.version.SuperVersion.{SuperVersion}
 use Rattle.store_engine.specs.Calls.{batch_behind, is_disk_failure}
 use Rattle.store_engine.specs.Engines.{IsOneFolder, IsRunning, engine_faults, has_failed, held}
+use Rattle.store_engine.specs.Jobs.{IsJobNumber}
 use Rattle.store_engine.specs.Replies.{is_disk_fault}
 use Rattle.store_engine.specs.declared.engine.Engine.{Engine}
 use Rattle.store_engine.specs.declared.fault.EngineFault.{EngineFault}
@@ -28,6 +29,7 @@ pub record IsLogSynced {D F : Type 0} (f : Ghosts F) (old new : Engine D F f) (r
   pub disk : new.disk ≡ old.disk
   pub manifest : new.manifest ≡ old.manifest
   pub next : new.next ≡ old.next
+  pub older : new.older ≡ old.older
   pub holds : (batches waiting : List Numbered) → Holds f old.wal batches waiting → OnOk result (Holds f new.wal (batches ++ waiting) [])
   pub goes_on : (first : ℕ) → MayGoOn f old.wal first → OnOk result (MayGoOn f new.wal first)
   pub moments : (batches waiting : List Numbered) → Holds f old.wal batches waiting → Leaves f (wal_file old.wal) (wal_file new.wal) (IsBeforeOrAfter (wal_sizes old.wal) batches waiting)
@@ -45,6 +47,7 @@ pub record IsAdded {D F : Type 0} (f : Ghosts F) (b : Numbered) (old new : Engin
   pub disk : new.disk ≡ old.disk
   pub manifest : new.manifest ≡ old.manifest
   pub next : new.next ≡ old.next
+  pub older : new.older ≡ old.older
   pub file : wal_file new.wal ≡ wal_file old.wal
   pub sizes : wal_sizes new.wal ≡ wal_sizes old.wal
   pub holds : (batches waiting : List Numbered) → Holds f old.wal batches waiting → OnOk result (Holds f new.wal batches (waiting ++ b ∷ []))
@@ -61,6 +64,7 @@ pub record ReservesEdit {D F : Type 0} (f : Ghosts F) (edit : Edit) (old new : E
   pub disk : new.disk ≡ old.disk
   pub wal : new.wal ≡ old.wal
   pub next : new.next ≡ old.next
+  pub older : new.older ≡ old.older
   pub file : manifest_file new.manifest ≡ manifest_file old.manifest
   pub fold : manifest_folded new.manifest ≡ manifest_folded old.manifest
   pub rests : FoldRests f old.manifest → FoldRests f new.manifest
@@ -73,6 +77,7 @@ pub record IsEdited {D F : Type 0} (f : Ghosts F) (edit : Edit) (old new : Engin
   pub disk : new.disk ≡ old.disk
   pub wal : new.wal ≡ old.wal
   pub next : new.next ≡ old.next
+  pub older : new.older ≡ old.older
   pub rests : FoldRests f old.manifest → OnOk result (FoldRests f new.manifest)
   pub fold : OnOk result (manifest_folded new.manifest ≡ fold_with (manifest_folded old.manifest) edit)
   pub moments : FoldRests f old.manifest → Leaves f (manifest_file old.manifest) (manifest_file new.manifest) (IsEditImage (manifest_folded old.manifest) edit)
@@ -89,12 +94,14 @@ pub record IsSameFolder {D F : Type 0} (f : Ghosts F) (old new : Engine D F f) :
   pub wal : IsSameFile f (wal_file old.wal) (wal_file new.wal)
   pub manifest : IsSameFile f (manifest_file old.manifest) (manifest_file new.manifest)
 
--- What each call leaves, whether or not the disk tells what it holds: the same folder, still one, and number of the next file; nothing
--- touched where the call was refused; an engine that may be called unless the disk failed, and as many faults as before unless it did.
+-- What each call leaves, whether or not the disk tells what it holds: the same folder, still one, numbers of files, and what is known of
+-- the older logs; nothing touched where the call was refused; an engine that may be called unless the disk failed, and as many faults as before unless it did.
 pub record IsCalled {D F A : Type 0} (d : disk.Ghosts D F) (f : Ghosts F) (old new : Engine D F f) (result : Result A EngineFault) : Type 0 where
   pub same : IsSameFolder f old new
   pub one : IsOneFolder d f old → IsOneFolder d f new
   pub next : new.next ≡ old.next
+  pub older : new.older ≡ old.older
+  pub jobs : (n : ℕ) → IsJobNumber old n → IsJobNumber new n
   pub untouched : IfErr result (λ fault. is_disk_fault fault ≡ false → held new ≡ held old)
   pub running : is_disk_failure result ≡ false → IsRunning new
   pub failed : has_failed new ≡ is_disk_failure result

@@ -27,6 +27,7 @@ ghost use Rattle.store_engine.specs.Replies.{is_disk_fault};
 
 use crate::EngineFault;
 use crate::admission::{admit, admit_raise};
+use crate::older::OlderLogs;
 use manifest::Manifest;
 use manifest_edit::{Edit, FamilyEdit};
 use std::alloc::Global;
@@ -41,12 +42,13 @@ use wal::{PENDING_LIMIT, Wal};
 /// call takes is the one that the last call gave, and at first that of the opening. Where the disk failed in a call, only `failed`
 /// and `close` may be called.
 pub struct Engine<D: Disk> {
-    disk: D,
-    manifest: Manifest<D::File>,
-    wal: Wal<D::File>,
+    pub(crate) disk: D,
+    pub(crate) manifest: Manifest<D::File>,
+    pub(crate) wal: Wal<D::File>,
     /// The number of the next file.
-    next: u64,
-    failed: bool,
+    pub(crate) next: u64,
+    pub(crate) failed: bool,
+    pub(crate) older: OlderLogs,
 }
 
 /// The edit that gives a family another floor.
@@ -74,17 +76,24 @@ impl<D: Disk> Engine<D> {
     ghost use Rattle.store_engine.specs.Engines.{HoldsAsBefore, HoldsNow, IsCurrent, IsEngineOf, IsOneFolder, IsRunning, engine_faults, has_failed, held};
     ghost use Rattle.store_engine.specs.Steps.{IsAdded, IsBatchWritten, IsCalled, IsEdited, IsLogSynced, ReservesEdit};
 
-    /// The engine of an opened store, whose folder, manifest and newest log these are. It takes no memory.
-    pub fn from_parts(disk: D, manifest: Manifest<D::File>, wal: Wal<D::File>) -> Engine<D>
-        requires { (old : D) × (version : Version) × ArePartsOf D.Disk D.File.DiskFile old (parts_of disk manifest wal version) }
+    /// The engine of an opened store, whose folder, manifest, newest log and super version these are. It takes no memory.
+    pub fn from_parts(
+        alloc: Global,
+        disk: D,
+        manifest: Manifest<D::File>,
+        wal: Wal<D::File>,
+        version: &SuperVersion,
+    ) -> Engine<D>
+        requires { (old : D) × ArePartsOf D.Disk D.File.DiskFile old (parts_of disk manifest wal version.now) }
         ensures held { held result ≡ holding disk (wal_file wal ∷ manifest_file manifest ∷ []) }
         ensures next { result.next ≡ (manifest_folded manifest).next_file }
+        ensures older { (result.older.opened ≡ version.now.last) × (result.older.rolled.items ≡ []) }
         ensures running { IsRunning result }
         ensures one { IsOneFolder D.Disk D.File.DiskFile result }
-        ensures current { (old : D) (version : Version) → ArePartsOf D.Disk D.File.DiskFile old (parts_of disk manifest wal version) → IsCurrent result version }
+        ensures current { IsCurrent result version.now }
         // It and the version of the opening hold each state that the folder stands for.
-        ensures holds { (old : D) (version : Version) (m : State) → ArePartsOf D.Disk D.File.DiskFile old (parts_of disk manifest wal version)
-            → IsTrue (D.is_told old) → AreLiveClean D.Disk old (manifest_folded manifest) → FolderStands ReadsAsTable (D.stands old) m → HoldsNow D.Disk D.File.DiskFile result version m (course_start m) }
+        ensures holds { (old : D) (m : State) → ArePartsOf D.Disk D.File.DiskFile old (parts_of disk manifest wal version.now)
+            → IsTrue (D.is_told old) → AreLiveClean D.Disk old (manifest_folded manifest) → FolderStands ReadsAsTable (D.stands old) m → HoldsNow D.Disk D.File.DiskFile result version.now m (course_start m) }
     {
         let next = manifest.fold().next_file;
         Engine {
@@ -93,6 +102,7 @@ impl<D: Disk> Engine<D> {
             wal,
             next,
             failed: false,
+            older: OlderLogs::new(alloc, version.last),
         }
     }
 
@@ -120,7 +130,7 @@ impl<D: Disk> Engine<D> {
     }
 
     /// Puts all that waits in the log on the disk. It takes no memory.
-    fn sync_log(&mut self) -> Result<(), EngineFault>
+    pub(crate) fn sync_log(&mut self) -> Result<(), EngineFault>
         requires { IsRunning self.old }
         ensures { IsLogSynced D.File.DiskFile self.old self.new result }
     {
@@ -147,7 +157,7 @@ impl<D: Disk> Engine<D> {
     }
 
     /// Makes the manifest ready for an edit.
-    fn reserve_edit(&mut self, alloc: Global, edit: &Edit) -> Result<(), EngineFault>
+    pub(crate) fn reserve_edit(&mut self, alloc: Global, edit: &Edit) -> Result<(), EngineFault>
         requires { IsRunning self.old }
         ensures { ReservesEdit D.File.DiskFile edit.now self.old self.new result }
     {
@@ -157,12 +167,12 @@ impl<D: Disk> Engine<D> {
         }
     }
 
-    /// Adds a reserved edit of families to the manifest. It takes no memory.
-    fn append_edit(&mut self, edit: &Edit) -> Result<(), EngineFault>
+    /// Adds a reserved edit that adds no log to the manifest. It takes no memory.
+    pub(crate) fn append_edit(&mut self, edit: &Edit) -> Result<(), EngineFault>
         requires running { IsRunning self.old }
         requires accepted { IsAccepted (manifest_folded self.old.manifest) edit.now }
         requires reserved { IsEditReserved D.File.DiskFile self.old.manifest edit.now }
-        requires logs { (edit.now.add_logs ≡ []) × (edit.now.drop_logs ≡ []) }
+        requires logs { edit.now.add_logs ≡ [] }
         requires next { edit.now.next_file ≤ self.old.next }
         ensures { IsEdited D.File.DiskFile edit.now self.old self.new result }
     {
@@ -298,6 +308,7 @@ impl<D: Disk> Engine<D> {
             wal,
             next: _,
             failed: _,
+            older: _,
         } = self;
         disk.retire(wal.into_file());
         disk.retire(manifest.into_file());

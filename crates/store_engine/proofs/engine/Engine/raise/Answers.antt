@@ -7,7 +7,7 @@ use Rattle.udt_model.specs.Acts.Act.{raise}
 use Rattle.wal.specs.Wals.{wal_pending}
 use Rattle.manifest_edit.specs.declared.edit.Edit.{Edit}
 use Rattle.manifest_fold.specs.declared.fold.Folded.{Folded}
-use Rattle.manifest_fold.specs.Folds.{IsAccepted, fold_with}
+use Rattle.manifest_fold.specs.Folds.{IsAccepted, fold_with, is_live}
 use Rattle.manifest.specs.Manifest.{IsEditReserved, manifest_folded}
 use Rattle.engine_laws.specs.Installs.{raise_edit}
 use Rattle.engine_laws.specs.Joints.{IsNowLast}
@@ -15,6 +15,7 @@ use Rattle.store_engine.specs.Admission.{as_refusal}
 use Rattle.recovery.specs.Versions.{FitsFold}
 use Rattle.store_engine.proofs.Answering.{as_before, disk_cause, disk_disk, disk_tells, memory_fault, none_cause, none_disk, none_tells, one_stays, raise_fails, raise_refused, raised_told, rest_ran, same_folder}
 use Rattle.store_engine.proofs.Current.{family_there, fold_there, raise_accepted, raised_fits, state_is}
+use Rattle.store_engine.proofs.JobNumbers.{jobs_kept, jobs_stay, raised_live}
 use Rattle.store_engine.proofs.Raised.{reserved_held}
 use Rattle.store_engine.proofs.Raising.{edited_folder, first_cause, first_folder, first_ran, kept_before, kept_faults, kept_folder, second_cause, second_current, second_now, second_ran}
 use Rattle.store_engine.proofs.engine.Engine.raise.Goals as goal
@@ -85,6 +86,8 @@ returns-in-Err-clause-called g c =
       same = same_folder d f last self;
       one = λ one. one;
       next = refl;
+      older = refl;
+      jobs = λ n job. job;
       untouched = λ not. refl;
       running = λ not. c.requires.running;
       failed = c.requires.running.runs ∙ sym (memory_fault fault e.memory);
@@ -165,6 +168,8 @@ returns-in-Err-reserve_edit-clause-called g c =
       same = kept_folder d f last self mid edit (Err fault) e;
       one = one_stays d f self mid (kept_folder d f last self mid edit (Err fault) e);
       next = e.next;
+      older = e.older;
+      jobs = jobs_kept f self mid e.next e.fold;
       untouched = λ not. reserved_held d f last self mid edit (Err fault) e;
       running = λ not. e.running;
       failed = e.running.runs ∙ sym (none_disk fault e.fault);
@@ -253,6 +258,8 @@ returns-in-Err-sync_log-clause-called g c =
       same = first_folder d f last self mid edit (Ok tt) kept two (Err fault) e;
       one = one_stays d f self two (first_folder d f last self mid edit (Ok tt) kept two (Err fault) e);
       next = e.next ∙ kept.next;
+      older = e.older ∙ kept.older;
+      jobs = jobs_kept f self two (e.next ∙ kept.next) (ap manifest_folded e.manifest ∙ kept.fold);
       untouched = λ not. absurd (false≢true (sym not ∙ disk_disk fault e.fault));
       running = λ not. absurd (false≢true (sym not ∙ disk_disk fault e.fault));
       failed = e.failed;
@@ -373,6 +380,8 @@ returns-in-Err-append_edit-clause-called g c =
       same = edited_folder d f last self mid edit (Ok tt) kept two new (Err fault) synced e;
       one = one_stays d f self new (edited_folder d f last self mid edit (Ok tt) kept two new (Err fault) synced e);
       next = e.next ∙ synced.next ∙ kept.next;
+      older = e.older ∙ synced.older ∙ kept.older;
+      jobs = jobs_kept f self new (e.next ∙ synced.next ∙ kept.next) (e.unchanged ∙ ap manifest_folded synced.manifest ∙ kept.fold);
       untouched = λ not. absurd (false≢true (sym not ∙ disk_disk fault e.fault));
       running = λ not. absurd (false≢true (sym not ∙ disk_disk fault e.fault));
       failed = e.failed;
@@ -522,6 +531,10 @@ returns-in-Ok-append_edit-clause-called g c =
       same = edited_folder d f last self mid edit (Ok tt) kept two new (Ok tt) synced e;
       one = one_stays d f self new (edited_folder d f last self mid edit (Ok tt) kept two new (Ok tt) synced e);
       next = e.next ∙ synced.next ∙ kept.next;
+      older = e.older ∙ synced.older ∙ kept.older;
+      jobs = jobs_stay f self new (e.next ∙ synced.next ∙ kept.next) (λ n.
+          ap (λ (z : Folded). is_live z.families n) (e.fold ∙ ap (λ (z : Folded). fold_with z edit) (ap manifest_folded synced.manifest ∙ kept.fold) ∙ ap (fold_with fold) is)
+          ∙ raised_live fold now.last self.next family fam floor (fold_there fold now fits family floor state here).1 n);
       untouched = tt;
       running = λ not. e.running;
       failed = e.failed;
@@ -628,7 +641,7 @@ append_edit-requires-clause-logs g c =
     let two = c.sync_log.new.self in
     let kept = c.in-Ok-reserve_edit.ensures in
     let synced = c.in-Ok-sync_log.ensures in
-    λ κs outlived. (ap (λ (x : Edit). x.add_logs) is, ap (λ (x : Edit). x.drop_logs) is)
+    λ κs outlived. ap (λ (x : Edit). x.add_logs) is
 
 pub returns-in-Err-reserve_edit-clause-answers : goal.returns-in-Err-reserve_edit-clause-answers
 returns-in-Err-reserve_edit-clause-answers g c =

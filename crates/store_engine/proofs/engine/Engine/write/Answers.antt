@@ -3,11 +3,13 @@ use Rattle.std.proofs.lemmas.Bool.{false≢true}
 use Rattle.std.specs.Arc.{arc_value}
 use Rattle.wal.specs.declared.numbered.Numbered.{Numbered}
 use Rattle.udt_model.specs.Acts.Act.{write}
+use Rattle.manifest.specs.Manifest.{manifest_folded}
 use Rattle.engine_laws.specs.Joints.{IsNowLast}
 use Rattle.store_engine.specs.Admission.{as_refusal}
 use Rattle.store_engine.proofs.Answering.{as_before, disk_cause, disk_disk, disk_tells, memory_fault, none_cause, none_disk, none_tells, one_stays, rest_ran, same_folder, write_fails, write_refused, written_told}
+use Rattle.store_engine.proofs.JobNumbers.{jobs_kept}
 use Rattle.store_engine.proofs.Written.{added_faults, added_folder, appended_held, unadded}
-use Rattle.store_engine.proofs.Writing.{end_bytes, end_cause, end_current, end_failed, end_fault, end_folder, end_manifest, end_next, end_now, end_ran, end_running, end_synced, end_waits}
+use Rattle.store_engine.proofs.Writing.{end_bytes, end_cause, end_current, end_failed, end_fault, end_folder, end_manifest, end_next, end_older, end_now, end_ran, end_running, end_synced, end_waits}
 use Rattle.store_engine.proofs.engine.Engine.write.Goals as goal
 
 pub returns-in-Err-clause-tells : goal.returns-in-Err-clause-tells
@@ -76,6 +78,8 @@ returns-in-Err-clause-called g c =
       same = same_folder d f last self;
       one = λ one. one;
       next = refl;
+      older = refl;
+      jobs = λ n job. job;
       untouched = λ not. refl;
       running = λ not. c.requires.running;
       failed = c.requires.running.runs ∙ sym (memory_fault fault e.memory);
@@ -156,6 +160,8 @@ returns-in-Err-add_batch-clause-called g c =
       same = added_folder d f last self mid b (Err fault) e;
       one = one_stays d f self mid (added_folder d f last self mid b (Err fault) e);
       next = e.next;
+      older = e.older;
+      jobs = jobs_kept f self mid e.next (ap manifest_folded e.manifest);
       untouched = λ not. appended_held d f last self mid b (Err fault) e;
       running = λ not. e.running;
       failed = e.running.runs ∙ sym (none_disk fault e.fault);
@@ -240,6 +246,8 @@ returns-in-Err-sync_due-clause-called g c =
       same = end_folder d f last self mid new now ops sync added c.requires.running.together (Err fault) e.due e.waits;
       one = one_stays d f self new (end_folder d f last self mid new now ops sync added c.requires.running.together (Err fault) e.due e.waits);
       next = end_next d f last self mid new now ops sync added c.requires.running.together (Err fault) e.due e.waits;
+      older = end_older d f last self mid new now ops sync added c.requires.running.together (Err fault) e.due e.waits;
+      jobs = jobs_kept f self new (end_next d f last self mid new now ops sync added c.requires.running.together (Err fault) e.due e.waits) (ap manifest_folded (end_manifest d f last self mid new now ops sync added c.requires.running.together (Err fault) e.due e.waits));
       untouched = λ not. absurd (false≢true (sym not ∙ disk_disk fault (end_fault d f last self mid new now ops sync added c.requires.running.together (Err fault) e.due e.waits)));
       running = λ not. absurd (false≢true (sym not ∙ disk_disk fault (end_fault d f last self mid new now ops sync added c.requires.running.together (Err fault) e.due e.waits)));
       failed = end_failed d f last self mid new now ops sync added c.requires.running.together (Err fault) e.due e.waits;
@@ -343,6 +351,8 @@ returns-in-Ok-sync_due-clause-called g c =
       same = end_folder d f last self mid new now ops sync added c.requires.running.together (Ok tt) e.due e.waits;
       one = one_stays d f self new (end_folder d f last self mid new now ops sync added c.requires.running.together (Ok tt) e.due e.waits);
       next = end_next d f last self mid new now ops sync added c.requires.running.together (Ok tt) e.due e.waits;
+      older = end_older d f last self mid new now ops sync added c.requires.running.together (Ok tt) e.due e.waits;
+      jobs = jobs_kept f self new (end_next d f last self mid new now ops sync added c.requires.running.together (Ok tt) e.due e.waits) (ap manifest_folded (end_manifest d f last self mid new now ops sync added c.requires.running.together (Ok tt) e.due e.waits));
       untouched = tt;
       running = λ not. end_running d f last self mid new now ops sync added c.requires.running.together (Ok tt) e.due e.waits;
       failed = end_failed d f last self mid new now ops sync added c.requires.running.together (Ok tt) e.due e.waits;
