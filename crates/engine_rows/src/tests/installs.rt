@@ -25,15 +25,13 @@ const OF_SECOND: &[u8] =
 \x22\0\0\0\0\0\0\0\x3A\0\0\0\0\0\0\0udttab01";
 
 /// The first one with its timestamp stripped.
-const STRIPPED: &[u8] =
-    b"\0\0\x09\0\x01\0\0\0\0\x01\x01\0\0\0\0\0\0v\0\0\0\0\x01\0\0\0\
+const STRIPPED: &[u8] = b"\0\0\x09\0\x01\0\0\0\0\x01\x01\0\0\0\0\0\0v\0\0\0\0\x01\0\0\0\
 \x01\0\0\0\0\0\0\0\0\0\0\0\x1A\0\0\0\0\0\0\0\x01\0\0\0\
 \0\0\0\0\x01\x01\0\0\0\0\0\0\0\x01\0\0\x01\0\0\x01\0\0\0\0\0\0\0\x01\0\0\0\0\0\0\0\0\0\0\0\0\0\0\0\0\0\0\0\0\0\0\0\
 \x1A\0\0\0\0\0\0\0\x32\0\0\0\0\0\0\0udttab01";
 
 /// Of family 0 the puts of `\0` at 9 with sequence 3 and at 8 with sequence 2, collected by 8.
-const OF_TWO: &[u8] =
-    b"\0\0\x11\0\x01\0\0\0\0\x09\0\0\0\0\0\0\0\x01\x03\0\0\0\0\0\0v\
+const OF_TWO: &[u8] = b"\0\0\x11\0\x01\0\0\0\0\x09\0\0\0\0\0\0\0\x01\x03\0\0\0\0\0\0v\
 \x01\0\x10\0\x01\0\0\0\x08\0\0\0\0\0\0\0\x01\x02\0\0\0\0\0\0v\0\0\0\0\x01\0\0\0\
 \x01\0\0\0\0\0\0\0\0\0\0\0\x3B\0\0\0\0\0\0\0\x02\0\0\0\
 \0\0\0\0\0\x02\0\0\0\0\0\0\0\x01\0\0\x01\0\0\x02\0\0\0\0\0\0\0\x03\0\0\0\0\0\0\0\x09\0\0\0\0\0\0\0\x08\0\0\0\0\0\0\0\
@@ -103,7 +101,9 @@ fn a_flush_that_stops_is_made_or_not(rt: HostRuntime) -> Result<(), Fail> {
                 let is_made = flushed_of(&version, 0) == Some((1, 1));
                 assert_eq!(rt; version.last, Seq(1));
                 assert_eq!(rt; fault.is_none(), call == *last, "{name:?} {call}");
-                assert!(rt; is_made || (fault.is_some() && flushed_of(&version, 0) == Some((0, 0))));
+                assert!(rt;
+                    is_made || (fault.is_some() && flushed_of(&version, 0) == Some((0, 0)))
+                );
             }
         }
     }
@@ -112,12 +112,7 @@ fn a_flush_that_stops_is_made_or_not(rt: HostRuntime) -> Result<(), Fail> {
 
 #[test]
 fn a_log_stays_while_a_family_needs_it(rt: HostRuntime) -> Result<(), Fail> {
-    let steps = [
-        put(0, 7),
-        put(1, 7),
-        Step::Seal { family: 1 },
-        FLUSH_SECOND,
-    ];
+    let steps = [put(0, 7), put(1, 7), Step::Seal { family: 1 }, FLUSH_SECOND];
     for outcome in OUTCOMES {
         let disk = made(rt.alloc(), Vec::new(rt.alloc()))?.ok_or("no store")?;
         let (disk, fault) = history(rt.alloc(), disk, &steps)?;
