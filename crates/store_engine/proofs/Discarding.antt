@@ -33,17 +33,15 @@ use Rattle.store_engine.proofs.GivenBack.{table_apart}
 
 -- ---- the one image or the other
 
-pick : {P Q : Type 0} → P ⊎ Q → Image → Image → Image
+abbrev pick : {P Q : Type 0} → P ⊎ Q → Image → Image → Image
 pick (inl p) one other = one
 pick (inr q) one other = other
 
 picks_one : {P Q : Type 0} (o : P ⊎ Q) (one other : Image) → (Q → ⊥) → pick o one other ≡ one
-unfolding pick
 picks_one (inl p) one other never = refl
 picks_one (inr q) one other never = absurd (never q)
 
 picks_other : {P Q : Type 0} (o : P ⊎ Q) (one other : Image) → (P → ⊥) → pick o one other ≡ other
-unfolding pick
 picks_other (inl p) one other never = absurd (never p)
 picks_other (inr q) one other never = refl
 
@@ -68,7 +66,7 @@ live_listed folder left stands number live =
 module _ {D F : Type 0} (d : disk.Ghosts D F) (f : file.Ghosts F) (now_last : IsNowLast d f) (stays : (x : D) (n : FileName) → IsTrue (d.keeps_model x) → d.may_leave x n (d.stands x n)) where
   module _ (old new : Engine D F f) (given : F) (number : ℕ) (back : IsGivenBack d f given old new) (named : f.name given ≡ Table number) (one : IsOneFolder d f old) (model : IsTrue (d.keeps_model old.disk)) where
     -- the folder with what stands under the name in it
-    before : Folder → Folder
+    abbrev before : Folder → Folder
     before folder = λ n. pick (same_or_other (Table number) n) (d.stands old.disk n) (folder n)
 
     elsewhere : (folder : Folder) (n : FileName) → n ≢ Table number → before folder n ≡ folder n
