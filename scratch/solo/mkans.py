@@ -84,7 +84,7 @@ put('raise',['use Rattle.std.proofs.Common.{refl, ap, subst, sym}','use Rattle.u
     let works = none_left s.halted c.in_default.not-Some in
     let done = rw c.as_ref.ensures at c.in-Err.ensures in
     let asks : Asks s.names.items (Raise name c.args.floor) act = rw c.family_of-family.ensures (asks_raise s.names.items name c.args.floor) in
-    let faulted = faulted_under d f last s c.raise.new.self c.args.number act c.in-Err.fault (λ m co h. done.tells m co h) done.refused (λ n is. absurd (raise_files _ c.args.floor c.in-Err.fault n done.answers is)) (λ m co h. done.moments m co c.args.number h) done.called in
+    let faulted = faulted_under d f last s c.raise.new.self c.args.number act works c.in-Err.fault (λ m co h. done.tells m co h) done.refused (λ n is. absurd (raise_files _ c.args.floor c.in-Err.fault n done.answers is)) (λ m co h. done.moments m co c.args.number h) done.called in
     subst (λ (r : Reply). IsStep d f s c.refused.new.self c.args.number (Raise name c.args.floor) r) (sym c.refused.ensures.told)
     (fault_step d f last s c.refused.new.self c.raise.new.self c.args.number act works c.requires (Raise name c.args.floor) asks (refuses_raise name i c.args.floor) c.in-Err.fault faulted c.refused.ensures.halted)
 '''),
@@ -141,7 +141,7 @@ put('take',['use Rattle.std.proofs.Common.{refl, ap, map, subst, sym}','use Ratt
     let act = write ops c.args.sync in
     let done = rw (c.as_ref.ensures, c.in-Ok.ensures) at c.in-Err.ensures in
     let asks : Asks s.names.items (Write c.args.ops.now c.args.sync) act = rw c.deref.ensures.value (asks_write s.names.items c.args.ops.now c.args.sync) in
-    let faulted = faulted_under d f last s c.write.new.self c.args.number act c.in-Err.fault (λ m co h. done.tells m co h) done.refused (λ n is. absurd (write_files (now_of s) ops c.in-Err.fault n done.answers is)) (λ m co h. done.moments m co c.args.number h) done.called in
+    let faulted = faulted_under d f last s c.write.new.self c.args.number act c.requires.works c.in-Err.fault (λ m co h. done.tells m co h) done.refused (λ n is. absurd (write_files (now_of s) ops c.in-Err.fault n done.answers is)) (λ m co h. done.moments m co c.args.number h) done.called in
     subst (λ (r : Reply). IsStep d f s c.refused.new.self c.args.number (Write c.args.ops.now c.args.sync) r) (sym c.refused.ensures.told)
     (fault_step d f last s c.refused.new.self c.write.new.self c.args.number act c.requires.works c.requires.ready (Write c.args.ops.now c.args.sync) asks (refuses_write c.args.ops.now ops c.args.sync) c.in-Err.fault faulted c.refused.ensures.halted)
 """),

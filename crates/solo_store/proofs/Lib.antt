@@ -13,3 +13,5 @@ pub mod Following
 pub mod Answers
 pub mod Events
 pub mod Opened
+pub mod Starting
+pub mod Taken
