@@ -174,3 +174,51 @@ put('of',['use Rattle.std.proofs.Common.{◌≡◌, map, refl, sym, ap, ◌∙�
     (subst (λ j. OnlyReads d f j (alone c.close.result)) c.from_parts-engine.ensures.held (c.close.ensures.reads c.from_parts-engine.ensures.one))
 """),
 ])
+
+import os
+def put2(path,fn,uses,goals,last=False):
+    t='\n'.join(uses)+f'\nuse Rattle.solo_store.proofs.{path}.{fn}.Goals as goal\n'
+    for name,args,body in goals:
+        t+=f'\npub {name} : goal.{name}\n{name} g c{args} =\n{body}'
+    b='/work/h/solo/crates/solo_store/proofs/'+path.replace('.','/')+'/'+fn
+    os.makedirs(b,exist_ok=True); open(b+'/Answers.antt','w').write(t)
+put2('flushes','write_flush',['use Rattle.std.proofs.Common.{◌≡◌, List, map, refl, sym, ap, ◌∙◌, subst, Option, Some, None}','use Rattle.std.specs.Prelude.{Result, Ok, Err}','use Rattle.std.specs.Arc.{arc_value}','use Rattle.memtable.specs.Memtables.{Memtable}','use Rattle.flush_job.specs.Flushes.{AreFlushable}','use Rattle.flush_job.specs.Walks.{versions_of_all}','use Rattle.solo_store.specs.Flushing.{IsFlushWritten}','use Rattle.solo_store.proofs.Writing.{written_flush}'],[
+ ('returns-in-Ok-true','',"""    let f = g.F.DiskFile in
+    let state = c.in-Some.state.now in
+    let flushable = subst (λ (mems : List Memtable). AreFlushable c.args.flush.family (versions_of_all mems)) c.as_slice-mems.ensures (c.in-Ok-true.ensures c.in-Ok-true.field-0-test) in
+    written_flush f c.args.version.now c.args.flush state c.args.file.now c.run_flush.new.file c.run_flush.result (sym c.in-Some.ensures) flushable
+    ((rw c.as_slice-mems.ensures at c.run_flush.ensures) c.args.flush.family flushable)
+"""),
+])
+put('end_flush',['use Rattle.std.proofs.Common.{refl, sym, ap, ◌∙◌, subst}','use Rattle.udt_model.specs.declared.event.Event.TheVariants.{FlushEnd}']+U+['use Rattle.solo_store.specs.Steps.{IsStep}','use Rattle.solo_store.proofs.Ending.{end_halted}'],[
+ ('returns-in-Some-halted-clause-step','',"""    let s = c.args.self.now in
+    rw⁻¹ c.requires.runs.of_start (end_halted d f last s c.requires.ready c.args.number c.requires.runs.flush c.requires.runs.runs c.args.family.now c.requires.runs.of_family c.in-Some-halted.since c.in-Some-halted.is)
+"""),
+])
+SF=['use Rattle.std.proofs.Common.{refl, sym, ap, ◌∙◌, subst}','use Rattle.std.specs.Prelude.{length}','use Rattle.super_version.specs.Changes.{family_with_seal}']+U+['use Rattle.solo_store.specs.Stores.{now_of}','use Rattle.solo_store.proofs.Events.{none_left}','use Rattle.solo_store.proofs.Following.{follows_changed}','use Rattle.solo_store.proofs.Starting.{start_absent, start_busy, start_fault, start_halted, start_nothing, start_runs, start_started}']
+HERE="""    let s = c.args.self.now in
+    let i = c.family_of-family.result in
+    let name = c.args.family.now in
+    let is_family = c.family_of-family.ensures in
+"""
+FOUND=HERE+"""    let state = c.in-Some.state.now in
+    let found = rw c.as_ref.ensures at c.in-Some.ensures in
+"""
+WORKS=FOUND+"""    let works = none_left s.halted c.in_default-halted.not-Some in
+"""
+put('start_flush',SF,[
+ ('returns-in_default-clause-step','',HERE+"""    start_absent d f last s c.requires c.args.number name i is_family (rw c.as_ref.ensures at c.in_default.ensures)
+"""),
+ ('returns-in-Some-halted-clause-step','',FOUND+"""    start_halted d f last s c.requires c.args.number name i is_family state found c.in-Some-halted.since c.in-Some-halted.is
+"""),
+ ('returns-in-Some-flush-clause-step','',FOUND+"""    ?
+"""),
+ ('returns-in-Ok-Nothing-clause-step','',FOUND+"""    ?
+"""),
+ ('returns-in-Ok-Waiting-clause-step','',FOUND+"""    ?
+"""),
+ ('returns-in-Ok-Rolled-clause-step','',FOUND+"""    ?
+"""),
+ ('returns-clause-step','',FOUND+"""    ?
+"""),
+])

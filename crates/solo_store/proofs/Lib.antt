@@ -15,3 +15,5 @@ pub mod Events
 pub mod Opened
 pub mod Starting
 pub mod Taken
+pub mod Writing
+pub mod Ending

@@ -134,7 +134,10 @@ new_number used n below =
     let none : has_number used n ≡ false = none-any (λ o. o == n) used (λ k j is. let l = All-In (λ o. o < n) used k below j in let e = eqb-true k n is in absurd (omega (arith, l, e))) in
     rw none refl
 
-drop_none : (n : ℕ) → drop n ([] {A = ℕ}) ≡ []
+abbrev no_bytes : List ℕ
+no_bytes = []
+
+drop_none : (n : ℕ) → drop n no_bytes ≡ no_bytes
 drop_none zero = refl
 drop_none (suc n) = refl
 
