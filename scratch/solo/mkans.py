@@ -204,21 +204,62 @@ HERE="""    let s = c.args.self.now in
 FOUND=HERE+"""    let state = c.in-Some.state.now in
     let found = rw c.as_ref.ensures at c.in-Some.ensures in
 """
-WORKS=FOUND+"""    let works = none_left s.halted c.in_default-halted.not-Some in
+WORKS=FOUND+"""    let works = c.in_default-halted.is in
 """
+IDLE=WORKS+"""    let idle = c.in_default-flush.is in
+"""
+WAIT=IDLE+"""    let done = rw (c.as_ref-2.ensures, c.in-Ok-Waiting.field-0-is) at c.in-Ok-Waiting.ensures in
+    let mid : Store g.row.D.Denot g.row.D-File.Denot f = record s { engine = c.seal.new.self } in
+    FN d f last s c.requires c.args.number name i is_family state found works idle mid c.note_flush.new.self (Ok Waiting) refl refl refl refl
+    (λ m co h none. done.tells m co h none) (λ m co h none. done.holds m co c.args.number h none) (λ m co h. done.moments m co h) done.current refl done.called
+    c.note_flush.result c.note_flush.ensures.told c.note_flush.ensures.runs
+"""
+ROLL=IDLE+"""    let done = rw (c.as_ref-2.ensures, c.in-Ok-Rolled.field-0-is) at c.in-Ok-Rolled.ensures in
+    let mid : Store g.row.D.Denot g.row.D-File.Denot f = record s { engine = c.seal.new.self; version = c.in-Ok-Rolled.version } in
+    let changes = done.shown.changes in
+    FN d f last s c.requires c.args.number name i is_family state found works idle mid c.note_flush-in-Ok-Rolled.new.self (Ok (Rolled c.in-Ok-Rolled.version c.in-Ok-Rolled.field-0-1)) refl refl changes.last
+    (follows_changed i.0 family_with_seal (now_of s) _ (λ x. refl) changes).count
+    (λ m co h none. done.tells m co h none) (λ m co h none. done.holds m co c.args.number h none) (λ m co h. done.moments m co h) done.current refl done.called
+    c.note_flush-in-Ok-Rolled.result c.note_flush-in-Ok-Rolled.ensures.told c.note_flush-in-Ok-Rolled.ensures.runs
+"""
+SF=['use Rattle.std.proofs.Common.{refl}','use Rattle.std.specs.Prelude.{Ok}','use Rattle.super_version.specs.Changes.{family_with_seal}']+U+['use Rattle.store_engine.specs.declared.seal.Sealed.TheVariants.{Rolled, Waiting}','use Rattle.solo_store.specs.Stores.{now_of}','use Rattle.solo_store.specs.declared.store.Store.{Store}','use Rattle.solo_store.proofs.Following.{follows_changed}','use Rattle.solo_store.proofs.Starting.{start_absent, start_busy, start_fault, start_halted, start_nothing, start_runs, start_started}']
 put('start_flush',SF,[
  ('returns-in_default-clause-step','',HERE+"""    start_absent d f last s c.requires c.args.number name i is_family (rw c.as_ref.ensures at c.in_default.ensures)
 """),
  ('returns-in-Some-halted-clause-step','',FOUND+"""    start_halted d f last s c.requires c.args.number name i is_family state found c.in-Some-halted.since c.in-Some-halted.is
 """),
- ('returns-in-Some-flush-clause-step','',FOUND+"""    ?
+ ('returns-in-Some-flush-clause-step','',WORKS+"""    start_busy d f last s c.requires c.args.number name i is_family state found works c.in-Some-flush.flush c.in-Some-flush.is
 """),
- ('returns-in-Ok-Nothing-clause-step','',FOUND+"""    ?
+ ('returns-in-Ok-Nothing-clause-step','',IDLE+"""    let done = rw (c.as_ref-2.ensures, c.in-Ok-Nothing.field-0-is) at c.in-Ok-Nothing.ensures in
+    start_nothing d f last s c.requires c.args.number name i is_family state found works idle c.seal.new.self (done.still refl) (λ m co h none. done.tells m co h none)
 """),
- ('returns-in-Ok-Waiting-clause-step','',FOUND+"""    ?
+ ('returns-in-Ok-Waiting-clause-step','',WAIT.replace('FN','start_runs')),
+ ('returns-in-Ok-Waiting-clause-started','',WAIT.replace('FN','start_started')),
+ ('returns-in-Ok-Rolled-clause-step','',ROLL.replace('FN','start_runs')),
+ ('returns-in-Ok-Rolled-clause-started','',ROLL.replace('FN','start_started')),
+ ('returns-clause-step','',IDLE+"""    let done = rw c.as_ref-2.ensures at c.in-Err.ensures in
+    start_fault d f last s c.requires c.args.number name i is_family state found works idle c.seal.new.self c.refused.new.self c.in-Err.fault c.refused.result
+    (λ m co h none. done.tells m co h none) done.refused (λ m co h. done.moments m co h) done.answers done.called c.refused.ensures.told c.refused.ensures.halted
 """),
- ('returns-in-Ok-Rolled-clause-step','',FOUND+"""    ?
+])
+FIN=['use Rattle.std.proofs.Common.{refl}']+U+['use Rattle.solo_store.proofs.Ending.{drop_step}']
+put('finish',FIN,[
+ ('returns-in-Err-FilesFull-clause-step',' name named',"""    let s = c.args.self.now in
+    ?
 """),
- ('returns-clause-step','',FOUND+"""    ?
+ ('returns-in-Err','',"""    let s = c.args.self.now in
+    ?
+"""),
+ ('returns-in-Err-write_flush-clause-step',' name named',"""    let s = c.args.self.now in
+    ?
+"""),
+ ('returns-in-Ok-install_flush-clause-step',' name named',"""    let s = c.args.self.now in
+    ?
+"""),
+ ('returns-in-Err-NoMemory-clause-step',' name named',"""    let s = c.args.self.now in
+    ?
+"""),
+ ('returns','',"""    let s = c.args.self.now in
+    ?
 """),
 ])
