@@ -242,22 +242,32 @@ put('start_flush',SF,[
     (λ m co h none. done.tells m co h none) done.refused (λ m co h. done.moments m co h) done.answers done.called c.refused.ensures.told c.refused.ensures.halted
 """),
 ])
-FIN=['use Rattle.std.proofs.Common.{refl}']+U+['use Rattle.solo_store.proofs.Ending.{drop_step}']
+FIN=['use Rattle.std.proofs.Common.{refl, sym, ap, ◌∙◌, subst, inl, inr}']+U+['use Rattle.solo_store.specs.Stores.{now_of}','use Rattle.solo_store.proofs.Finishing.{discard_step, installed_step, no_file_step, stopped_step, unmade_step}']
+ARGS="d f last s c.requires.ready c.args.number c.args.flush c.requires.runs c.requires.works name named"
+MADE="c.new_job_file.new.self c.in-Ok.made c.in-Ok.ensures.holds (λ now m co h. c.in-Ok.ensures.moments now m co h) c.in-Ok.ensures.made c.in-Ok.ensures.called"
+WROTE="""    let written = rw c.as_ref-version.ensures at c.in-Ok-write_flush.ensures in
+    let gone = rw c.as_ref-version.ensures at c.count_sealed-gone.ensures in
+"""
 put('finish',FIN,[
- ('returns-in-Err-FilesFull-clause-step',' name named',"""    let s = c.args.self.now in
-    ?
-"""),
- ('returns-in-Err','',"""    let s = c.args.self.now in
-    ?
+ ('returns-in-Err-clause-step',' name named',"""    let s = c.args.self.now in
+    let done = c.in-Err.ensures in
+    no_file_step """+ARGS+""" c.new_job_file.new.self c.in-Err.fault c.without_file.result done.holds (λ now m co h. done.moments now m co h) done.answers done.called c.without_file.ensures
 """),
  ('returns-in-Err-write_flush-clause-step',' name named',"""    let s = c.args.self.now in
-    ?
+    let written = rw c.as_ref-version.ensures at c.in-Err-write_flush.ensures in
+    discard_step """+ARGS+"\n    "+MADE+""" c.discard.new.self c.write_flush.new.file c.in-Err-write_flush.cause c.dropped.result written
+    c.discard.ensures.holds (λ now m co h. c.discard.ensures.moments now m co h) c.discard.ensures.given c.discard.ensures.discarded c.dropped.ensures
 """),
  ('returns-in-Ok-install_flush-clause-step',' name named',"""    let s = c.args.self.now in
-    ?
+"""+WROTE+"""    let done = rw c.as_ref-version.ensures at c.in-Ok-install_flush.ensures in
+    let told = rw c.as_ref-version.ensures at c.table_told-told.ensures in
+    installed_step """+ARGS+"\n    "+MADE+""" c.write_flush.new.file c.in-Ok-write_flush.out c.count_sealed-gone.result gone written c.install_flush.new.self _ c.in-Ok-install_flush.next c.table_told-told.result
+    (λ m co event job h ends. done.moments m co event job h ends) done.called refl refl refl refl (λ m co job h ends. done.tells m co job h ends) (λ m co event job h ends. done.holds m co event job h ends) done.current done.shown told
 """),
  ('returns-in-Err-NoMemory-clause-step',' name named',"""    let s = c.args.self.now in
-    ?
+"""+WROTE+"""    let done = rw (c.as_ref-version.ensures, c.in-Err-NoMemory.field-0-is) at c.in-Err-NoMemory.ensures in
+    unmade_step """+ARGS+"\n    "+MADE+""" c.write_flush.new.file c.in-Ok-write_flush.out c.count_sealed-gone.result gone written c.install_flush.new.self
+    (λ m co event job h ends. done.moments m co event job h ends) done.called (done.refused refl)
 """),
  ('returns','',"""    let s = c.args.self.now in
     ?

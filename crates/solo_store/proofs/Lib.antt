@@ -17,3 +17,4 @@ pub mod Starting
 pub mod Taken
 pub mod Writing
 pub mod Ending
+pub mod Finishing

@@ -13,6 +13,8 @@ use Rattle.super_version.specs.declared.jobs.JobCause.{JobCause}
 use Rattle.super_version.specs.declared.jobs.JobCause.TheVariants.{Fault, Memory, Files, Halted}
 use Rattle.super_version.specs.declared.jobs.TableOut.{TableOut}
 use Rattle.super_version.specs.declared.version.SuperVersion.{SuperVersion}
+use Rattle.store_engine.specs.declared.fault.EngineFault.{EngineFault}
+use Rattle.store_engine.specs.declared.fault.EngineFault.TheVariants as faults
 use Rattle.flush_job.specs.Flushes.{AreFlushable, Flushes}
 use Rattle.flush_job.specs.Walks.{versions_of_all}
 use Rattle.solo_store.specs.declared.store.RunningFlush.{RunningFlush}
@@ -23,6 +25,12 @@ dropped_told Fault = replies.DroppedFault
 dropped_told Memory = replies.DroppedMemory
 dropped_told (Files next) = replies.DroppedFiles next
 dropped_told (Halted since) = replies.Halted since
+
+-- and of one for which there was no file
+abbrev pub told_without_file : EngineFault → Reply
+told_without_file (faults.FilesFull next) = replies.DroppedFiles next
+told_without_file faults.NoMemory = replies.DroppedMemory
+told_without_file fault = replies.DroppedFault
 
 abbrev pub sealed_of : Option FamilyState → List Memtable
 sealed_of None = []

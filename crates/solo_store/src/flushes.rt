@@ -3,7 +3,7 @@
 ghost use Rattle.std.specs.Prelude.{◌≡◌, ℕ, List, None, Some, IsTrue, [], length};
 ghost use Rattle.udt_model.specs.declared.event.Event.TheVariants.{FlushEnd as FlushEndEvent, FlushStart as FlushStartEvent};
 ghost use Rattle.store_engine.specs.Installing.{flush_end_reply};
-ghost use Rattle.solo_store.specs.Flushing.{IsFlushWritten, dropped_told, sealed_in};
+ghost use Rattle.solo_store.specs.Flushing.{IsFlushWritten, dropped_told, sealed_in, told_without_file};
 ghost use Rattle.solo_store.specs.Names.{family_named as number_named};
 
 use crate::flushable::are_flushable;
@@ -25,6 +25,17 @@ fn dropped(cause: JobCause) -> Reply
         JobCause::Memory => Reply::DroppedMemory,
         JobCause::Files { next } => Reply::DroppedFiles { next },
         JobCause::Halted { since } => Reply::Halted { since },
+    }
+}
+
+/// What is told of a flush for which there was no file.
+fn without_file(fault: EngineFault) -> Reply
+    ensures { result ≡ told_without_file fault }
+{
+    match fault {
+        EngineFault::FilesFull { next } => Reply::DroppedFiles { next },
+        EngineFault::NoMemory => Reply::DroppedMemory,
+        _ => Reply::DroppedFault,
     }
 }
 
@@ -155,8 +166,7 @@ impl<D: Disk> Store<D> {
         self.flush = None;
         let (table, mut file) = match self.engine.new_job_file() {
             Ok(made) => made,
-            Err(EngineFault::FilesFull { next }) => return Reply::DroppedFiles { next },
-            Err(_) => return Reply::DroppedFault,
+            Err(fault) => return without_file(fault),
         };
         let version = self.version.as_ref();
         let out = match write_flush(alloc, version, flush, &mut file) {

@@ -1,10 +1,11 @@
-use Rattle.std.proofs.Common.{refl}
+use Rattle.std.proofs.Common.{refl, sym, ap, ◌∙◌, subst, inl, inr}
 use Rattle.engine_laws.specs.Joints.{IsNowLast}
-use Rattle.solo_store.proofs.Ending.{drop_step}
+use Rattle.solo_store.specs.Stores.{now_of}
+use Rattle.solo_store.proofs.Finishing.{discard_step, installed_step, no_file_step, stopped_step, unmade_step}
 use Rattle.solo_store.proofs.store.Store.finish.Goals as goal
 
-pub returns-in-Err-FilesFull-clause-step : goal.returns-in-Err-FilesFull-clause-step
-returns-in-Err-FilesFull-clause-step g c name named =
+pub returns-in-Err-clause-step : goal.returns-in-Err-clause-step
+returns-in-Err-clause-step g c name named =
     let d = g.D.Disk in
     let f = g.D.File.DiskFile in
     let last : IsNowLast d f = record {
@@ -12,18 +13,8 @@ returns-in-Err-FilesFull-clause-step g c name named =
       file = λ x image left. (g.met.D.File.DiskFile g.world.𝓛 g.world.𝓜 g.world.𝓡 ((λ s x. x), (λ x. x), (λ x. x), λ x. x)).only_now x image left;
     } in
     let s = c.args.self.now in
-    ?
-
-pub returns-in-Err : goal.returns-in-Err
-returns-in-Err g c =
-    let d = g.D.Disk in
-    let f = g.D.File.DiskFile in
-    let last : IsNowLast d f = record {
-      disk = λ x n image left. (g.met.D.Disk g.world.𝓛 g.world.𝓜 g.world.𝓡 ((λ s x. x), (λ x. x), (λ x. x), λ x. x)).only_now x n image left;
-      file = λ x image left. (g.met.D.File.DiskFile g.world.𝓛 g.world.𝓜 g.world.𝓡 ((λ s x. x), (λ x. x), (λ x. x), λ x. x)).only_now x image left;
-    } in
-    let s = c.args.self.now in
-    ?
+    let done = c.in-Err.ensures in
+    no_file_step d f last s c.requires.ready c.args.number c.args.flush c.requires.runs c.requires.works name named c.new_job_file.new.self c.in-Err.fault c.without_file.result done.holds (λ now m co h. done.moments now m co h) done.answers done.called c.without_file.ensures
 
 pub returns-in-Err-write_flush-clause-step : goal.returns-in-Err-write_flush-clause-step
 returns-in-Err-write_flush-clause-step g c name named =
@@ -34,7 +25,10 @@ returns-in-Err-write_flush-clause-step g c name named =
       file = λ x image left. (g.met.D.File.DiskFile g.world.𝓛 g.world.𝓜 g.world.𝓡 ((λ s x. x), (λ x. x), (λ x. x), λ x. x)).only_now x image left;
     } in
     let s = c.args.self.now in
-    ?
+    let written = rw c.as_ref-version.ensures at c.in-Err-write_flush.ensures in
+    discard_step d f last s c.requires.ready c.args.number c.args.flush c.requires.runs c.requires.works name named
+    c.new_job_file.new.self c.in-Ok.made c.in-Ok.ensures.holds (λ now m co h. c.in-Ok.ensures.moments now m co h) c.in-Ok.ensures.made c.in-Ok.ensures.called c.discard.new.self c.write_flush.new.file c.in-Err-write_flush.cause c.dropped.result written
+    c.discard.ensures.holds (λ now m co h. c.discard.ensures.moments now m co h) c.discard.ensures.given c.discard.ensures.discarded c.dropped.ensures
 
 pub returns-in-Ok-install_flush-clause-step : goal.returns-in-Ok-install_flush-clause-step
 returns-in-Ok-install_flush-clause-step g c name named =
@@ -45,7 +39,13 @@ returns-in-Ok-install_flush-clause-step g c name named =
       file = λ x image left. (g.met.D.File.DiskFile g.world.𝓛 g.world.𝓜 g.world.𝓡 ((λ s x. x), (λ x. x), (λ x. x), λ x. x)).only_now x image left;
     } in
     let s = c.args.self.now in
-    ?
+    let written = rw c.as_ref-version.ensures at c.in-Ok-write_flush.ensures in
+    let gone = rw c.as_ref-version.ensures at c.count_sealed-gone.ensures in
+    let done = rw c.as_ref-version.ensures at c.in-Ok-install_flush.ensures in
+    let told = rw c.as_ref-version.ensures at c.table_told-told.ensures in
+    installed_step d f last s c.requires.ready c.args.number c.args.flush c.requires.runs c.requires.works name named
+    c.new_job_file.new.self c.in-Ok.made c.in-Ok.ensures.holds (λ now m co h. c.in-Ok.ensures.moments now m co h) c.in-Ok.ensures.made c.in-Ok.ensures.called c.write_flush.new.file c.in-Ok-write_flush.out c.count_sealed-gone.result gone written c.install_flush.new.self _ c.in-Ok-install_flush.next c.table_told-told.result
+    (λ m co event job h ends. done.moments m co event job h ends) done.called refl refl refl refl (λ m co job h ends. done.tells m co job h ends) (λ m co event job h ends. done.holds m co event job h ends) done.current done.shown told
 
 pub returns-in-Err-NoMemory-clause-step : goal.returns-in-Err-NoMemory-clause-step
 returns-in-Err-NoMemory-clause-step g c name named =
@@ -56,7 +56,12 @@ returns-in-Err-NoMemory-clause-step g c name named =
       file = λ x image left. (g.met.D.File.DiskFile g.world.𝓛 g.world.𝓜 g.world.𝓡 ((λ s x. x), (λ x. x), (λ x. x), λ x. x)).only_now x image left;
     } in
     let s = c.args.self.now in
-    ?
+    let written = rw c.as_ref-version.ensures at c.in-Ok-write_flush.ensures in
+    let gone = rw c.as_ref-version.ensures at c.count_sealed-gone.ensures in
+    let done = rw (c.as_ref-version.ensures, c.in-Err-NoMemory.field-0-is) at c.in-Err-NoMemory.ensures in
+    unmade_step d f last s c.requires.ready c.args.number c.args.flush c.requires.runs c.requires.works name named
+    c.new_job_file.new.self c.in-Ok.made c.in-Ok.ensures.holds (λ now m co h. c.in-Ok.ensures.moments now m co h) c.in-Ok.ensures.made c.in-Ok.ensures.called c.write_flush.new.file c.in-Ok-write_flush.out c.count_sealed-gone.result gone written c.install_flush.new.self
+    (λ m co event job h ends. done.moments m co event job h ends) done.called (done.refused refl)
 
 pub returns : goal.returns
 returns g c =
