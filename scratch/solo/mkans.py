@@ -242,7 +242,7 @@ put('start_flush',SF,[
     (λ m co h none. done.tells m co h none) done.refused (λ m co h. done.moments m co h) done.answers done.called c.refused.ensures.told c.refused.ensures.halted
 """),
 ])
-FIN=['use Rattle.std.proofs.Common.{refl, sym, ap, ◌∙◌, subst, inl, inr}']+U+['use Rattle.solo_store.specs.Stores.{now_of}','use Rattle.solo_store.proofs.Finishing.{discard_step, installed_step, no_file_step, stopped_step, unmade_step}']
+FIN=['use Rattle.std.proofs.Common.{refl, sym, ap, ◌∙◌, subst, inl, inr}','use Rattle.std.specs.Prelude.{Err}','use Rattle.super_version.specs.declared.version.SuperVersion.{SuperVersion}']+U+['use Rattle.solo_store.specs.Flushing.{IsFlushWritten}','use Rattle.solo_store.specs.Stores.{now_of}','use Rattle.solo_store.proofs.Finishing.{discard_step, installed_step, no_file_step, undone_step}']
 ARGS="d f last s c.requires.ready c.args.number c.args.flush c.requires.runs c.requires.works name named"
 MADE="c.new_job_file.new.self c.in-Ok.made c.in-Ok.ensures.holds (λ now m co h. c.in-Ok.ensures.moments now m co h) c.in-Ok.ensures.made c.in-Ok.ensures.called"
 WROTE="""    let written = rw c.as_ref-version.ensures at c.in-Ok-write_flush.ensures in
@@ -254,7 +254,7 @@ put('finish',FIN,[
     no_file_step """+ARGS+""" c.new_job_file.new.self c.in-Err.fault c.without_file.result done.holds (λ now m co h. done.moments now m co h) done.answers done.called c.without_file.ensures
 """),
  ('returns-in-Err-write_flush-clause-step',' name named',"""    let s = c.args.self.now in
-    let written = rw c.as_ref-version.ensures at c.in-Err-write_flush.ensures in
+    let written = subst (λ (v : SuperVersion). IsFlushWritten f v c.args.flush c.in-Ok.made.1 c.write_flush.new.file (Err c.in-Err-write_flush.cause)) c.as_ref-version.ensures c.in-Err-write_flush.ensures in
     discard_step """+ARGS+"\n    "+MADE+""" c.discard.new.self c.write_flush.new.file c.in-Err-write_flush.cause c.dropped.result written
     c.discard.ensures.holds (λ now m co h. c.discard.ensures.moments now m co h) c.discard.ensures.given c.discard.ensures.discarded c.dropped.ensures
 """),
@@ -264,12 +264,9 @@ put('finish',FIN,[
     installed_step """+ARGS+"\n    "+MADE+""" c.write_flush.new.file c.in-Ok-write_flush.out c.count_sealed-gone.result gone written c.install_flush.new.self _ c.in-Ok-install_flush.next c.table_told-told.result
     (λ m co event job h ends. done.moments m co event job h ends) done.called refl refl refl refl (λ m co job h ends. done.tells m co job h ends) (λ m co event job h ends. done.holds m co event job h ends) done.current done.shown told
 """),
- ('returns-in-Err-NoMemory-clause-step',' name named',"""    let s = c.args.self.now in
-"""+WROTE+"""    let done = rw (c.as_ref-version.ensures, c.in-Err-NoMemory.field-0-is) at c.in-Err-NoMemory.ensures in
-    unmade_step """+ARGS+"\n    "+MADE+""" c.write_flush.new.file c.in-Ok-write_flush.out c.count_sealed-gone.result gone written c.install_flush.new.self
-    (λ m co event job h ends. done.moments m co event job h ends) done.called (done.refused refl)
-"""),
- ('returns','',"""    let s = c.args.self.now in
-    ?
+ ('returns-in-Err-install_flush-clause-step',' name named',"""    let s = c.args.self.now in
+"""+WROTE+"""    let done = rw c.as_ref-version.ensures at c.in-Err-install_flush.ensures in
+    undone_step """+ARGS+"\n    "+MADE+""" c.write_flush.new.file c.in-Ok-write_flush.out c.count_sealed-gone.result gone written c.install_flush.new.self c.undone.new.self c.in-Err-install_flush.fault c.undone.result
+    (λ m co event job h ends. done.moments m co event job h ends) done.called (λ m co job h ends. done.tells m co job h ends) done.refused done.fault c.undone.ensures.told c.undone.ensures.halted
 """),
 ])

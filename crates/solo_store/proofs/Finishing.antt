@@ -28,13 +28,14 @@ use Rattle.store_engine.specs.Calls.{RanOn, RanUnder, Tells}
 use Rattle.store_engine.specs.Engines.{HoldsAsBefore, HoldsNow, IsCurrent, IsOneFolder, IsRunning, engine_faults}
 use Rattle.store_engine.specs.Installing.{EndsFlushBy, IsInstallCalled, flush_end_reply, floor_over_now, live_with}
 use Rattle.store_engine.specs.JobCalls.{AnswersJobFile, IsDiscarded, IsJobFile, IsJobFileCalled}
+use Rattle.store_engine.specs.Replies.{is_disk_fault}
 use Rattle.store_engine.specs.declared.engine.Engine.{Engine}
 use Rattle.store_engine.specs.declared.fault.EngineFault.{EngineFault}
 use Rattle.store_engine.specs.declared.fault.EngineFault.TheVariants as faults
 use Rattle.store_engine.proofs.Current.{length_changed}
-use Rattle.solo_store.specs.Flushing.{IsFlushWritten, WritesFlush, dropped_told, sealed_in, told_without_file}
+use Rattle.solo_store.specs.Flushing.{IsFlushWritten, WritesFlush, dropped_told, sealed_in, told_undone, told_without_file}
 use Rattle.solo_store.specs.Names.{family_named}
-use Rattle.solo_store.specs.Replies.{halted_behind, told_of_fault}
+use Rattle.solo_store.specs.Replies.{halted_behind}
 use Rattle.solo_store.specs.Steps.{IsSameDisk, IsStep}
 use Rattle.solo_store.specs.Stores.{HoldsStore, IsReady, engine_of, job_of, now_of, store_faults, store_next}
 use Rattle.solo_store.specs.declared.store.RunningFlush.{RunningFlush}
@@ -199,19 +200,33 @@ module _ {D F : Type 0} (d : disk.Ghosts D F) (f : file.Ghosts F) (last : IsNowL
           (left.counted ∙ before_is engine moves {A = A} (Err faults.NoMemory) left) (λ says. absurd (false≢true says)) (draws engine moves {A = A} (Err faults.NoMemory) left) (same engine moves {A = A} (Err faults.NoMemory) left)
 
       -- the disk failed in it
-      pub stopped_step : {A : Type 0} (engine : Engine D F f) (new : Store D F f) (fault : EngineFault) (reply : Reply)
+      stopped_step : {A : Type 0} (engine : Engine D F f) (new : Store D F f)
+          → ((m : State) (c : Course) (event : ℕ) (job : Flush) → HoldsNow d f mid (now_of store) m c → EndsFlushBy f m (now_of store) job flush.family gone flush.through pair.0 given out
+              → RanUnder d f m c event (flush_end flush.family job.start) mid engine)
+          → IsInstallCalled {A = A} d f pair.0 given mid engine (Err faults.DiskFault)
+          → ((m : State) (c : Course) (job : Flush) → HoldsNow d f mid (now_of store) m c → EndsFlushBy f m (now_of store) job flush.family gone flush.through pair.0 given out → IsReplyTo m (flush_end flush.family job.start) replies.Fault)
+          → new ≡ record store { engine = engine; flush = None; halted = Some number } → IsStep d f store new number (FlushEnd name flush.start) replies.Fault
+      stopped_step {A} engine new moves left tells new_is =
+          end_failed d f last store ready number flush runs name named works engine new (λ m c h. tells m c (job_of flush) (mid_now m c h) (ends m c h))
+          (under engine moves) (one engine moves {A = A} (Err faults.DiskFault) left)
+          (subst (λ (n : ℕ). Rose n (engine_faults d f engine)) (before_is engine moves {A = A} (Err faults.DiskFault) left) left.counted)
+          (draws engine moves {A = A} (Err faults.DiskFault) left) (same engine moves {A = A} (Err faults.DiskFault) left) new_is
+
+      pub undone_step : {A : Type 0} (engine : Engine D F f) (new : Store D F f) (fault : EngineFault) (reply : Reply)
           → ((m : State) (c : Course) (event : ℕ) (job : Flush) → HoldsNow d f mid (now_of store) m c → EndsFlushBy f m (now_of store) job flush.family gone flush.through pair.0 given out
               → RanUnder d f m c event (flush_end flush.family job.start) mid engine)
           → IsInstallCalled {A = A} d f pair.0 given mid engine (Err fault)
           → ((m : State) (c : Course) (job : Flush) → HoldsNow d f mid (now_of store) m c → EndsFlushBy f m (now_of store) job flush.family gone flush.through pair.0 given out → Tells {A = A} m (flush_end flush.family job.start) told (Err fault))
-          → fault ≡ faults.DiskFault → reply ≡ told_of_fault fault → new ≡ record store { engine = engine; flush = None; halted = halted_behind store.halted number fault }
+          → (is_disk_fault fault ≡ false → HoldsAsBefore d f mid engine)
+          → (fault ≡ faults.NoMemory) ⊎ (fault ≡ faults.DiskFault) → reply ≡ told_undone fault → new ≡ record store { engine = engine; flush = None; halted = halted_behind store.halted number fault }
           → IsStep d f store new number (FlushEnd name flush.start) reply
-      stopped_step {A} engine new fault reply moves left tells is reply_is new_is =
+      undone_step {A} engine new fault reply moves left tells refused (inl is) reply_is new_is =
+          let left_is : IsInstallCalled {A = A} d f pair.0 given mid engine (Err faults.NoMemory) = subst (λ (x : EngineFault). IsInstallCalled {A = A} d f pair.0 given mid engine (Err x)) is left in
+          let store_is : new ≡ record store { engine = engine; flush = None } = new_is ∙ ap (λ (x : EngineFault). let s : Store D F f = record store { engine = engine; flush = None; halted = halted_behind store.halted number x } in s) is in
+          subst (λ (r : Reply). IsStep d f store new number (FlushEnd name flush.start) r) (sym (reply_is ∙ ap told_undone is))
+          (subst (λ (s : Store D F f). IsStep d f store s number (FlushEnd name flush.start) replies.DroppedMemory) (sym store_is) (unmade_step {A = A} engine moves left_is (refused (ap is_disk_fault is))))
+      undone_step {A} engine new fault reply moves left tells refused (inr is) reply_is new_is =
           let left_is : IsInstallCalled {A = A} d f pair.0 given mid engine (Err faults.DiskFault) = subst (λ (x : EngineFault). IsInstallCalled {A = A} d f pair.0 given mid engine (Err x)) is left in
-          subst (λ (r : Reply). IsStep d f store new number (FlushEnd name flush.start) r) (sym (reply_is ∙ ap told_of_fault is))
-          (end_failed d f last store ready number flush runs name named works engine new
-          (λ m c h. subst (λ (x : EngineFault). Tells {A = A} m (flush_end flush.family flush.start) told (Err x)) is (tells m c (job_of flush) (mid_now m c h) (ends m c h)))
-          (under engine moves) (one engine moves {A = A} (Err faults.DiskFault) left_is)
-          (subst (λ (n : ℕ). Rose n (engine_faults d f engine)) (before_is engine moves {A = A} (Err faults.DiskFault) left_is) left_is.counted)
-          (draws engine moves {A = A} (Err faults.DiskFault) left_is) (same engine moves {A = A} (Err faults.DiskFault) left_is)
-          (new_is ∙ ap (λ (x : EngineFault). let s : Store D F f = record store { engine = engine; flush = None; halted = halted_behind store.halted number x } in s) is))
+          let store_is : new ≡ record store { engine = engine; flush = None; halted = Some number } = new_is ∙ ap (λ (x : EngineFault). let s : Store D F f = record store { engine = engine; flush = None; halted = halted_behind store.halted number x } in s) is in
+          subst (λ (r : Reply). IsStep d f store new number (FlushEnd name flush.start) r) (sym (reply_is ∙ ap told_undone is))
+          (stopped_step {A = A} engine new moves left_is (λ m c job h by. subst (λ (x : EngineFault). Tells {A = A} m (flush_end flush.family job.start) told (Err x)) is (tells m c job h by)) store_is)

@@ -32,6 +32,11 @@ told_without_file (faults.FilesFull next) = replies.DroppedFiles next
 told_without_file faults.NoMemory = replies.DroppedMemory
 told_without_file fault = replies.DroppedFault
 
+-- and of one whose table wasn't installed
+abbrev pub told_undone : EngineFault → Reply
+told_undone faults.DiskFault = replies.Fault
+told_undone fault = replies.DroppedMemory
+
 abbrev pub sealed_of : Option FamilyState → List Memtable
 sealed_of None = []
 sealed_of (Some g) = g.sealed

@@ -3,8 +3,9 @@
 ghost use Rattle.std.specs.Prelude.{◌≡◌, ℕ, List, None, Some, IsTrue, [], length};
 ghost use Rattle.udt_model.specs.declared.event.Event.TheVariants.{FlushEnd as FlushEndEvent, FlushStart as FlushStartEvent};
 ghost use Rattle.store_engine.specs.Installing.{flush_end_reply};
-ghost use Rattle.solo_store.specs.Flushing.{IsFlushWritten, dropped_told, sealed_in, told_without_file};
+ghost use Rattle.solo_store.specs.Flushing.{IsFlushWritten, dropped_told, sealed_in, told_undone, told_without_file};
 ghost use Rattle.solo_store.specs.Names.{family_named as number_named};
+ghost use Rattle.solo_store.specs.Replies.{halted_behind};
 
 use crate::flushable::are_flushable;
 use crate::store::{RunningFlush, Store};
@@ -192,8 +193,21 @@ impl<D: Disk> Store<D> {
                 self.version = next;
                 told
             }
-            Err(EngineFault::NoMemory) => Reply::DroppedMemory,
-            Err(fault) => self.refused(number, fault),
+            Err(fault) => self.undone(number, fault),
+        }
+    }
+
+    /// What is told of a flush whose table wasn't installed. After a fault of the disk the store is halted.
+    fn undone(&mut self, number: u64, fault: EngineFault) -> Reply
+        ensures told { result ≡ told_undone fault }
+        ensures halted { self.new ≡ record self.old { halted = halted_behind self.old.halted number fault } }
+    {
+        match fault {
+            EngineFault::DiskFault => {
+                self.halted = Some(number);
+                Reply::Fault
+            }
+            _ => Reply::DroppedMemory,
         }
     }
 }
