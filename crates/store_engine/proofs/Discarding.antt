@@ -1,5 +1,5 @@
 -- The file of a table that no outcome has live is given back: what a crash leaves, also of a failed engine.
-use Rattle.std.proofs.Common.{◌≡◌, ◌≢◌, ◌⊎◌, ℕ, List, [], ◌∷◌, map, refl, sym, ap, ◌∙◌, subst, inl, inr}
+use Rattle.std.proofs.Common.{◌≡◌, ◌≢◌, ◌⊎◌, ℕ, List, [], ◌∷◌, map, refl, sym, subst, inl, inr}
 use Rattle.std.specs.Prelude.{Contains, IsTrue}
 use Rattle.std.specs.List.{flat_map}
 use Rattle.udt_disk.specs.Crash.{Image}
@@ -95,6 +95,9 @@ module _ {D F : Type 0} (d : disk.Ghosts D F) (f : file.Ghosts F) (now_last : Is
     pub discard_leaves : (m : State) (c : Course) → ((left : State) → IsOutcome m c left → ¬ Contains (live_numbers left) number) → LeavesOutcomes d f m c (held old) → RanOn d f m c old new
     discard_leaves m c dead leaves =
         ran_more d f (AsAtBut d f (Contains (Table number ∷ [])) (held old)) (λ folder. StandsForSome ReadsAsTable folder (IsOutcome m c)) (λ folder at_start.
-            let left = leaves (before folder) (image_before folder at_start) in
-            (left.0, other_stands ReadsAsTable (before folder) folder left.0 left.1 (λ n live. sym (elsewhere folder n (λ is. dead left.0 left.2
-            (live_listed (before folder) left.0 left.1 number (subst (IsLiveName (chosen (before folder)) left.1.says.fold) is live))))), left.2)) (held old) (held new) touches.run
+        let left = leaves (before folder) (image_before folder at_start) in (
+          left.0,
+          other_stands ReadsAsTable (before folder) folder left.0 left.1 (λ n live. sym (elsewhere folder n (λ is. dead left.0 left.2
+              (live_listed (before folder) left.0 left.1 number (subst (IsLiveName (chosen (before folder)) left.1.says.fold) is live))))),
+          left.2,
+        )) (held old) (held new) touches.run
