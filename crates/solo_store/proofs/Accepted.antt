@@ -1,5 +1,5 @@
 -- The step of an event that the engine took.
-use Rattle.std.proofs.Common.{◌≡◌, ℕ, ◌+◌, ◌≤◌, Bool, List, length, Option, Some, None, refl, sym, ap, ◌∙◌, subst}
+use Rattle.std.proofs.Common.{◌≡◌, ℕ, ◌+◌, ◌≤◌, Bool, List, length, Option, None, sym, ap, ◌∙◌, subst}
 use Rattle.std.specs.Prelude.{IsTrue, option_map}
 use Rattle.ts_key.specs.declared.batch.WriteOp.{WriteOp}
 use Rattle.ts_key.specs.declared.limits.TheConstants.{FAMILY_LIMIT}
@@ -21,14 +21,14 @@ use Rattle.store_engine.specs.Calls.{RanUnder}
 use Rattle.store_engine.specs.Engines.{HoldsNow, IsCurrent, IsOneFolder, IsRunning}
 use Rattle.store_engine.specs.declared.engine.Engine.{Engine}
 use Rattle.solo_store.specs.Steps.{IsSameDisk, IsStep}
-use Rattle.solo_store.specs.Stores.{HoldsStore, IsReady, MayEndIf, engine_of, job_of, now_of, store_faults, store_next}
+use Rattle.solo_store.specs.Stores.{IsReady, MayEndIf, engine_of, job_of, now_of, store_faults, store_next}
 use Rattle.solo_store.specs.declared.store.RunningFlush.{RunningFlush}
 use Rattle.solo_store.specs.declared.store.Store.{Store}
 use Rattle.solo_store.proofs.Asking.{Asks}
 use Rattle.solo_store.proofs.Behind.{flush_after, is_plain, plain_own}
 use Rattle.solo_store.proofs.Following.{Follows, may_end_later}
 use Rattle.solo_store.proofs.Holding.{goes_on_live, live_of, since_live}
-use Rattle.solo_store.proofs.Stepping.{IsActed, IsQuiet, acted_step, same_draws}
+use Rattle.solo_store.proofs.Stepping.{IsQuiet, acted_step, same_draws}
 
 module _ {D F : Type 0} (d : disk.Ghosts D F) (f : file.Ghosts F) where
   -- The store goes on with what the engine gave, and knows the same names and the same flush.

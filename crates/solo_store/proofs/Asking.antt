@@ -1,6 +1,6 @@
 -- An event of a store, and the act by the families' numbers that it asks for.
-use Rattle.std.proofs.Common.{◌≡◌, ◌⊎◌, ℕ, Bool, true, false, List, map, Option, Some, None, refl, sym, ap, ◌∙◌, subst, inl, inr}
-use Rattle.std.specs.Prelude.{◌&&◌, IsTrue, if◌then◌else◌}
+use Rattle.std.proofs.Common.{◌≡◌, ℕ, Bool, List, map, Option, Some, None, refl, sym, ap, ◌∙◌, subst, inl, inr}
+use Rattle.std.specs.Prelude.{IsTrue}
 use Rattle.std.proofs.lemmas.Bool.{cases_Bool}
 use Rattle.ts_key.specs.declared.batch.WriteOp.{WriteOp}
 use Rattle.ts_key.specs.declared.numbers.Family.{Family}
@@ -12,7 +12,7 @@ use Rattle.udt_model.specs.declared.reply.Reply.{Reply}
 use Rattle.udt_model.specs.declared.reply.Reply.TheVariants.{NoMemory}
 use Rattle.udt_model.specs.Acts.{Act}
 use Rattle.udt_model.specs.Acts.Act.{ask_floor, flush_end, flush_start, get, raise, sync_all, write}
-use Rattle.udt_model.specs.Lines.{IsReply, IsReplyOr, after_or, is_numbered, is_read, steps_with, takes_memory}
+use Rattle.udt_model.specs.Lines.{IsReply, IsReplyOr, is_numbered, is_read, steps_with, takes_memory}
 use Rattle.udt_model.specs.Names.{no_names, seen_by}
 use Rattle.udt_model.specs.Crashes.{Course, course_after, course_after_or}
 use Rattle.udt_model.specs.Steps.{IsReplyTo, after, is_running}

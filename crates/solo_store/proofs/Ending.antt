@@ -1,12 +1,11 @@
 -- The steps of ends of flushes.
-use Rattle.std.proofs.Common.{◌≡◌, ◌⊎◌, ℕ, ◌+◌, ◌<◌, ◌≤◌, ◌^◌, ◌-◌, Bool, false, true, List, [], ◌∷◌, length, Option, Some, None, refl, sym, ap, ◌∙◌, subst, arith, inl, inr}
-use Rattle.std.specs.Prelude.{All, IfSome, IsTrue, Result, Ok, Err, min, option_map, slice_get}
-use Rattle.std.specs.Arc.{arc_value}
-use Rattle.std.proofs.lemmas.Bool.{eq-eqb, false≢true, true≢false}
+use Rattle.std.proofs.Common.{◌≡◌, ℕ, ◌+◌, ◌≤◌, false, List, length, Option, Some, None, refl, sym, ap, ◌∙◌, subst, arith, inl}
+use Rattle.std.specs.Prelude.{IsTrue, option_map}
+use Rattle.std.proofs.lemmas.Bool.{eq-eqb, false≢true}
 use Rattle.ts_key.specs.declared.limits.TheConstants.{FAMILY_LIMIT}
 use Rattle.ts_key.specs.declared.numbers.Family.{Family}
 use Rattle.ts_key.specs.declared.numbers.Ts.{Ts}
-use Rattle.udt_disk.specs.Causes.{IsCause, Rose, plus_faults}
+use Rattle.udt_disk.specs.Causes.{Rose, plus_faults}
 use Rattle.udt_disk.specs.declared.file.DiskFile as file
 use Rattle.udt_disk.specs.declared.disk.Disk as disk
 use Rattle.udt_disk.proofs.Joints.{ran_on}
@@ -17,18 +16,16 @@ use Rattle.udt_model.specs.Acts.{Act}
 use Rattle.udt_model.specs.Acts.Act.{flush_end}
 use Rattle.udt_model.specs.Crashes.{Course, IsOutcome, IsOutcomeUnder, course_after}
 use Rattle.udt_model.specs.Jobs.{runs_flush}
-use Rattle.udt_model.specs.Lines.{steps_with, says_fault, says_files}
+use Rattle.udt_model.specs.Lines.{steps_with, says_files}
 use Rattle.udt_model.specs.State.{Flush, State}
 use Rattle.udt_model.specs.Steps.{IsEnd, IsReplyTo, after, is_running, with_flush}
 use Rattle.floor_laws.proofs.Told.{sound_after}
 use Rattle.manifest_fold.specs.declared.limits.TheConstants.{FILE_NUMBER_LIMIT}
-use Rattle.super_version.specs.Changes.{ChangesFamily}
-use Rattle.super_version.specs.declared.family.FamilyState.{FamilyState}
 use Rattle.super_version.specs.declared.version.SuperVersion.{SuperVersion}
 use Rattle.engine_laws.specs.Joints.{IsNowLast}
 use Rattle.engine_laws.specs.Standing.{StandsForSome}
 use Rattle.recovery.specs.Tables.{ReadsAsTable}
-use Rattle.store_engine.specs.Calls.{LeavesOutcomes, RanOn, RanUnder}
+use Rattle.store_engine.specs.Calls.{RanOn, RanUnder}
 use Rattle.store_engine.specs.Engines.{HoldsAsBefore, HoldsNow, IsCurrent, IsOneFolder, IsRunning, engine_faults, held}
 use Rattle.store_engine.specs.Laws.{is_beside}
 use Rattle.store_engine.specs.Now.{IsNow}
@@ -42,7 +39,7 @@ use Rattle.solo_store.specs.Stores.{HoldsHalted, HoldsSince, HoldsStore, IsReady
 use Rattle.solo_store.specs.declared.store.RunningFlush.{RunningFlush}
 use Rattle.solo_store.specs.declared.store.Store.{Store}
 use Rattle.solo_store.proofs.Asking.{Asks, asks_flush_end}
-use Rattle.solo_store.proofs.Holding.{goes_on_live, goes_on_of, live_of, on_under, rests_under, since_live, store_halted, store_shows, store_sound}
+use Rattle.solo_store.proofs.Holding.{goes_on_live, goes_on_of, live_of, rests_under, since_live, store_halted, store_shows, store_sound}
 use Rattle.solo_store.proofs.Stepping.{IsActed, acted_step}
 
 -- ---- counts of faults

@@ -1,7 +1,6 @@
 -- The steps of events that change nothing: reads, floors, and what a halted store refuses.
-use Rattle.std.proofs.Common.{◌≡◌, ◌⊎◌, ℕ, ◌≤◌, Bool, true, false, List, map, Option, Some, None, refl, sym, ap, ◌∙◌, subst, inl, inr}
-use Rattle.std.specs.Prelude.{IsTrue, if◌then◌else◌, slice_get}
-use Rattle.std.proofs.lemmas.Bool.{cases_Bool}
+use Rattle.std.proofs.Common.{◌≡◌, ◌⊎◌, ℕ, Bool, true, false, List, map, Option, Some, None, refl, sym, ◌∙◌, subst, inl, inr}
+use Rattle.std.specs.Prelude.{if◌then◌else◌, slice_get}
 use Rattle.ts_key.specs.declared.numbers.Family.{Family}
 use Rattle.ts_key.specs.declared.numbers.Ts.{Ts}
 use Rattle.udt_disk.specs.declared.file.DiskFile as file
@@ -13,7 +12,6 @@ use Rattle.udt_model.specs.declared.read.ModelRead.{ModelRead}
 use Rattle.udt_model.specs.declared.read.ModelRead.TheVariants as reads
 use Rattle.udt_model.specs.declared.reply.Reply.{Reply}
 use Rattle.udt_model.specs.declared.reply.Reply.TheVariants as replies
-use Rattle.udt_model.specs.Acts.{Act}
 use Rattle.udt_model.specs.Acts.Act.{ask_floor, get, raise, sync_all, write}
 use Rattle.udt_model.specs.Crashes.{Course}
 use Rattle.udt_model.specs.Reads.{read}

@@ -1,6 +1,6 @@
 -- The step of an event under which the engine answered a fault.
-use Rattle.std.proofs.Common.{◌≡◌, ℕ, ◌+◌, ◌≤◌, Bool, false, true, List, Option, Some, None, refl, sym, ap, ◌∙◌, subst}
-use Rattle.std.specs.Prelude.{IfSome, IsTrue, Result, Err, option_map}
+use Rattle.std.proofs.Common.{◌≡◌, ℕ, ◌+◌, ◌≤◌, Bool, false, true, List, Some, None, refl, sym, ap, ◌∙◌, subst}
+use Rattle.std.specs.Prelude.{IfSome, IsTrue, Err}
 use Rattle.std.proofs.lemmas.Bool.{false≢true, true≢false}
 use Rattle.ts_key.specs.declared.batch.WriteOp.{WriteOp}
 use Rattle.ts_key.specs.declared.numbers.Family.{Family}
@@ -20,13 +20,12 @@ use Rattle.udt_model.specs.Crashes.{Course, course_after}
 use Rattle.udt_model.specs.Lines.{is_read, takes_memory}
 use Rattle.udt_model.specs.State.{State}
 use Rattle.udt_model.specs.Steps.{IsReplyTo, after, is_running, without_job}
-use Rattle.floor_laws.specs.Sound.{IsSoundState}
 use Rattle.floor_laws.proofs.Told.{sound_after}
 use Rattle.super_version.specs.declared.version.SuperVersion.{SuperVersion}
 use Rattle.manifest_fold.specs.declared.limits.TheConstants.{FILE_NUMBER_LIMIT}
 use Rattle.engine_laws.specs.Joints.{IsNowLast}
 use Rattle.store_engine.specs.Calls.{LeavesOutcomes, RanOn, RanUnder}
-use Rattle.store_engine.specs.Engines.{HoldsAsBefore, HoldsNow, IsCurrent, IsOneFolder, IsRunning, engine_faults, held}
+use Rattle.store_engine.specs.Engines.{HoldsAsBefore, HoldsNow, IsOneFolder, IsRunning, engine_faults, held}
 use Rattle.store_engine.specs.Now.{IsNow}
 use Rattle.store_engine.specs.Replies.{is_disk_fault, reply_of_fault}
 use Rattle.store_engine.specs.Steps.{IsCalled}
@@ -36,7 +35,7 @@ use Rattle.store_engine.specs.declared.fault.EngineFault.TheVariants as faults
 use Rattle.store_engine.proofs.Leaving.{failed_leave, failed_sync_leave}
 use Rattle.solo_store.specs.Replies.{halted_behind, told_of_fault}
 use Rattle.solo_store.specs.Steps.{IsSameDisk, IsStep}
-use Rattle.solo_store.specs.Stores.{HoldsHalted, HoldsSince, HoldsStore, IsReady, engine_of, job_of, now_of, store_next}
+use Rattle.solo_store.specs.Stores.{HoldsHalted, HoldsStore, IsReady, engine_of, now_of, store_next}
 use Rattle.solo_store.specs.declared.store.Store.{Store}
 use Rattle.solo_store.proofs.Asking.{Asks, asks_sync}
 use Rattle.solo_store.proofs.Behind.{is_own, is_still}

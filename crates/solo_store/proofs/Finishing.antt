@@ -1,8 +1,7 @@
 -- The steps of the end of a flush, by what the calls of the engine left.
-use Rattle.std.proofs.Common.{◌≡◌, ◌⊎◌, ℕ, ◌+◌, ◌<◌, ◌≤◌, Bool, false, true, List, [], length, Option, Some, None, refl, sym, ap, ◌∙◌, subst, arith, inl, inr}
-use Rattle.std.specs.Prelude.{All, IfSome, IsTrue, Result, Ok, Err, slice_get}
+use Rattle.std.proofs.Common.{◌≡◌, ◌⊎◌, ℕ, ◌+◌, ◌<◌, ◌≤◌, false, List, length, Some, None, refl, sym, ap, ◌∙◌, subst, arith, inl, inr}
+use Rattle.std.specs.Prelude.{All, IsTrue, Result, Ok, Err}
 use Rattle.std.proofs.lemmas.Bool.{false≢true}
-use Rattle.ts_key.specs.declared.numbers.Family.{Family}
 use Rattle.udt_disk.specs.Causes.{Rose, plus_faults}
 use Rattle.udt_disk.specs.declared.file.DiskFile as file
 use Rattle.udt_disk.specs.declared.disk.Disk as disk
@@ -13,10 +12,7 @@ use Rattle.udt_model.specs.Acts.Act.{flush_end}
 use Rattle.udt_model.specs.Crashes.{Course, course_after}
 use Rattle.udt_model.specs.State.{Flush, State}
 use Rattle.udt_model.specs.Steps.{IsReplyTo, after}
-use Rattle.block_table.specs.declared.fault.TableWriteFault.TheVariants as writes
 use Rattle.manifest_fold.specs.declared.limits.TheConstants.{FILE_NUMBER_LIMIT}
-use Rattle.wal.specs.Wals.{wal_file}
-use Rattle.manifest.specs.Manifest.{manifest_file}
 use Rattle.super_version.specs.Changes.{ChangesFamily, family_with_flush}
 use Rattle.super_version.specs.declared.jobs.JobCause.{JobCause}
 use Rattle.super_version.specs.declared.jobs.JobCause.TheVariants.{Fault, Memory, Files, Halted}
@@ -40,7 +36,7 @@ use Rattle.solo_store.specs.Steps.{IsSameDisk, IsStep}
 use Rattle.solo_store.specs.Stores.{HoldsStore, IsReady, engine_of, job_of, now_of, store_faults, store_next}
 use Rattle.solo_store.specs.declared.store.RunningFlush.{RunningFlush}
 use Rattle.solo_store.specs.declared.store.Store.{Store}
-use Rattle.solo_store.proofs.Ending.{before_then, drop_step, drops_fault, drops_files, drops_memory, end_failed, install_step, job_runs, on_then, plus_later, plus_none, plus_rose, rose_plus, under_then}
+use Rattle.solo_store.proofs.Ending.{before_then, drop_step, drops_fault, drops_files, drops_memory, end_failed, install_step, job_runs, on_then, plus_none, plus_rose, under_then}
 use Rattle.solo_store.proofs.Holding.{live_of, on_under, store_shows, store_sound}
 use Rattle.solo_store.proofs.Taken.{ends_by}
 
@@ -143,7 +139,7 @@ module _ {D F : Type 0} (d : disk.Ghosts D F) (f : file.Ghosts F) (last : IsNowL
 
       module _ (engine : Engine D F f)
           (moves : (m : State) (c : Course) (event : ℕ) (job : Flush) → HoldsNow d f mid (now_of store) m c → EndsFlushBy f m (now_of store) job flush.family gone flush.through pair.0 given out
-              → RanUnder d f m c event (flush_end flush.family job.start) mid engine) where
+          → RanUnder d f m c event (flush_end flush.family job.start) mid engine) where
         under : (m : State) (c : Course) → HoldsStore d f store m c → RanUnder d f m c number (flush_end flush.family flush.start) (engine_of store) engine
         under m c h =
             under_then d f m c number (flush_end flush.family flush.start) (engine_of store) mid engine
@@ -165,12 +161,12 @@ module _ {D F : Type 0} (d : disk.Ghosts D F) (f : file.Ghosts F) (last : IsNowL
 
       pub installed_step : {A : Type 0} (engine : Engine D F f) (new : Store D F f) (next : A) (reply : Reply)
           → ((m : State) (c : Course) (event : ℕ) (job : Flush) → HoldsNow d f mid (now_of store) m c → EndsFlushBy f m (now_of store) job flush.family gone flush.through pair.0 given out
-              → RanUnder d f m c event (flush_end flush.family job.start) mid engine)
+          → RanUnder d f m c event (flush_end flush.family job.start) mid engine)
           → IsInstallCalled d f pair.0 given mid engine (Ok next)
           → new.names.items ≡ store.names.items → new.halted ≡ store.halted → new.flush ≡ None → engine_of new ≡ engine
           → ((m : State) (c : Course) (job : Flush) → HoldsNow d f mid (now_of store) m c → EndsFlushBy f m (now_of store) job flush.family gone flush.through pair.0 given out → IsReplyTo m (flush_end flush.family job.start) told)
           → ((m : State) (c : Course) (event : ℕ) (job : Flush) → HoldsNow d f mid (now_of store) m c → EndsFlushBy f m (now_of store) job flush.family gone flush.through pair.0 given out
-              → HoldsNow d f engine (now_of new) (after m event (flush_end flush.family job.start) told) (course_after m event c (flush_end flush.family job.start) told))
+          → HoldsNow d f engine (now_of new) (after m event (flush_end flush.family job.start) told) (course_after m event c (flush_end flush.family job.start) told))
           → IsCurrent engine (now_of new)
           → ChangesFamily flush.family.0 (family_with_flush gone flush.through (floor_over_now (now_of store) flush.family out.floor) (live_with pair.0 out.table)) (now_of store) (now_of new)
           → reply ≡ told → IsStep d f store new number (FlushEnd name flush.start) reply
@@ -192,7 +188,7 @@ module _ {D F : Type 0} (d : disk.Ghosts D F) (f : file.Ghosts F) (last : IsNowL
       -- there was no memory for the install
       pub unmade_step : {A : Type 0} (engine : Engine D F f)
           → ((m : State) (c : Course) (event : ℕ) (job : Flush) → HoldsNow d f mid (now_of store) m c → EndsFlushBy f m (now_of store) job flush.family gone flush.through pair.0 given out
-              → RanUnder d f m c event (flush_end flush.family job.start) mid engine)
+          → RanUnder d f m c event (flush_end flush.family job.start) mid engine)
           → IsInstallCalled {A = A} d f pair.0 given mid engine (Err faults.NoMemory) → HoldsAsBefore d f mid engine → IsStep d f store (record store { engine = engine; flush = None }) number (FlushEnd name flush.start) replies.DroppedMemory
       unmade_step {A} engine moves left back =
           drop_step d f last store ready number flush runs name named works engine replies.DroppedMemory (drops_memory d f last store ready number flush runs name named works)
@@ -202,7 +198,7 @@ module _ {D F : Type 0} (d : disk.Ghosts D F) (f : file.Ghosts F) (last : IsNowL
       -- the disk failed in it
       stopped_step : {A : Type 0} (engine : Engine D F f) (new : Store D F f)
           → ((m : State) (c : Course) (event : ℕ) (job : Flush) → HoldsNow d f mid (now_of store) m c → EndsFlushBy f m (now_of store) job flush.family gone flush.through pair.0 given out
-              → RanUnder d f m c event (flush_end flush.family job.start) mid engine)
+          → RanUnder d f m c event (flush_end flush.family job.start) mid engine)
           → IsInstallCalled {A = A} d f pair.0 given mid engine (Err faults.DiskFault)
           → ((m : State) (c : Course) (job : Flush) → HoldsNow d f mid (now_of store) m c → EndsFlushBy f m (now_of store) job flush.family gone flush.through pair.0 given out → IsReplyTo m (flush_end flush.family job.start) replies.Fault)
           → new ≡ record store { engine = engine; flush = None; halted = Some number } → IsStep d f store new number (FlushEnd name flush.start) replies.Fault
@@ -214,7 +210,7 @@ module _ {D F : Type 0} (d : disk.Ghosts D F) (f : file.Ghosts F) (last : IsNowL
 
       pub undone_step : {A : Type 0} (engine : Engine D F f) (new : Store D F f) (fault : EngineFault) (reply : Reply)
           → ((m : State) (c : Course) (event : ℕ) (job : Flush) → HoldsNow d f mid (now_of store) m c → EndsFlushBy f m (now_of store) job flush.family gone flush.through pair.0 given out
-              → RanUnder d f m c event (flush_end flush.family job.start) mid engine)
+          → RanUnder d f m c event (flush_end flush.family job.start) mid engine)
           → IsInstallCalled {A = A} d f pair.0 given mid engine (Err fault)
           → ((m : State) (c : Course) (job : Flush) → HoldsNow d f mid (now_of store) m c → EndsFlushBy f m (now_of store) job flush.family gone flush.through pair.0 given out → Tells {A = A} m (flush_end flush.family job.start) told (Err fault))
           → (is_disk_fault fault ≡ false → HoldsAsBefore d f mid engine)

@@ -1,6 +1,5 @@
 -- What a store holds, by its halves: while its disk works, and since it failed.
-use Rattle.std.proofs.Common.{◌≡◌, ℕ, List, refl, sym, ap, ◌∙◌, subst, inl, Option, Some, None}
-use Rattle.std.specs.Prelude.{IsTrue}
+use Rattle.std.proofs.Common.{◌≡◌, ℕ, sym, subst, inl, Option, Some, None}
 use Rattle.udt_disk.specs.Joint.{Ran}
 use Rattle.udt_disk.specs.Joint.Ran.{rests}
 use Rattle.udt_disk.specs.declared.file.DiskFile as file

@@ -1,5 +1,5 @@
 -- A store over the parts of an opened one.
-use Rattle.std.proofs.Common.{◌≡◌, ℕ, ◌≤◌, List, [], ◌∷◌, length, map, Option, Some, None, refl, sym, ap, ◌∙◌, subst}
+use Rattle.std.proofs.Common.{◌≡◌, ℕ, ◌≤◌, List, [], ◌∷◌, length, map, None, refl, sym, ap, ◌∙◌, subst}
 use Rattle.std.specs.Prelude.{IsTrue}
 use Rattle.std.proofs.lemmas.List.{length-map}
 use Rattle.ts_key.specs.declared.limits.TheConstants.{FAMILY_LIMIT}
@@ -10,7 +10,7 @@ use Rattle.udt_disk.specs.declared.file.DiskFile as file
 use Rattle.udt_disk.specs.declared.disk.Disk as disk
 use Rattle.udt_model.specs.declared.line.FamilyHead.{FamilyHead}
 use Rattle.udt_model.specs.Crashes.{course_start}
-use Rattle.udt_model.specs.State.{FamilyState, Flush, Snap, State}
+use Rattle.udt_model.specs.State.{FamilyState, State}
 use Rattle.wal.specs.Wals.{wal_file}
 use Rattle.manifest.specs.Folders.{Meaning, Means}
 use Rattle.manifest.specs.Folders.Meaning.{bad_at, no_store, store}

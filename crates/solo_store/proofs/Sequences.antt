@@ -1,6 +1,6 @@
 -- Sequences that rise, in whatever order they stand: no two versions have one.
-use Rattle.std.proofs.Common.{◌≡◌, ℕ, zero, suc, ◌+◌, ◌<◌, ◌≤◌, ◌==◌, List, [], ◌∷◌, ◌++◌, length, map, take, refl, sym, ap, ◌∙◌, subst, arith, inl, inr}
-use Rattle.std.specs.Prelude.{All, AllPairs, if◌then◌else◌, slice_index, slice_index_or as get_or}
+use Rattle.std.proofs.Common.{◌≡◌, ℕ, suc, ◌+◌, ◌<◌, ◌≤◌, ◌==◌, List, [], ◌∷◌, ◌++◌, length, map, take, refl, sym, ap, ◌∙◌, subst, arith, inl, inr}
+use Rattle.std.specs.Prelude.{All, if◌then◌else◌, slice_index, slice_index_or as get_or}
 use Rattle.std.specs.List.{sum_by}
 use Rattle.std.specs.List.Sorted.{IsPermutation, IsStrictlyIncreasing}
 use Rattle.std.proofs.lemmas.Bool.{cases_Bool, eqb-true}
@@ -60,10 +60,10 @@ count_times k (v ∷ vs) = ap (λ (n : ℕ). (if v.seq.0 == k then 1 else 0) + n
 pub own_sequences : (vs : List Version) (sorted : List ℕ) → IsPermutation (map number_of vs) sorted → IsStrictlyIncreasing sorted → HaveOwnSequences vs
 own_sequences vs sorted moved rise =
     let distinct : Distinct vs = λ k.
-        let a = count_times k vs in
-        let b = times_moved k (map number_of vs) sorted moved in
-        let c = times_once k sorted rise in
-        omega (arith, a, b, c)
+    let a = count_times k vs in
+    let b = times_moved k (map number_of vs) sorted moved in
+    let c = times_once k sorted rise in
+    omega (arith, a, b, c)
     in
     distinct_pairs vs distinct
 

@@ -1,6 +1,6 @@
 -- The steps of starts of flushes.
-use Rattle.std.proofs.Common.{◌≡◌, ℕ, ◌+◌, ◌<◌, ◌≤◌, Bool, false, List, [], length, map, Option, Some, None, refl, sym, ap, ◌∙◌, subst, arith, inl, inr}
-use Rattle.std.specs.Prelude.{IfSome, IsTrue, Result, Ok, Err, option_map, slice_get}
+use Rattle.std.proofs.Common.{◌≡◌, ℕ, ◌≤◌, Bool, false, List, [], length, map, Option, Some, None, refl, sym, ap, ◌∙◌, subst, arith, inl, inr}
+use Rattle.std.specs.Prelude.{IfSome, Result, Err, option_map, slice_get}
 use Rattle.std.proofs.lemmas.Bool.{false≢true}
 use Rattle.std.proofs.lemmas.Option.{slice_get_within}
 use Rattle.ts_key.specs.declared.limits.TheConstants.{FAMILY_LIMIT}
@@ -19,8 +19,6 @@ use Rattle.udt_model.specs.Crashes.{Course, course_after}
 use Rattle.udt_model.specs.State.{Flush, Snap, State, family_at, floor_at, floor_of, seqs_of}
 use Rattle.udt_model.specs.State.{FamilyState as ModelFamily}
 use Rattle.udt_model.specs.Steps.{IsReplyTo, after}
-use Rattle.manifest_fold.specs.declared.fold.FamilyFold.{FamilyFold}
-use Rattle.manifest_fold.specs.declared.limits.TheConstants.{FILE_NUMBER_LIMIT}
 use Rattle.manifest.specs.Manifest.{manifest_folded}
 use Rattle.super_version.specs.declared.family.FamilyState.{FamilyState}
 use Rattle.super_version.specs.declared.version.SuperVersion.{SuperVersion}
@@ -93,16 +91,16 @@ module _ {D F : Type 0} (d : disk.Ghosts D F) (f : file.Ghosts F) (last : IsNowL
     start_halted since halted =
         still_step d f store store number (FlushStart name) act asks refl (keeps_itself d f last store ready) (replies.Halted since) refl (quiet_halted store.halted (store_next store) since halted) refl
         (λ m c h.
-            let stands = there m (now_of store) i g (store_shows d f store m c h) (sym found) in
-            told_halted m i stands.family since stands.at (store_halted d f store m c h ∙ halted))
+        let stands = there m (now_of store) i g (store_shows d f store m c h) (sym found) in
+        told_halted m i stands.family since stands.at (store_halted d f store m c h ∙ halted))
 
     module _ (works : store.halted ≡ None) where
       pub start_busy : (flush : RunningFlush) → store.flush ≡ Some flush → IsStep d f store store number (FlushStart name) (replies.Busy flush.start)
       start_busy flush runs =
           still_step d f store store number (FlushStart name) act asks refl (keeps_itself d f last store ready) (replies.Busy flush.start) refl (quiet store.halted (store_next store) (replies.Busy flush.start) refl) refl
           (λ m c h.
-              let stands = there m (now_of store) i g (store_shows d f store m c h) (sym found) in
-              told_busy m i stands.family (job_of flush) stands.at (store_halted d f store m c h ∙ works) (h.flush ∙ ap (option_map job_of) runs))
+          let stands = there m (now_of store) i g (store_shows d f store m c h) (sym found) in
+          told_busy m i stands.family (job_of flush) stands.at (store_halted d f store m c h ∙ works) (h.flush ∙ ap (option_map job_of) runs))
 
       -- ---- where no flush runs
 

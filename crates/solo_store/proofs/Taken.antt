@@ -1,6 +1,6 @@
 -- The versions that a flush takes, and the table that it makes of them.
-use Rattle.std.proofs.Common.{◌≡◌, ◌⊎◌, ℕ, zero, suc, ◌+◌, ◌<◌, ◌≤◌, ◌^◌, ◌==◌, Bool, false, true, List, [], ◌∷◌, ◌++◌, length, map, drop, Option, Some, None, refl, sym, ap, ◌∙◌, subst, arith, inl, inr}
-use Rattle.std.specs.Prelude.{All, Contains, IsTrue, not, ◌&&◌, nat_le, nat_lt, slice_get}
+use Rattle.std.proofs.Common.{◌≡◌, ℕ, zero, suc, ◌+◌, ◌<◌, ◌≤◌, ◌==◌, false, List, [], ◌∷◌, length, map, drop, Option, Some, refl, sym, ap, ◌∙◌, subst, arith, inl, inr}
+use Rattle.std.specs.Prelude.{All, Contains, IsTrue, ◌&&◌, nat_le, nat_lt, slice_get}
 use Rattle.std.specs.List.Sorted.{IsPermutation}
 use Rattle.std.proofs.lemmas.Bool.{eqb-true}
 use Rattle.std.proofs.lemmas.List.{append-nil, length-map}
@@ -11,7 +11,7 @@ use Rattle.ts_key.specs.declared.numbers.Ts.{Ts}
 use Rattle.ts_key.specs.declared.version.Form.{Form}
 use Rattle.ts_key.specs.declared.version.Form.TheVariants.{Persist, Strip}
 use Rattle.ts_key.specs.declared.version.Version.{Version}
-use Rattle.ts_key.specs.Items.{Item, item_of, items_of}
+use Rattle.ts_key.specs.Items.{item_of, items_of}
 use Rattle.memtable.specs.Memtables.{versions_of_memtable}
 use Rattle.udt_disk.specs.Bytes.{overwritten}
 use Rattle.udt_disk.specs.Crash.{Only}
@@ -26,7 +26,6 @@ use Rattle.super_version.specs.Contents.{version_of_item}
 use Rattle.super_version.specs.declared.family.FamilyState.{FamilyState}
 use Rattle.super_version.specs.declared.jobs.TableOut.{TableOut}
 use Rattle.super_version.specs.declared.version.SuperVersion.{SuperVersion}
-use Rattle.flush_job.specs.Flushes.{flush_contents}
 use Rattle.flush_job.specs.Walks.{versions_of_all}
 use Rattle.floor_laws.specs.Lists.{AreSame, HaveOwnSequences}
 use Rattle.floor_laws.specs.Sound.{IsSoundState}
@@ -35,13 +34,12 @@ use Rattle.floor_laws.proofs.Families.{In-between, between-In}
 use Rattle.floor_laws.proofs.Kept.{collect-In, collect_all_is, everywhere, stored-In}
 use Rattle.floor_laws.proofs.ListLaws.{floor_by_versions, flush_by_versions}
 use Rattle.floor_laws.proofs.Members.{All-In, All-from, In, In-append, In-contains, In-right, contains_In, map-In, none-any}
-use Rattle.floor_laws.proofs.States.{FlushHolds, FlushIs, holds_of, some_same, written_of}
-use Rattle.store_engine.specs.Installing.{EndsFlushBy, IsFileOfTable, live_with}
+use Rattle.floor_laws.proofs.States.{FlushIs, holds_of, some_same, written_of}
+use Rattle.store_engine.specs.Installing.{EndsFlushBy, live_with}
 use Rattle.store_engine.specs.Now.{FitsFamily, IsNow, versions_held}
 use Rattle.solo_store.specs.Flushing.{WritesFlush, sealed_in, sealed_of}
 use Rattle.solo_store.specs.Stores.{job_of}
 use Rattle.solo_store.specs.declared.store.RunningFlush.{RunningFlush}
-use Rattle.solo_store.proofs.Answers.{there}
 use Rattle.solo_store.proofs.Shown.{version_back}
 
 -- ---- what is sealed is what the flush takes
@@ -94,9 +92,9 @@ module _ (m : State) (now : SuperVersion) (job : Flush) (g : FamilyState) (shows
   taken_own =
       let all = (written_of _ m.last.0 m.versions (holds_of m sound).written).distinct in
       let distinct : Distinct (flush_taken m job) = λ q.
-          let a = all q in
-          let b = count-filter q (λ v. v.family.0 == job.family.0 && nat_lt (through_at m job.family).0 v.seq.0 && nat_le v.seq.0 job.through.0) m.versions in
-          omega (arith, a, b)
+      let a = all q in
+      let b = count-filter q (λ v. v.family.0 == job.family.0 && nat_lt (through_at m job.family).0 v.seq.0 && nat_le v.seq.0 job.through.0) m.versions in
+      omega (arith, a, b)
       in
       distinct_pairs (flush_taken m job) distinct
 

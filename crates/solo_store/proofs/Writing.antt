@@ -1,5 +1,5 @@
 -- The table of a flush, written.
-use Rattle.std.proofs.Common.{◌≡◌, List, [], refl, sym, subst, Some}
+use Rattle.std.proofs.Common.{◌≡◌, [], Some}
 use Rattle.std.specs.Prelude.{Result, Ok, Err, slice_get}
 use Rattle.udt_disk.specs.declared.file.DiskFile as file
 use Rattle.super_version.specs.declared.family.FamilyState.{FamilyState}

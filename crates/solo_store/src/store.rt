@@ -178,7 +178,10 @@ impl<D: Disk> Store<D> {
         let Ok(batch) = batch_of(alloc, &self.names, ops) else {
             return Reply::NoMemory;
         };
-        match self.engine.write(alloc, self.version.as_ref(), &batch, sync) {
+        match self
+            .engine
+            .write(alloc, self.version.as_ref(), &batch, sync)
+        {
             Ok(next) => {
                 let last = next.as_ref().last;
                 self.version = next;
@@ -197,7 +200,10 @@ impl<D: Disk> Store<D> {
         if let Some(since) = self.halted {
             return self.halted_reply(family, since);
         }
-        match self.engine.raise(alloc, self.version.as_ref(), family, floor) {
+        match self
+            .engine
+            .raise(alloc, self.version.as_ref(), family, floor)
+        {
             Ok(next) => {
                 self.version = next;
                 Reply::Done

@@ -1,10 +1,7 @@
-use Rattle.std.proofs.Common.{◌≡◌, List, map, refl, sym, ap, ◌∙◌, subst, Option, Some, None}
-use Rattle.std.specs.Prelude.{Result, Ok, Err}
-use Rattle.std.specs.Arc.{arc_value}
+use Rattle.std.proofs.Common.{List, sym, subst}
 use Rattle.memtable.specs.Memtables.{Memtable}
 use Rattle.flush_job.specs.Flushes.{AreFlushable}
 use Rattle.flush_job.specs.Walks.{versions_of_all}
-use Rattle.solo_store.specs.Flushing.{IsFlushWritten}
 use Rattle.solo_store.proofs.Writing.{written_flush}
 use Rattle.solo_store.proofs.flushes.write_flush.Goals as goal
 

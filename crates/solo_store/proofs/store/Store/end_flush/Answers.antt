@@ -1,7 +1,4 @@
-use Rattle.std.proofs.Common.{refl, sym, ap, ◌∙◌, subst}
-use Rattle.udt_model.specs.declared.event.Event.TheVariants.{FlushEnd}
 use Rattle.engine_laws.specs.Joints.{IsNowLast}
-use Rattle.solo_store.specs.Steps.{IsStep}
 use Rattle.solo_store.proofs.Ending.{end_halted}
 use Rattle.solo_store.proofs.store.Store.end_flush.Goals as goal
 

@@ -1,9 +1,8 @@
-use Rattle.std.proofs.Common.{refl, sym, ap, ◌∙◌, subst, inl, inr}
+use Rattle.std.proofs.Common.{refl, subst}
 use Rattle.std.specs.Prelude.{Err}
 use Rattle.super_version.specs.declared.version.SuperVersion.{SuperVersion}
 use Rattle.engine_laws.specs.Joints.{IsNowLast}
 use Rattle.solo_store.specs.Flushing.{IsFlushWritten}
-use Rattle.solo_store.specs.Stores.{now_of}
 use Rattle.solo_store.proofs.Finishing.{discard_step, installed_step, no_file_step, undone_step}
 use Rattle.solo_store.proofs.store.Store.finish.Goals as goal
 

@@ -3,7 +3,6 @@ use Rattle.udt_model.specs.Acts.Act.{raise}
 use Rattle.udt_model.specs.declared.event.Event.TheVariants.{Raise}
 use Rattle.udt_model.specs.declared.reply.Reply.{Reply}
 use Rattle.udt_model.specs.declared.reply.Reply.TheVariants.{Done}
-use Rattle.ts_key.specs.declared.numbers.Family.{Family}
 use Rattle.super_version.specs.Changes.{family_with_floor}
 use Rattle.engine_laws.specs.Joints.{IsNowLast}
 use Rattle.solo_store.specs.Steps.{IsStep}

@@ -15,7 +15,6 @@ use Rattle.solo_store.proofs.Events.{write_wants}
 use Rattle.solo_store.proofs.Faults.{fault_step, faulted_under, refuses_write}
 use Rattle.solo_store.proofs.Files.{write_files}
 use Rattle.solo_store.proofs.Stepping.{quiet}
-use Rattle.solo_store.proofs.Holding.{goes_on_of}
 use Rattle.solo_store.proofs.Naming.{named_batch}
 use Rattle.solo_store.proofs.store.Store.take.Goals as goal
 
