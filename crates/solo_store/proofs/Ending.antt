@@ -35,7 +35,7 @@ use Rattle.store_engine.proofs.Leaving.{beside_leave, failed_leave}
 use Rattle.solo_store.specs.Names.{family_named}
 use Rattle.solo_store.specs.Replies.{is_given}
 use Rattle.solo_store.specs.Steps.{IsHaltedSince, IsReplyCause, IsSameDisk, IsStep, halted_by}
-use Rattle.solo_store.specs.Stores.{HoldsHalted, HoldsSince, HoldsStore, IsReady, engine_of, job_of, now_of, store_faults, store_next}
+use Rattle.solo_store.specs.Stores.{HoldsHalted, HoldsSince, HoldsStore, IsStoreReady, engine_of, job_of, now_of, store_faults, store_next}
 use Rattle.solo_store.specs.declared.store.RunningFlush.{RunningFlush}
 use Rattle.solo_store.specs.declared.store.Store.{Store}
 use Rattle.solo_store.proofs.Asking.{Asks, asks_flush_end}
@@ -96,7 +96,7 @@ now_taken_off now m shows = record {
     none_some : (job : Flush) → None ≡ Some job → ⊥
     none_some job e = absurd (cc)
 
-module _ {D F : Type 0} (d : disk.Ghosts D F) (f : file.Ghosts F) (last : IsNowLast d f) (store : Store D F f) (ready : IsReady d f store) (number : ℕ)
+module _ {D F : Type 0} (d : disk.Ghosts D F) (f : file.Ghosts F) (last : IsNowLast d f) (store : Store D F f) (ready : IsStoreReady d f store) (number : ℕ)
     (flush : RunningFlush) (runs : store.flush ≡ Some flush) (name : List ℕ) (named : flush.family ≡ family_named store.names.items name) where
   abbrev act : Act
   act = flush_end flush.family flush.start

@@ -35,7 +35,7 @@ use Rattle.store_engine.specs.declared.fault.EngineFault.TheVariants as faults
 use Rattle.store_engine.proofs.Leaving.{failed_leave, failed_sync_leave}
 use Rattle.solo_store.specs.Replies.{halted_behind, told_of_fault}
 use Rattle.solo_store.specs.Steps.{IsSameDisk, IsStep}
-use Rattle.solo_store.specs.Stores.{HoldsHalted, HoldsStore, IsReady, engine_of, now_of, store_next}
+use Rattle.solo_store.specs.Stores.{HoldsHalted, HoldsStore, IsStoreReady, engine_of, now_of, store_next}
 use Rattle.solo_store.specs.declared.store.Store.{Store}
 use Rattle.solo_store.proofs.Asking.{Asks, asks_sync}
 use Rattle.solo_store.proofs.Behind.{is_own, is_still}
@@ -101,7 +101,7 @@ module _ {D F : Type 0} (d : disk.Ghosts D F) (f : file.Ghosts F) where
     pub files : (n : ℕ) → fault ≡ faults.FilesFull n → FILE_NUMBER_LIMIT ≤ store_next old
     pub counted : IsCause (is_disk_fault fault) (engine_faults d f (engine_of old)) (engine_faults d f engine)
 
-  module _ (last : IsNowLast d f) (old new : Store D F f) (engine : Engine D F f) (number : ℕ) (act : Act) (works : old.halted ≡ None) (ready : IsReady d f old) where
+  module _ (last : IsNowLast d f) (old new : Store D F f) (engine : Engine D F f) (number : ℕ) (act : Act) (works : old.halted ≡ None) (ready : IsStoreReady d f old) where
     -- a refusal keeps what the store held
     refused_keeps : (fault : EngineFault) → is_disk_fault fault ≡ false → Faulted old engine number act fault → new ≡ record old { engine = engine } → Keeps d f old new
     refused_keeps fault safe faulted is =
@@ -209,7 +209,7 @@ module _ {D F : Type 0} (d : disk.Ghosts D F) (f : file.Ghosts F) where
 
   -- ---- syncs
 
-  pub sync_failed : {A : Type 0} (last : IsNowLast d f) (old new : Store D F f) (engine : Engine D F f) (number : ℕ) (works : old.halted ≡ None) (ready : IsReady d f old) (fault : EngineFault) (reply : Reply)
+  pub sync_failed : {A : Type 0} (last : IsNowLast d f) (old new : Store D F f) (engine : Engine D F f) (number : ℕ) (works : old.halted ≡ None) (ready : IsStoreReady d f old) (fault : EngineFault) (reply : Reply)
       → fault ≡ faults.DiskFault
       → ((m : State) (c : Course) → HoldsNow d f (engine_of old) (now_of old) m c → IfSome (reply_of_fault fault) (IsReplyTo m sync_all))
       → ((m : State) (c : Course) → HoldsNow d f (engine_of old) (now_of old) m c → RanOn d f m c (engine_of old) engine)

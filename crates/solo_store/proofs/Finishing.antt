@@ -33,14 +33,14 @@ use Rattle.solo_store.specs.Flushing.{IsFlushWritten, WritesFlush, dropped_told,
 use Rattle.solo_store.specs.Names.{family_named}
 use Rattle.solo_store.specs.Replies.{halted_behind}
 use Rattle.solo_store.specs.Steps.{IsSameDisk, IsStep}
-use Rattle.solo_store.specs.Stores.{HoldsStore, IsReady, engine_of, job_of, now_of, store_faults, store_next}
+use Rattle.solo_store.specs.Stores.{HoldsStore, IsStoreReady, engine_of, job_of, now_of, store_faults, store_next}
 use Rattle.solo_store.specs.declared.store.RunningFlush.{RunningFlush}
 use Rattle.solo_store.specs.declared.store.Store.{Store}
 use Rattle.solo_store.proofs.Ending.{before_then, drop_step, drops_fault, drops_files, drops_memory, end_failed, install_step, job_runs, on_then, plus_none, plus_rose, under_then}
 use Rattle.solo_store.proofs.Holding.{live_of, on_under, store_shows, store_sound}
 use Rattle.solo_store.proofs.Taken.{ends_by}
 
-module _ {D F : Type 0} (d : disk.Ghosts D F) (f : file.Ghosts F) (last : IsNowLast d f) (store : Store D F f) (ready : IsReady d f store) (number : ℕ)
+module _ {D F : Type 0} (d : disk.Ghosts D F) (f : file.Ghosts F) (last : IsNowLast d f) (store : Store D F f) (ready : IsStoreReady d f store) (number : ℕ)
     (flush : RunningFlush) (runs : store.flush ≡ Some flush) (works : store.halted ≡ None) (name : List ℕ) (named : flush.family ≡ family_named store.names.items name) where
   -- ---- where there is no file
 

@@ -27,7 +27,7 @@ use Rattle.store_engine.specs.Engines.{HoldsNow, IsCurrent, IsOneFolder, IsRunni
 use Rattle.store_engine.specs.Parts.{ArePartsOf}
 use Rattle.store_engine.specs.declared.engine.Engine.{Engine}
 use Rattle.solo_store.specs.Names.{names_in}
-use Rattle.solo_store.specs.Stores.{HoldsStore, IsReady, engine_of, names_of_fold, now_of, parts_faults}
+use Rattle.solo_store.specs.Stores.{HoldsStore, IsStoreReady, engine_of, names_of_fold, now_of, parts_faults}
 use Rattle.solo_store.specs.declared.store.Store.{Store}
 use Rattle.solo_store.proofs.Holding.{goes_on_live, since_live}
 
@@ -48,7 +48,7 @@ said_names tables (f ∷ fs) = ap (λ (names : List (List ℕ)). f.name ∷ name
 
 module _ {D F : Type 0} (d : disk.Ghosts D F) (f : file.Ghosts F) (old : D) (parts : Parts D F f) (are : ArePartsOf d f old parts) where
   pub opened_ready : (made : Store D F f) → made.halted ≡ None → made.flush ≡ None → IsRunning (engine_of made) → IsCurrent (engine_of made) parts.version → IsOneFolder d f (engine_of made) → now_of made ≡ parts.version
-      → made.names.items ≡ names_of_fold (manifest_folded parts.manifest) → IsReady d f made
+      → made.names.items ≡ names_of_fold (manifest_folded parts.manifest) → IsStoreReady d f made
   opened_ready made works idle running current one is names =
       let fold = manifest_folded parts.manifest in
       let count : length (names_of_fold fold) ≡ length fold.families = length-map fold.families (λ (x : FamilyFold). x.name) in

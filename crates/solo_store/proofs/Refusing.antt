@@ -13,7 +13,7 @@ use Rattle.udt_model.specs.Refusals.{unknown}
 use Rattle.udt_model.specs.State.{State, heads_of}
 use Rattle.udt_model.specs.State.{FamilyState as ModelFamily}
 use Rattle.udt_model.specs.Steps.{IsReplyTo, admitted}
-use Rattle.solo_store.specs.Names.{is_any_unnamed, is_unnamed, names_in, op_named, place_named}
+use Rattle.solo_store.specs.Names.{is_any_unnamed, is_unnamed, names_in, op_named, place_by_name}
 
 -- as many names as families
 pub count_names : (m : State) (names : List (List ℕ)) → names ≡ names_in m → length names ≡ length m.families
@@ -24,7 +24,7 @@ unnamed_unknown : (m : State) (names : List (List ℕ)) (os : List NamedOp) → 
 unnamed_unknown m names [] e = refl
 unnamed_unknown m names (o ∷ os) e =
     let rest = unnamed_unknown m names os e in
-    elim (slice_get_cases m.families (place_named 0 names o.family)).1 [
+    elim (slice_get_cases m.families (place_by_name 0 names o.family)).1 [
       | inl some ↦
           let there = some.2 in let within = some.1 in
           let named : is_unnamed names o.family ≡ false = grind (arith, e, within) in

@@ -37,7 +37,7 @@ use Rattle.store_engine.proofs.Leaving.{failed_sync_leave}
 use Rattle.solo_store.specs.Names.{family_named}
 use Rattle.solo_store.specs.Replies.{halted_behind, told_of_fault}
 use Rattle.solo_store.specs.Steps.{IsStep, RunsFlush, StartsFlush}
-use Rattle.solo_store.specs.Stores.{HoldsStore, IsReady, MayEnd, engine_of, job_of, now_of, store_faults, store_next}
+use Rattle.solo_store.specs.Stores.{HoldsStore, IsStoreReady, MayEnd, engine_of, job_of, now_of, store_faults, store_next}
 use Rattle.solo_store.specs.declared.store.RunningFlush.{RunningFlush}
 use Rattle.solo_store.specs.declared.store.Store.{Store}
 use Rattle.solo_store.proofs.Answers.{not_there, there}
@@ -71,7 +71,7 @@ through_within engine v i g running current at =
     none_some : (g : FamilyState) → None ≡ Some g → ⊥
     none_some g e = absurd (cc)
 
-module _ {D F : Type 0} (d : disk.Ghosts D F) (f : file.Ghosts F) (last : IsNowLast d f) (store : Store D F f) (ready : IsReady d f store) (number : ℕ)
+module _ {D F : Type 0} (d : disk.Ghosts D F) (f : file.Ghosts F) (last : IsNowLast d f) (store : Store D F f) (ready : IsStoreReady d f store) (number : ℕ)
     (name : List ℕ) (i : Family) (is_family : i ≡ family_named store.names.items name) where
   abbrev act : Act
   act = flush_start i

@@ -19,7 +19,7 @@ use Rattle.store_engine.specs.Calls.{RanUnder}
 use Rattle.solo_store.specs.Acting.{course_behind_event}
 use Rattle.solo_store.specs.Replies.{is_given}
 use Rattle.solo_store.specs.Steps.{IsHaltedSince, IsReplyCause, IsSameDisk, IsStep, RanUnderEvent, halted_by, keeps_flush}
-use Rattle.solo_store.specs.Stores.{HoldsSince, HoldsStore, IsReady, engine_of, job_of, now_of, store_faults, store_next}
+use Rattle.solo_store.specs.Stores.{HoldsSince, HoldsStore, IsStoreReady, engine_of, job_of, now_of, store_faults, store_next}
 use Rattle.solo_store.specs.declared.store.Store.{Store}
 use Rattle.solo_store.proofs.Asking.{Asks, course_told, course_wanted, legal_told, legal_want, state_told, state_want}
 use Rattle.solo_store.proofs.Behind.{after_still, course_still, is_own, is_still, names_after, snaps_after}
@@ -66,7 +66,7 @@ module _ {D F : Type 0} (d : disk.Ghosts D F) (f : file.Ghosts F) where
     pub flush : (m : State) (c : Course) → HoldsStore d f old m c → (after m number act reply).flush ≡ option_map job_of new.flush
     pub holds : (m : State) (c : Course) → HoldsStore d f old m c → HoldsSince d f new.halted (engine_of new) (now_of new) (after m number act reply) (course_after m number c act reply)
     pub moments : (m : State) (c : Course) → HoldsStore d f old m c → RanUnder d f m c number act (engine_of old) (engine_of new)
-    pub ready : IsReady d f new
+    pub ready : IsStoreReady d f new
     pub names : new.names.items ≡ old.names.items
     pub counted : IsReplyCause reply (store_faults d f old) (store_faults d f new)
     pub given : IsTrue (is_given reply)
@@ -107,14 +107,14 @@ module _ {D F : Type 0} (d : disk.Ghosts D F) (f : file.Ghosts F) where
     pub flush : new.flush ≡ old.flush
     pub holds : (m : State) (c : Course) → HoldsStore d f old m c → HoldsSince d f new.halted (engine_of new) (now_of new) m c
     pub moments : (m : State) (c : Course) (number : ℕ) (act : Act) → HoldsStore d f old m c → RanUnder d f m c number act (engine_of old) (engine_of new)
-    pub ready : IsReady d f new
+    pub ready : IsStoreReady d f new
     pub names : new.names.items ≡ old.names.items
     pub faults : store_faults d f new ≡ store_faults d f old
     pub halted : new.halted ≡ old.halted
     pub next : store_next new ≡ store_next old
     pub same : IsSameDisk d (engine_of old).disk (engine_of new).disk
 
-  pub keeps_itself : IsNowLast d f → (store : Store D F f) → IsReady d f store → Keeps store store
+  pub keeps_itself : IsNowLast d f → (store : Store D F f) → IsStoreReady d f store → Keeps store store
   keeps_itself last store ready = record {
     flush = refl;
     holds = λ m c h. h.holds;

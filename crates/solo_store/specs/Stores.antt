@@ -82,7 +82,7 @@ module _ {D F : Type 0} (d : disk.Ghosts D F) (f : file.Ghosts F) where
   GoesOnUnless (Some since) engine now = ⊤
 
   -- The next event may be made, whether or not the disk tells what it holds.
-  pub record IsReady (store : Store D F f) : Type 0 where
+  pub record IsStoreReady (store : Store D F f) : Type 0 where
     pub goes_on : GoesOnUnless store.halted (engine_of store) (now_of store)
     pub one : IsOneFolder d f (engine_of store)
     pub families : length (now_of store).families ≡ length store.names.items

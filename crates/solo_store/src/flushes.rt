@@ -88,7 +88,7 @@ fn write_flush<F: DiskFile>(
 
 impl<D: Disk> Store<D> {
     ghost use Rattle.solo_store.specs.Steps.{IsStep, RunsFlush, StartsFlush};
-    ghost use Rattle.solo_store.specs.Stores.{IsReady, now_of};
+    ghost use Rattle.solo_store.specs.Stores.{IsStoreReady, now_of};
 
     /// Notes that a flush of all that is sealed of the family runs, since the event of this number.
     fn note_flush(&mut self, start: u64, family: Family, floor: Ts) -> Reply
@@ -109,7 +109,7 @@ impl<D: Disk> Store<D> {
     /// `end_flush`, and takes the versions up to the sequence that is told. `Unknown`, `Halted` and `Busy` are tested in this
     /// order, then `none` comes where nothing is unflushed, and `files` where no file number is left.
     pub fn start_flush(&mut self, alloc: Global, number: u64, family: &Name) -> Reply
-        requires { IsReady D.Disk D.File.DiskFile self.old }
+        requires { IsStoreReady D.Disk D.File.DiskFile self.old }
         ensures step { IsStep D.Disk D.File.DiskFile self.old self.new number (FlushStartEvent family.now) result }
         ensures started { StartsFlush result self.old self.new number family.now }
     {
@@ -140,7 +140,7 @@ impl<D: Disk> Store<D> {
     /// before, `DroppedFiles` where no file number is left, `DroppedFault` where the disk failed before the log and the manifest were
     /// touched, `Fault` where it failed then, and `DroppedMemory`.
     pub fn end_flush(&mut self, alloc: Global, number: u64, family: &Name, start: u64) -> Reply
-        requires ready { IsReady D.Disk D.File.DiskFile self.old }
+        requires ready { IsStoreReady D.Disk D.File.DiskFile self.old }
         requires runs { RunsFlush self.old start family.now }
         ensures step { IsStep D.Disk D.File.DiskFile self.old self.new number (FlushEndEvent family.now start) result }
         ensures ended { self.new.flush ≡ None }
@@ -158,7 +158,7 @@ impl<D: Disk> Store<D> {
 
     /// The same where the disk hasn't failed, and this is the flush that runs.
     fn finish(&mut self, alloc: Global, number: u64, flush: RunningFlush) -> Reply
-        requires ready { IsReady D.Disk D.File.DiskFile self.old }
+        requires ready { IsStoreReady D.Disk D.File.DiskFile self.old }
         requires works { self.old.halted ≡ None }
         requires runs { self.old.flush ≡ Some flush }
         ensures step { (name : List ℕ) → flush.family ≡ number_named self.old.names.items name → IsStep D.Disk D.File.DiskFile self.old self.new number (FlushEndEvent name flush.start) result }
