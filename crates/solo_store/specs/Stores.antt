@@ -45,6 +45,17 @@ module _ {D F : Type 0} {f : file.Ghosts F} where
   abbrev pub engine_of : Store D F f → Engine D F f
   engine_of store = store.engine
 
+  abbrev pub names_of : Store D F f → List (List ℕ)
+  names_of store = store.names.items
+
+  -- the flush that runs, where one does
+  abbrev pub flush_of : Store D F f → Option RunningFlush
+  flush_of store = store.flush
+
+  -- the number of the event under which the disk failed, where it did
+  abbrev pub halted_of : Store D F f → Option ℕ
+  halted_of store = store.halted
+
   abbrev pub now_of : Store D F f → SuperVersion
   now_of store = arc_value store.version
 
