@@ -67,5 +67,14 @@ pub fn flushed(
         floor: Ts(flush.floor),
     };
     let gone = state.sealed.len();
-    engine.install_flush(alloc, now, family, gone, Seq(flush.through), number, file, out)
+    engine.install_flush(
+        alloc,
+        now,
+        family,
+        gone,
+        Seq(flush.through),
+        number,
+        file,
+        out,
+    )
 }

@@ -63,7 +63,10 @@ fn head_of(alloc: Global, name: &[u8], form: Form) -> Result<FamilyHead, Fail> {
 fn made_in(alloc: Global, form: Form, troubles: Vec<Trouble>) -> Result<Option<MemDisk>, Fail> {
     let mut disk = MemDisk::new(alloc, troubles)?;
     let head = Head {
-        families: Items::of(vec![in alloc; head_of(alloc, b"d", form)?, head_of(alloc, b"e", form)?]?),
+        families: Items::of(vec![in alloc;
+            head_of(alloc, b"d", form)?,
+            head_of(alloc, b"e", form)?,
+        ]?),
     };
     if !head.is_allowed() || make_store(alloc, &mut disk, &head).is_err() {
         return Ok(None);

@@ -1,6 +1,6 @@
 -- Lists that get one more.
-use Rattle.std.proofs.Common.{◌≡◌, ◌⊎◌, inl, inr, ℕ, zero, suc, ◌+◌, ◌<◌, Bool, true, List, [], ◌∷◌, ◌++◌, length, map, get_or, Some, refl, sym, ap, ◌∙◌, subst, arith, length-append}
-use Rattle.std.specs.Prelude.{nat_lt, slice_get}
+use Rattle.std.proofs.Common.{◌≡◌, ◌⊎◌, inl, inr, ℕ, zero, suc, ◌+◌, ◌<◌, ◌≤◌, Bool, true, List, [], ◌∷◌, ◌++◌, length, map, get_or, Some, refl, sym, ap, ◌∙◌, subst, arith, length-append}
+use Rattle.std.specs.Prelude.{IfOk, Result, Ok, Err, nat_lt, slice_get}
 use Rattle.std.specs.Cmp.{IsStrictWeakOrder}
 use Rattle.std.specs.List.{list_all}
 use Rattle.std.specs.List.Sorted.{IsSortedBy, IsPermutation}
@@ -10,6 +10,8 @@ use Rattle.std.proofs.lemmas.List.{get_or-map, length-map, map-append}
 use Rattle.std.proofs.lemmas.List.Sorted.{IsPermutation-map}
 use Rattle.std.proofs.lemmas.List.MinMax.{ranks_by, IsStrictWeakOrder-flip, IsStrictWeakOrder-by_number}
 use Rattle.ts_key.specs.declared.version.Version.{Version}
+use Rattle.sorted_run.specs.Sorts.{sorted}
+use Rattle.memtable.specs.Memtables.{KeepsRuns, Memtable}
 use Rattle.manifest_fold.specs.declared.fold.FamilyFold.{FamilyFold}
 use Rattle.super_version.specs.Levels.{table_properties, stands_before}
 use Rattle.super_version.specs.Live.{Live}
@@ -120,3 +122,14 @@ own_alone family (v ∷ vs) all =
     let both = and_parts (is_own family v) (list_all (is_own family) vs) all in
     let own = both.0 in
     rw own (ap (λ r. v ∷ r) (own_alone family vs both.1))
+
+-- a memtable of versions alone has them in one run
+pub one_run : {E : Type 0} (vs : List Version) (old : Memtable) (r : Result Memtable E) → old.runs ≡ [] → (vs ≡ [] → IfOk r (λ m. m ≡ old)) → (1 ≤ length vs → IfOk r (λ m. KeepsRuns vs old.runs m.runs)) → IfOk r (λ m. length m.runs ≤ 1)
+one_run vs old (Err e) none copy keeps = tt
+one_run [] old (Ok m) none copy keeps =
+    let count : length m.runs ≡ 0 = ap (λ (k : Memtable). length k.runs) (copy refl) ∙ ap (λ (rs : List (List Version)). length rs) none in
+    omega (arith, count)
+one_run (v ∷ vs) old (Ok m) none copy keeps =
+    let runs : m.runs ≡ sorted (v ∷ vs) ∷ [] = subst (λ (rs : List (List Version)). KeepsRuns (v ∷ vs) rs m.runs) none (keeps (omega arith)) in
+    let count : length m.runs ≡ 1 = ap (λ (rs : List (List Version)). length rs) runs in
+    omega (arith, count)

@@ -38,14 +38,15 @@ pub record AreLevels (family : Family) (opened : List Opened) (count : ℕ) (lev
   pub all : length levels ≡ count
   pub each : (level : ℕ) (shown : List Live) → slice_get levels level ≡ Some shown → IsLevel level (level_tables family level opened) shown
 
--- The family is as the manifest has it. Its active memtable holds its versions of these, no other memtable is there, and its levels have
--- its tables.
+-- The family is as the manifest has it. Its active memtable holds its versions of these in one run, no other memtable is there, and its
+-- levels have its tables.
 pub record ShowsFamily (family : Family) (opened : List Opened) (versions : List Version) (f : FamilyFold) (state : FamilyState) : Type 0 where
   pub form : state.form ≡ f.form
   pub floor : state.floor ≡ f.floor
   pub through : state.through ≡ f.through
   pub number : state.active.family ≡ family
   pub active : versions_of_memtable state.active ≡ sorted (of_family family versions)
+  pub runs : length state.active.runs ≤ 1
   pub sealed : state.sealed ≡ []
   pub levels : AreLevels family opened LEVELS state.levels
 

@@ -50,6 +50,7 @@ fn are_own(family: Family, versions: &[Version]) -> bool
 fn memtable_of(alloc: Global, family: Family, versions: &[Version]) -> Result<Mem, NoMemory>
     ensures family { IfOk result (λ mem. mem.family ≡ family) }
     ensures versions { IfOk result (λ mem. versions_of_memtable mem ≡ sorted (of_family family versions.now)) }
+    ensures runs { IfOk result (λ mem. length mem.runs ≤ 1) }
 {
     if are_own(family, versions) {
         return Mem::empty(alloc, family).with(versions);

@@ -1,5 +1,5 @@
 -- The step of an event that the engine took.
-use Rattle.std.proofs.Common.{◌≡◌, ℕ, ◌+◌, ◌≤◌, Bool, List, length, Option, Some, None, refl, sym, ap, ◌∙◌, subst}
+use Rattle.std.proofs.Common.{◌≡◌, ℕ, ◌+◌, ◌≤◌, Bool, List, length, Option, None, sym, ap, ◌∙◌, subst}
 use Rattle.std.specs.Prelude.{IsTrue, option_map}
 use Rattle.ts_key.specs.declared.batch.WriteOp.{WriteOp}
 use Rattle.ts_key.specs.declared.limits.TheConstants.{FAMILY_LIMIT}
@@ -21,14 +21,14 @@ use Rattle.store_engine.specs.Calls.{RanUnder}
 use Rattle.store_engine.specs.Engines.{HoldsNow, IsCurrent, IsOneFolder, IsRunning}
 use Rattle.store_engine.specs.declared.engine.Engine.{Engine}
 use Rattle.solo_store.specs.Steps.{IsSameDisk, IsStep}
-use Rattle.solo_store.specs.Stores.{HoldsStore, IsReady, MayEndIf, engine_of, job_of, now_of, store_faults, store_next}
+use Rattle.solo_store.specs.Stores.{IsStoreReady, MayEndIf, engine_of, job_of, now_of, store_faults, store_next}
 use Rattle.solo_store.specs.declared.store.RunningFlush.{RunningFlush}
 use Rattle.solo_store.specs.declared.store.Store.{Store}
 use Rattle.solo_store.proofs.Asking.{Asks}
 use Rattle.solo_store.proofs.Behind.{flush_after, is_plain, plain_own}
 use Rattle.solo_store.proofs.Following.{Follows, may_end_later}
 use Rattle.solo_store.proofs.Holding.{goes_on_live, live_of, since_live}
-use Rattle.solo_store.proofs.Stepping.{IsActed, IsQuiet, acted_step, same_draws}
+use Rattle.solo_store.proofs.Stepping.{IsQuiet, acted_step, same_draws}
 
 module _ {D F : Type 0} (d : disk.Ghosts D F) (f : file.Ghosts F) where
   -- The store goes on with what the engine gave, and knows the same names and the same flush.
@@ -44,7 +44,7 @@ module _ {D F : Type 0} (d : disk.Ghosts D F) (f : file.Ghosts F) where
     pub next : store_next new ≡ store_next old
     pub same : IsSameDisk d (engine_of old).disk (engine_of new).disk
 
-  pub goes_on_ready : (old new : Store D F f) → IsReady d f old → GoesOn old new → IsReady d f new
+  pub goes_on_ready : (old new : Store D F f) → IsStoreReady d f old → GoesOn old new → IsStoreReady d f new
   goes_on_ready old new ready goes = record {
     goes_on = goes_on_live d f new.halted (engine_of new) (now_of new) goes.halted goes.running goes.current;
     one = goes.one ready.one;
@@ -53,7 +53,7 @@ module _ {D F : Type 0} (d : disk.Ghosts D F) (f : file.Ghosts F) where
     may_end = may_end_later new.flush (now_of old) (now_of new) goes.follows (subst (λ (o : Option RunningFlush). MayEndIf o (now_of old)) (sym goes.flush) ready.may_end);
   }
 
-  module _ (old new : Store D F f) (number : ℕ) (event : Event) (act : Act) (asks : Asks old.names.items event act) (plain : IsTrue (is_plain act)) (ready : IsReady d f old) (goes : GoesOn old new) where
+  module _ (old new : Store D F f) (number : ℕ) (event : Event) (act : Act) (asks : Asks old.names.items event act) (plain : IsTrue (is_plain act)) (ready : IsStoreReady d f old) (goes : GoesOn old new) where
     pub taken_step : (reply : Reply) → IsQuiet old.halted (store_next old) reply → IsTrue (steps_with (is_read event) reply) → store_faults d f new ≡ store_faults d f old
         → ((m : State) (c : Course) → HoldsNow d f (engine_of old) (now_of old) m c → IsReplyTo m act reply)
         → ((m : State) (c : Course) → HoldsNow d f (engine_of old) (now_of old) m c → HoldsNow d f (engine_of new) (now_of new) (after m number act reply) (course_after m number c act reply))

@@ -1,18 +1,17 @@
 -- What a store answers, and the model's replies.
-use Rattle.std.proofs.Common.{◌≡◌, ◌⊎◌, ℕ, ◌+◌, ◌<◌, ◌≤◌, List, length, map, refl, sym, ap, ◌∙◌, subst, arith, inl, inr, Option, Some, None}
+use Rattle.std.proofs.Common.{◌≡◌, ℕ, List, refl, sym, ap, ◌∙◌, inl, inr, Option, Some, None}
 use Rattle.std.specs.Prelude.{slice_get}
 use Rattle.ts_key.specs.declared.numbers.Family.{Family}
 use Rattle.ts_key.specs.declared.numbers.Seq.{Seq}
 use Rattle.ts_key.specs.declared.numbers.Ts.{Ts}
-use Rattle.udt_model.specs.declared.read.ModelRead.{ModelRead}
 use Rattle.udt_model.specs.declared.reply.Reply.{Reply}
 use Rattle.udt_model.specs.declared.reply.Reply.TheVariants as replies
-use Rattle.udt_model.specs.Acts.Act.{ask_floor, flush_start, get, raise, sync_all}
+use Rattle.udt_model.specs.Acts.Act.{ask_floor, get, raise, sync_all}
 use Rattle.udt_model.specs.Reads.{read}
-use Rattle.udt_model.specs.Refusals.{busy, floor_fell, halt, unknown_family, ◌or_else◌, ◌otherwise◌}
+use Rattle.udt_model.specs.Refusals.{floor_fell, halt, unknown_family, ◌or_else◌, ◌otherwise◌}
 use Rattle.udt_model.specs.State.{State, family_at, place_at}
 use Rattle.udt_model.specs.State.{FamilyState as ModelFamily}
-use Rattle.udt_model.specs.Steps.{IsReplyTo, got, reply_of_read, told_floor}
+use Rattle.udt_model.specs.Steps.{IsReplyTo, got, reply_of_read}
 use Rattle.floor_laws.specs.Sound.{IsSoundState}
 use Rattle.super_version.specs.Contents.{versions_in}
 use Rattle.super_version.specs.declared.family.FamilyState.{FamilyState}

@@ -1,6 +1,6 @@
 -- An event of a store, and the act by the families' numbers that it asks for.
-use Rattle.std.proofs.Common.{◌≡◌, ◌⊎◌, ℕ, Bool, true, false, List, map, Option, Some, None, refl, sym, ap, ◌∙◌, subst, inl, inr}
-use Rattle.std.specs.Prelude.{◌&&◌, IsTrue, if◌then◌else◌}
+use Rattle.std.proofs.Common.{◌≡◌, ℕ, Bool, List, map, Option, Some, None, refl, sym, ap, ◌∙◌, subst, inl, inr}
+use Rattle.std.specs.Prelude.{IsTrue}
 use Rattle.std.proofs.lemmas.Bool.{cases_Bool}
 use Rattle.ts_key.specs.declared.batch.WriteOp.{WriteOp}
 use Rattle.ts_key.specs.declared.numbers.Family.{Family}
@@ -12,12 +12,12 @@ use Rattle.udt_model.specs.declared.reply.Reply.{Reply}
 use Rattle.udt_model.specs.declared.reply.Reply.TheVariants.{NoMemory}
 use Rattle.udt_model.specs.Acts.{Act}
 use Rattle.udt_model.specs.Acts.Act.{ask_floor, flush_end, flush_start, get, raise, sync_all, write}
-use Rattle.udt_model.specs.Lines.{IsReply, IsReplyOr, after_or, is_numbered, is_read, steps_with, takes_memory}
+use Rattle.udt_model.specs.Lines.{IsReply, IsReplyOr, is_numbered, is_read, steps_with, takes_memory}
 use Rattle.udt_model.specs.Names.{no_names, seen_by}
 use Rattle.udt_model.specs.Crashes.{Course, course_after, course_after_or}
 use Rattle.udt_model.specs.Steps.{IsReplyTo, after, is_running}
 use Rattle.udt_model.specs.State.{State, family_of, heads_of}
-use Rattle.solo_store.specs.Acting.{act_in, course_behind_event, state_behind}
+use Rattle.solo_store.specs.Acting.{act_in, course_behind_event, state_behind_event}
 use Rattle.solo_store.specs.Names.{family_named, names_in, op_named}
 use Rattle.solo_store.proofs.Behind.{after_still, course_still, is_still}
 use Rattle.solo_store.proofs.Naming.{family_same, ops_same}
@@ -66,13 +66,13 @@ module _ (names : List (List ℕ)) where
         (subst (λ (n : State). IsReplyOr 0 n event (Some act) NoMemory) (sym (asks.seen m)) (inr (runs, inl (refl, takes))))
 
     -- what it leaves
-    pub state_told : (number : ℕ) (reply : Reply) → IsTrue (steps_with (is_read event) reply) → state_behind m number event reply ≡ after m number act reply
+    pub state_told : (number : ℕ) (reply : Reply) → IsTrue (steps_with (is_read event) reply) → state_behind_event m number event reply ≡ after m number act reply
     state_told number reply steps = let numbered = asks.numbered in let bound = asks.bound m e in rw (numbered, steps, bound) refl
 
     pub course_told : (number : ℕ) (c : Course) (reply : Reply) → course_behind_event m number c event reply ≡ course_after m number c act reply
     course_told number c reply = ap (λ (o : Option Act). course_after_or m number c o reply) (asks.bound m e)
 
-    pub state_want : (number : ℕ) → IsTrue (is_still act NoMemory) → state_behind m number event NoMemory ≡ m
+    pub state_want : (number : ℕ) → IsTrue (is_still act NoMemory) → state_behind_event m number event NoMemory ≡ m
     state_want number still = elim (cases_Bool (is_read event)) [
       | inl y ↦ let numbered = asks.numbered in let bound = asks.bound m e in rw (numbered, y, bound) (after_still m number act NoMemory still)
       | inr y ↦ let numbered = asks.numbered in rw (numbered, y) refl

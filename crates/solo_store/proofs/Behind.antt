@@ -1,5 +1,5 @@
 -- What the acts of a store leave of a state: names, snapshots and the flush that runs, and those that change nothing.
-use Rattle.std.proofs.Common.{◌≡◌, ℕ, zero, suc, Bool, true, false, List, [], ◌∷◌, map, Option, Some, None, refl, sym, ap, ◌∙◌}
+use Rattle.std.proofs.Common.{◌≡◌, ℕ, zero, suc, Bool, true, false, List, [], ◌∷◌, map, Option, Some, None, refl, ap}
 use Rattle.std.specs.Prelude.{IsTrue}
 use Rattle.std.proofs.lemmas.Bool.{false≢true}
 use Rattle.ts_key.specs.declared.numbers.Ts.{Ts}
@@ -9,7 +9,7 @@ use Rattle.udt_model.specs.declared.reply.Reply.{Reply}
 use Rattle.udt_model.specs.declared.reply.Reply.TheVariants.{Done, DroppedFault, DroppedFiles, DroppedMemory, Fault, Halted, Inputs, Kept, OkAt, Table}
 use Rattle.udt_model.specs.State.{Compaction, FamilyState, Flush, State, changed_at}
 use Rattle.udt_model.specs.Acts.{Act}
-use Rattle.udt_model.specs.Acts.Act.{ask_floor, compact_end, compact_start, flush_end, flush_start, get, make_snapshot, pin, raise, release, scan, sync_all, unpin, write}
+use Rattle.udt_model.specs.Acts.Act.{ask_floor, compact_end, compact_start, flush_end, flush_start, get, make_snapshot, raise, release, sync_all, write}
 use Rattle.udt_model.specs.Steps.{after, with_compaction, with_flush, without_job}
 use Rattle.udt_model.specs.Crashes.{Course, course_after}
 use Rattle.solo_store.specs.Names.{names_in}

@@ -1,7 +1,6 @@
 -- The steps of events that change nothing: reads, floors, and what a halted store refuses.
-use Rattle.std.proofs.Common.{◌≡◌, ◌⊎◌, ℕ, ◌≤◌, Bool, true, false, List, map, Option, Some, None, refl, sym, ap, ◌∙◌, subst, inl, inr}
-use Rattle.std.specs.Prelude.{IsTrue, if◌then◌else◌, slice_get}
-use Rattle.std.proofs.lemmas.Bool.{cases_Bool}
+use Rattle.std.proofs.Common.{◌≡◌, ◌⊎◌, ℕ, Bool, true, false, List, map, Option, Some, None, refl, sym, ◌∙◌, subst, inl, inr}
+use Rattle.std.specs.Prelude.{if◌then◌else◌, slice_get}
 use Rattle.ts_key.specs.declared.numbers.Family.{Family}
 use Rattle.ts_key.specs.declared.numbers.Ts.{Ts}
 use Rattle.udt_disk.specs.declared.file.DiskFile as file
@@ -13,7 +12,6 @@ use Rattle.udt_model.specs.declared.read.ModelRead.{ModelRead}
 use Rattle.udt_model.specs.declared.read.ModelRead.TheVariants as reads
 use Rattle.udt_model.specs.declared.reply.Reply.{Reply}
 use Rattle.udt_model.specs.declared.reply.Reply.TheVariants as replies
-use Rattle.udt_model.specs.Acts.{Act}
 use Rattle.udt_model.specs.Acts.Act.{ask_floor, get, raise, sync_all, write}
 use Rattle.udt_model.specs.Crashes.{Course}
 use Rattle.udt_model.specs.Reads.{read}
@@ -27,7 +25,7 @@ use Rattle.store_engine.specs.Now.{IsNow}
 use Rattle.solo_store.specs.Names.{family_named, is_any_unnamed, op_named}
 use Rattle.solo_store.specs.Replies.{halted_told}
 use Rattle.solo_store.specs.Steps.{IsStep}
-use Rattle.solo_store.specs.Stores.{HoldsStore, IsReady, now_of, store_next}
+use Rattle.solo_store.specs.Stores.{HoldsStore, IsStoreReady, now_of, store_next}
 use Rattle.solo_store.specs.declared.store.Store.{Store}
 use Rattle.solo_store.proofs.Answers.{floor_told, floor_unknown, get_told, get_unknown, raise_halted, sync_halted}
 use Rattle.solo_store.proofs.Asking.{Asks, asks_floor, asks_get, asks_raise, asks_sync, asks_write}
@@ -43,7 +41,7 @@ none_left (Some x) none = absurd (none x refl)
 abbrev pub IsReadReply : ModelRead → Reply → Type 0
 IsReadReply told reply = (reply ≡ reply_of_read told) ⊎ (reply ≡ replies.NoMemory)
 
-module _ {D F : Type 0} (d : disk.Ghosts D F) (f : file.Ghosts F) (last : IsNowLast d f) (store : Store D F f) (ready : IsReady d f store) (number : ℕ) where
+module _ {D F : Type 0} (d : disk.Ghosts D F) (f : file.Ghosts F) (last : IsNowLast d f) (store : Store D F f) (ready : IsStoreReady d f store) (number : ℕ) where
   -- ---- of a family, as the super version and the family's number were had
 
   module _ (name : List ℕ) (now : SuperVersion) (i : Family) (is_now : now ≡ now_of store) (is_family : i ≡ family_named store.names.items name) where

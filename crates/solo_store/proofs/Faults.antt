@@ -1,6 +1,6 @@
 -- The step of an event under which the engine answered a fault.
-use Rattle.std.proofs.Common.{◌≡◌, ℕ, ◌+◌, ◌≤◌, Bool, false, true, List, Option, Some, None, refl, sym, ap, ◌∙◌, subst}
-use Rattle.std.specs.Prelude.{IfSome, IsTrue, Result, Err, option_map}
+use Rattle.std.proofs.Common.{◌≡◌, ℕ, ◌+◌, ◌≤◌, Bool, false, true, List, Some, None, refl, sym, ap, ◌∙◌, subst}
+use Rattle.std.specs.Prelude.{IfSome, IsTrue, Err}
 use Rattle.std.proofs.lemmas.Bool.{false≢true, true≢false}
 use Rattle.ts_key.specs.declared.batch.WriteOp.{WriteOp}
 use Rattle.ts_key.specs.declared.numbers.Family.{Family}
@@ -20,13 +20,12 @@ use Rattle.udt_model.specs.Crashes.{Course, course_after}
 use Rattle.udt_model.specs.Lines.{is_read, takes_memory}
 use Rattle.udt_model.specs.State.{State}
 use Rattle.udt_model.specs.Steps.{IsReplyTo, after, is_running, without_job}
-use Rattle.floor_laws.specs.Sound.{IsSoundState}
 use Rattle.floor_laws.proofs.Told.{sound_after}
 use Rattle.super_version.specs.declared.version.SuperVersion.{SuperVersion}
 use Rattle.manifest_fold.specs.declared.limits.TheConstants.{FILE_NUMBER_LIMIT}
 use Rattle.engine_laws.specs.Joints.{IsNowLast}
 use Rattle.store_engine.specs.Calls.{LeavesOutcomes, RanOn, RanUnder}
-use Rattle.store_engine.specs.Engines.{HoldsAsBefore, HoldsNow, IsCurrent, IsOneFolder, IsRunning, engine_faults, held}
+use Rattle.store_engine.specs.Engines.{HoldsAsBefore, HoldsNow, IsOneFolder, IsRunning, engine_faults, held}
 use Rattle.store_engine.specs.Now.{IsNow}
 use Rattle.store_engine.specs.Replies.{is_disk_fault, reply_of_fault}
 use Rattle.store_engine.specs.Steps.{IsCalled}
@@ -36,7 +35,7 @@ use Rattle.store_engine.specs.declared.fault.EngineFault.TheVariants as faults
 use Rattle.store_engine.proofs.Leaving.{failed_leave, failed_sync_leave}
 use Rattle.solo_store.specs.Replies.{halted_behind, told_of_fault}
 use Rattle.solo_store.specs.Steps.{IsSameDisk, IsStep}
-use Rattle.solo_store.specs.Stores.{HoldsHalted, HoldsSince, HoldsStore, IsReady, engine_of, job_of, now_of, store_next}
+use Rattle.solo_store.specs.Stores.{HoldsHalted, HoldsStore, IsStoreReady, engine_of, now_of, store_next}
 use Rattle.solo_store.specs.declared.store.Store.{Store}
 use Rattle.solo_store.proofs.Asking.{Asks, asks_sync}
 use Rattle.solo_store.proofs.Behind.{is_own, is_still}
@@ -89,7 +88,7 @@ now_halted now m number shows = record {
 module _ {D F : Type 0} (d : disk.Ghosts D F) (f : file.Ghosts F) where
   -- What a call of the engine left that answered a fault.
   pub record Faulted (old : Store D F f) (engine : Engine D F f) (number : ℕ) (act : Act) (fault : EngineFault) : Type 0 where
-    pub tells : (m : State) (c : Course) → HoldsNow d f (engine_of old) (now_of old) m c → IfSome (reply_of_fault fault) (IsReplyTo m act)
+    pub tells : (m : State) (c : Course) → HoldsStore d f old m c → IfSome (reply_of_fault fault) (IsReplyTo m act)
     pub leaves : (m : State) (c : Course) → HoldsNow d f (engine_of old) (now_of old) m c → is_disk_fault fault ≡ true → LeavesOutcomes d f (after m number act Fault) (course_after m number c act Fault) (held engine)
     pub moments : (m : State) (c : Course) → HoldsNow d f (engine_of old) (now_of old) m c → RanUnder d f m c number act (engine_of old) engine
     pub refused : is_disk_fault fault ≡ false → HoldsAsBefore d f (engine_of old) engine
@@ -102,7 +101,7 @@ module _ {D F : Type 0} (d : disk.Ghosts D F) (f : file.Ghosts F) where
     pub files : (n : ℕ) → fault ≡ faults.FilesFull n → FILE_NUMBER_LIMIT ≤ store_next old
     pub counted : IsCause (is_disk_fault fault) (engine_faults d f (engine_of old)) (engine_faults d f engine)
 
-  module _ (last : IsNowLast d f) (old new : Store D F f) (engine : Engine D F f) (number : ℕ) (act : Act) (works : old.halted ≡ None) (ready : IsReady d f old) where
+  module _ (last : IsNowLast d f) (old new : Store D F f) (engine : Engine D F f) (number : ℕ) (act : Act) (works : old.halted ≡ None) (ready : IsStoreReady d f old) where
     -- a refusal keeps what the store held
     refused_keeps : (fault : EngineFault) → is_disk_fault fault ≡ false → Faulted old engine number act fault → new ≡ record old { engine = engine } → Keeps d f old new
     refused_keeps fault safe faulted is =
@@ -129,14 +128,14 @@ module _ {D F : Type 0} (d : disk.Ghosts D F) (f : file.Ghosts F) where
     -- the disk failed
     failed_acted : Faulted old engine number act faults.DiskFault → ((m : State) → without_job m act ≡ m) → new ≡ record old { engine = engine; halted = Some number } → IsActed d f old new number act Fault
     failed_acted faulted job is = subst (λ (s : Store D F f). IsActed d f old s number act Fault) (sym is) (record {
-      legal = λ m c h. faulted.tells m c (live_of d f old m c works h);
+      legal = λ m c h. faulted.tells m c h;
       flush = λ m c h. ap (λ (n : State). n.flush) (job m) ∙ h.flush;
       holds = λ m c h.
           let live = live_of d f old m c works h in
           let halted : HoldsHalted d f number engine (now_of old) (after m number act Fault) (course_after m number c act Fault) = record {
             halted = refl;
             shows = subst (λ (n : State). IsNow (now_of old) (record n { halted = Some number })) (sym (job m)) (now_halted (now_of old) m number (store_shows d f old m c h));
-            sound = sound_after m number act Fault (store_sound d f old m c h) (faulted.tells m c live);
+            sound = sound_after m number act Fault (store_sound d f old m c h) (faulted.tells m c h);
             leaves = faulted.leaves m c live refl;
           } in
           halted;
@@ -163,20 +162,20 @@ module _ {D F : Type 0} (d : disk.Ghosts D F) (f : file.Ghosts F) where
       fault_step faults.NoMemory faulted is = want_step d f old new number event act asks may.own (refused_keeps faults.NoMemory refl faulted is) (may.still faults.NoMemory refl) may.takes may.runs
       fault_step (faults.FilesFull n) faulted is =
           still_step d f old new number event act asks may.own (refused_keeps (faults.FilesFull n) refl faulted is) (replies.Files n) (may.still (faults.FilesFull n) refl)
-          (quiet_files old.halted (store_next old) n (faulted.files n refl)) refl (λ m c h. faulted.tells m c (live_of d f old m c works h))
+          (quiet_files old.halted (store_next old) n (faulted.files n refl)) refl faulted.tells
       fault_step fault faulted is =
           still_step d f old new number event act asks may.own (refused_keeps fault refl faulted is) (told_of_fault fault) (may.still fault refl) (quiet old.halted (store_next old) (told_of_fault fault) refl) refl
-          (λ m c h. faulted.tells m c (live_of d f old m c works h))
+          faulted.tells
 
   -- ---- what the calls of an engine tell of their faults
 
-  module _ (last : IsNowLast d f) (old : Store D F f) (engine : Engine D F f) (number : ℕ) (act : Act) (fault : EngineFault)
+  module _ (last : IsNowLast d f) (old : Store D F f) (engine : Engine D F f) (number : ℕ) (act : Act) (works : old.halted ≡ None) (fault : EngineFault)
       (tells : (m : State) (c : Course) → HoldsNow d f (engine_of old) (now_of old) m c → IfSome (reply_of_fault fault) (IsReplyTo m act))
       (refused : is_disk_fault fault ≡ false → HoldsAsBefore d f (engine_of old) engine) (files : (n : ℕ) → fault ≡ faults.FilesFull n → FILE_NUMBER_LIMIT ≤ store_next old) where
     pub faulted_under : {A : Type 0} → ((m : State) (c : Course) → HoldsNow d f (engine_of old) (now_of old) m c → RanUnder d f m c number act (engine_of old) engine)
         → IsCalled {A = A} d f (engine_of old) engine (Err fault) → Faulted old engine number act fault
     faulted_under moments called = record {
-      tells = tells;
+      tells = λ m c h. tells m c (live_of d f old m c works h);
       leaves = λ m c h failed. failed_leave d f last (engine_of old) engine m c number act h.unfailed (moments m c h);
       moments = moments;
       refused = refused;
@@ -194,7 +193,7 @@ module _ {D F : Type 0} (d : disk.Ghosts D F) (f : file.Ghosts F) where
     pub faulted_on : {A : Type 0} → ((m : State) (c : Course) → HoldsNow d f (engine_of old) (now_of old) m c → RanOn d f m c (engine_of old) engine)
         → IsCalled {A = A} d f (engine_of old) engine (Err fault) → Faulted old engine number act fault
     faulted_on moments called = record {
-      tells = tells;
+      tells = λ m c h. tells m c (live_of d f old m c works h);
       leaves = λ m c h failed. failed_sync_leave d f last (engine_of old) engine m c number act h.unfailed (moments m c h);
       moments = λ m c h. on_under d f (engine_of old) engine m c number act (moments m c h);
       refused = refused;
@@ -210,7 +209,7 @@ module _ {D F : Type 0} (d : disk.Ghosts D F) (f : file.Ghosts F) where
 
   -- ---- syncs
 
-  pub sync_failed : {A : Type 0} (last : IsNowLast d f) (old new : Store D F f) (engine : Engine D F f) (number : ℕ) (works : old.halted ≡ None) (ready : IsReady d f old) (fault : EngineFault) (reply : Reply)
+  pub sync_failed : {A : Type 0} (last : IsNowLast d f) (old new : Store D F f) (engine : Engine D F f) (number : ℕ) (works : old.halted ≡ None) (ready : IsStoreReady d f old) (fault : EngineFault) (reply : Reply)
       → fault ≡ faults.DiskFault
       → ((m : State) (c : Course) → HoldsNow d f (engine_of old) (now_of old) m c → IfSome (reply_of_fault fault) (IsReplyTo m sync_all))
       → ((m : State) (c : Course) → HoldsNow d f (engine_of old) (now_of old) m c → RanOn d f m c (engine_of old) engine)
@@ -219,7 +218,7 @@ module _ {D F : Type 0} (d : disk.Ghosts D F) (f : file.Ghosts F) where
   sync_failed {A} last old new engine number works ready fault reply is tells moments called told left =
       let tells_fault : (m : State) (c : Course) → HoldsNow d f (engine_of old) (now_of old) m c → IfSome (reply_of_fault faults.DiskFault) (IsReplyTo m sync_all) = subst (λ (x : EngineFault). (m : State) (c : Course) → HoldsNow d f (engine_of old) (now_of old) m c → IfSome (reply_of_fault x) (IsReplyTo m sync_all)) is tells in
       let failed : IsCalled {A = A} d f (engine_of old) engine (Err faults.DiskFault) = subst (λ (x : EngineFault). IsCalled {A = A} d f (engine_of old) engine (Err x)) is called in
-      let faulted = faulted_on last old engine number sync_all faults.DiskFault tells_fault (λ safe. absurd (true≢false safe)) (λ n is. absurd (cc)) moments failed in
+      let faulted = faulted_on last old engine number sync_all works faults.DiskFault tells_fault (λ safe. absurd (true≢false safe)) (λ n is. absurd (cc)) moments failed in
       subst (λ (r : Reply). IsStep d f old new number Sync r) (sym (told ∙ ap told_of_fault is))
       (failed_step last old new engine number sync_all works ready Sync (asks_sync old.names.items) refl (λ m. refl) faulted
       (left ∙ ap (λ (x : EngineFault). let s : Store D F f = record old { engine = engine; halted = halted_behind old.halted number x } in s) is))

@@ -1,5 +1,5 @@
 -- Super versions that follow one another: as many families, each flushed up to the same sequence, and no smaller last sequence.
-use Rattle.std.proofs.Common.{◌≡◌, ℕ, zero, suc, ◌+◌, ◌<◌, ◌≤◌, ◌==◌, List, [], ◌∷◌, length, Option, Some, None, refl, sym, ap, ◌∙◌, subst, arith, inl, inr}
+use Rattle.std.proofs.Common.{◌≡◌, ℕ, zero, suc, ◌≤◌, ◌==◌, List, [], ◌∷◌, length, Option, Some, None, refl, sym, ap, ◌∙◌, subst, arith, inl, inr}
 use Rattle.std.specs.Prelude.{slice_get}
 use Rattle.std.proofs.lemmas.Bool.{cases_Bool, eqb-true, false≢true, eq-eqb}
 use Rattle.ts_key.specs.declared.batch.WriteOp.{WriteOp}
@@ -11,7 +11,7 @@ use Rattle.super_version.specs.Writes.{AddsBatch, AreWrittenTo}
 use Rattle.super_version.specs.declared.family.FamilyState.{FamilyState}
 use Rattle.super_version.specs.declared.version.SuperVersion.{SuperVersion}
 use Rattle.store_engine.proofs.Current.{get_changed, length_changed}
-use Rattle.solo_store.specs.Stores.{MayEnd, MayEndIf}
+use Rattle.solo_store.specs.Stores.{MayEndIf}
 use Rattle.solo_store.specs.declared.store.RunningFlush.{RunningFlush}
 
 -- the family at this place was flushed up to the same sequence

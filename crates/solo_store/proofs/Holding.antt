@@ -1,6 +1,5 @@
 -- What a store holds, by its halves: while its disk works, and since it failed.
-use Rattle.std.proofs.Common.{◌≡◌, ℕ, List, refl, sym, ap, ◌∙◌, subst, inl, Option, Some, None}
-use Rattle.std.specs.Prelude.{IsTrue}
+use Rattle.std.proofs.Common.{◌≡◌, ℕ, sym, subst, inl, Option, Some, None}
 use Rattle.udt_disk.specs.Joint.{Ran}
 use Rattle.udt_disk.specs.Joint.Ran.{rests}
 use Rattle.udt_disk.specs.declared.file.DiskFile as file
@@ -19,7 +18,7 @@ use Rattle.store_engine.specs.Engines.{HoldsNow, IsCurrent, IsRunning, held}
 use Rattle.store_engine.specs.Now.{IsNow}
 use Rattle.store_engine.specs.declared.engine.Engine.{Engine}
 use Rattle.store_engine.proofs.Leaving.{between_leave}
-use Rattle.solo_store.specs.Stores.{HoldsSince, HoldsStore, IsReady, GoesOnUnless, engine_of, now_of}
+use Rattle.solo_store.specs.Stores.{HoldsSince, HoldsStore, IsStoreReady, GoesOnUnless, engine_of, now_of}
 use Rattle.solo_store.specs.declared.store.Store.{Store}
 
 module _ {D F : Type 0} (d : disk.Ghosts D F) (f : file.Ghosts F) where
@@ -30,7 +29,7 @@ module _ {D F : Type 0} (d : disk.Ghosts D F) (f : file.Ghosts F) where
   pub since_live : (o : Option ℕ) (engine : Engine D F f) (now : SuperVersion) (m : State) (c : Course) → o ≡ None → HoldsNow d f engine now m c → HoldsSince d f o engine now m c
   since_live o engine now m c works h = subst (λ o. HoldsSince d f o engine now m c) (sym works) h
 
-  pub goes_on_of : (store : Store D F f) → store.halted ≡ None → IsReady d f store → IsRunning (engine_of store) × IsCurrent (engine_of store) (now_of store)
+  pub goes_on_of : (store : Store D F f) → store.halted ≡ None → IsStoreReady d f store → IsRunning (engine_of store) × IsCurrent (engine_of store) (now_of store)
   goes_on_of store works ready = subst (λ o. GoesOnUnless d f o (engine_of store) (now_of store)) works ready.goes_on
 
   pub goes_on_live : (o : Option ℕ) (engine : Engine D F f) (now : SuperVersion) → o ≡ None → IsRunning engine → IsCurrent engine now → GoesOnUnless d f o engine now

@@ -13,3 +13,8 @@ pub mod Following
 pub mod Answers
 pub mod Events
 pub mod Opened
+pub mod Starting
+pub mod Taken
+pub mod Writing
+pub mod Ending
+pub mod Finishing

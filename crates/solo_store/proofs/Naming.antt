@@ -1,6 +1,6 @@
 -- Families by their names, as the model and a store find them.
-use Rattle.std.proofs.Common.{◌≡◌, ℕ, ◌+◌, ◌<◌, ◌≤◌, Bool, true, false, List, [], ◌∷◌, length, map, refl, sym, ap, ◌∙◌, subst, arith, inl, inr}
-use Rattle.std.specs.Prelude.{All, if◌then◌else◌, nat_le}
+use Rattle.std.proofs.Common.{◌≡◌, ℕ, ◌+◌, ◌<◌, ◌≤◌, List, [], ◌∷◌, length, map, refl, sym, ap, ◌∙◌, arith, inl, inr}
+use Rattle.std.specs.Prelude.{All}
 use Rattle.std.specs.Str.{bytes_eq}
 use Rattle.std.proofs.lemmas.Bool.{cases_Bool}
 use Rattle.std.proofs.lemmas.List.{length-map}
@@ -13,12 +13,12 @@ use Rattle.udt_model.specs.declared.event.NamedOp.{NamedOp}
 use Rattle.udt_model.specs.declared.line.FamilyHead.{FamilyHead}
 use Rattle.udt_model.specs.Names.{op_of}
 use Rattle.udt_model.specs.State.{State, family_of, family_or, heads_of, place_from}
-use Rattle.solo_store.specs.Names.{family_named, names_in, op_named, place_named}
+use Rattle.solo_store.specs.Names.{family_named, names_in, op_named, place_by_name}
 
 head_name : FamilyHead → List ℕ
 head_name h = h.name
 
-place_is : (n k : ℕ) (heads : List FamilyHead) (name : List ℕ) → k ≡ n + length heads → family_or k (place_from n heads name) ≡ record { 0 = place_named n (map (λ (h : FamilyHead). h.name) heads) name }
+place_is : (n k : ℕ) (heads : List FamilyHead) (name : List ℕ) → k ≡ n + length heads → family_or k (place_from n heads name) ≡ record { 0 = place_by_name n (map (λ (h : FamilyHead). h.name) heads) name }
 place_is n k [] name e = let same : k ≡ n = omega (arith, e) in ap (λ (i : ℕ). let c : Family = record { 0 = i } in c) same
 place_is n k (h ∷ hs) name e = elim (cases_Bool (bytes_eq h.name name)) [
   | inl y ↦ rw y refl

@@ -1,5 +1,5 @@
 -- A store over the parts of an opened one.
-use Rattle.std.proofs.Common.{◌≡◌, ℕ, ◌≤◌, List, [], ◌∷◌, length, map, Option, Some, None, refl, sym, ap, ◌∙◌, subst}
+use Rattle.std.proofs.Common.{◌≡◌, ℕ, ◌≤◌, List, [], ◌∷◌, length, map, None, refl, sym, ap, ◌∙◌, subst}
 use Rattle.std.specs.Prelude.{IsTrue}
 use Rattle.std.proofs.lemmas.List.{length-map}
 use Rattle.ts_key.specs.declared.limits.TheConstants.{FAMILY_LIMIT}
@@ -10,7 +10,7 @@ use Rattle.udt_disk.specs.declared.file.DiskFile as file
 use Rattle.udt_disk.specs.declared.disk.Disk as disk
 use Rattle.udt_model.specs.declared.line.FamilyHead.{FamilyHead}
 use Rattle.udt_model.specs.Crashes.{course_start}
-use Rattle.udt_model.specs.State.{FamilyState, Flush, Snap, State}
+use Rattle.udt_model.specs.State.{FamilyState, State}
 use Rattle.wal.specs.Wals.{wal_file}
 use Rattle.manifest.specs.Folders.{Meaning, Means}
 use Rattle.manifest.specs.Folders.Meaning.{bad_at, no_store, store}
@@ -27,7 +27,7 @@ use Rattle.store_engine.specs.Engines.{HoldsNow, IsCurrent, IsOneFolder, IsRunni
 use Rattle.store_engine.specs.Parts.{ArePartsOf}
 use Rattle.store_engine.specs.declared.engine.Engine.{Engine}
 use Rattle.solo_store.specs.Names.{names_in}
-use Rattle.solo_store.specs.Stores.{HoldsStore, IsReady, engine_of, names_of_fold, now_of, parts_faults}
+use Rattle.solo_store.specs.Stores.{HoldsStore, IsStoreReady, engine_of, names_of_fold, now_of, parts_faults}
 use Rattle.solo_store.specs.declared.store.Store.{Store}
 use Rattle.solo_store.proofs.Holding.{goes_on_live, since_live}
 
@@ -48,7 +48,7 @@ said_names tables (f ∷ fs) = ap (λ (names : List (List ℕ)). f.name ∷ name
 
 module _ {D F : Type 0} (d : disk.Ghosts D F) (f : file.Ghosts F) (old : D) (parts : Parts D F f) (are : ArePartsOf d f old parts) where
   pub opened_ready : (made : Store D F f) → made.halted ≡ None → made.flush ≡ None → IsRunning (engine_of made) → IsCurrent (engine_of made) parts.version → IsOneFolder d f (engine_of made) → now_of made ≡ parts.version
-      → made.names.items ≡ names_of_fold (manifest_folded parts.manifest) → IsReady d f made
+      → made.names.items ≡ names_of_fold (manifest_folded parts.manifest) → IsStoreReady d f made
   opened_ready made works idle running current one is names =
       let fold = manifest_folded parts.manifest in
       let count : length (names_of_fold fold) ≡ length fold.families = length-map fold.families (λ (x : FamilyFold). x.name) in

@@ -1,21 +1,19 @@
 -- What a halted store answers to a write, and the model's reply.
-use Rattle.std.proofs.Common.{◌≡◌, ◌⊎◌, ℕ, ◌+◌, ◌<◌, ◌≤◌, Bool, true, false, List, [], ◌∷◌, length, map, refl, sym, ap, ◌∙◌, subst, arith, inl, inr, Option, Some, None}
-use Rattle.std.specs.Prelude.{IsTrue, if◌then◌else◌, nat_le, option_map, slice_get}
+use Rattle.std.proofs.Common.{◌≡◌, ℕ, Bool, true, false, List, [], ◌∷◌, length, map, refl, ap, ◌∙◌, arith, inl, inr, Some, None}
+use Rattle.std.specs.Prelude.{if◌then◌else◌}
 use Rattle.std.proofs.lemmas.Bool.{cases_Bool}
 use Rattle.std.proofs.lemmas.List.{length-map}
-use Rattle.std.proofs.lemmas.Option.{slice_get_cases, slice_get_past}
-use Rattle.ts_key.specs.declared.batch.WriteOp.{WriteOp}
-use Rattle.ts_key.specs.declared.numbers.Family.{Family}
+use Rattle.std.proofs.lemmas.Option.{slice_get_cases}
 use Rattle.udt_model.specs.declared.event.NamedOp.{NamedOp}
 use Rattle.udt_model.specs.declared.line.FamilyHead.{FamilyHead}
 use Rattle.udt_model.specs.declared.reply.Reply.{Reply}
 use Rattle.udt_model.specs.declared.reply.Reply.TheVariants as replies
 use Rattle.udt_model.specs.Acts.Act.{write}
-use Rattle.udt_model.specs.Refusals.{full, halt, refused, unknown, ◌or_else◌, ◌otherwise◌}
-use Rattle.udt_model.specs.State.{State, family_at, heads_of}
+use Rattle.udt_model.specs.Refusals.{unknown}
+use Rattle.udt_model.specs.State.{State, heads_of}
 use Rattle.udt_model.specs.State.{FamilyState as ModelFamily}
 use Rattle.udt_model.specs.Steps.{IsReplyTo, admitted}
-use Rattle.solo_store.specs.Names.{is_any_unnamed, is_unnamed, names_in, op_named, place_named}
+use Rattle.solo_store.specs.Names.{is_any_unnamed, is_unnamed, names_in, op_named, place_by_name}
 
 -- as many names as families
 pub count_names : (m : State) (names : List (List ℕ)) → names ≡ names_in m → length names ≡ length m.families
@@ -26,7 +24,7 @@ unnamed_unknown : (m : State) (names : List (List ℕ)) (os : List NamedOp) → 
 unnamed_unknown m names [] e = refl
 unnamed_unknown m names (o ∷ os) e =
     let rest = unnamed_unknown m names os e in
-    elim (slice_get_cases m.families (place_named 0 names o.family)).1 [
+    elim (slice_get_cases m.families (place_by_name 0 names o.family)).1 [
       | inl some ↦
           let there = some.2 in let within = some.1 in
           let named : is_unnamed names o.family ≡ false = grind (arith, e, within) in

@@ -1,5 +1,5 @@
 -- What a super version shows is read as the model reads.
-use Rattle.std.proofs.Common.{◌≡◌, ◌⊎◌, ℕ, true, List, [], ◌∷◌, ◌++◌, map, refl, sym, ap, ◌∙◌, subst, inl, inr, Option, Some, None}
+use Rattle.std.proofs.Common.{◌≡◌, ℕ, List, ◌++◌, refl, sym, ap, ◌∙◌, subst, inl, inr, Option, Some, None}
 use Rattle.std.specs.Prelude.{if◌then◌else◌, nat_lt}
 use Rattle.std.specs.List.{flat_map}
 use Rattle.std.proofs.lemmas.List.Sorted.{Contains-permutation, IsPermutation-sym}
@@ -36,7 +36,7 @@ op_back : (op : Op) → op_of_kind (kind_of op) (value_of op) ≡ op
 op_back Del = refl
 op_back (Put value) = refl
 
-version_back : (family : Family) (v : Version) → v.family ≡ family → version_of_item family (item_of v) ≡ v
+pub version_back : (family : Family) (v : Version) → v.family ≡ family → version_of_item family (item_of v) ≡ v
 version_back family v e =
     ap (λ (c : Family). let w : Version = record { family = c; key = v.key; ts = v.ts; seq = v.seq; op = op_of_kind (kind_of v.op) (value_of v.op) } in w) (sym e)
     ∙ ap (λ (op : Op). let w : Version = record { family = v.family; key = v.key; ts = v.ts; seq = v.seq; op = op } in w) (op_back v.op)

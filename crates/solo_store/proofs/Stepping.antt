@@ -1,5 +1,5 @@
 -- From what a store did by numbers to the step of an event.
-use Rattle.std.proofs.Common.{◌≡◌, ℕ, ◌+◌, ◌≤◌, Bool, false, true, List, Option, Some, None, refl, sym, ap, ◌∙◌, subst, arith}
+use Rattle.std.proofs.Common.{◌≡◌, ℕ, ◌+◌, ◌≤◌, Bool, false, Option, Some, refl, sym, ap, ◌∙◌, subst, arith}
 use Rattle.std.specs.Prelude.{IsTrue, option_map}
 use Rattle.std.proofs.lemmas.Bool.{false≢true}
 use Rattle.udt_disk.specs.declared.file.DiskFile as file
@@ -11,16 +11,15 @@ use Rattle.udt_model.specs.declared.reply.Reply.TheVariants.{NoMemory}
 use Rattle.udt_model.specs.Acts.{Act}
 use Rattle.udt_model.specs.Crashes.{Course, course_after}
 use Rattle.udt_model.specs.Lines.{is_read, says_files, steps_with, takes_memory}
-use Rattle.udt_model.specs.State.{Flush, State}
+use Rattle.udt_model.specs.State.{State}
 use Rattle.udt_model.specs.Steps.{IsReplyTo, after, is_running}
 use Rattle.engine_laws.specs.Joints.{IsNowLast}
 use Rattle.manifest_fold.specs.declared.limits.TheConstants.{FILE_NUMBER_LIMIT}
 use Rattle.store_engine.specs.Calls.{RanUnder}
-use Rattle.solo_store.specs.Acting.{course_behind_event, state_behind}
+use Rattle.solo_store.specs.Acting.{course_behind_event}
 use Rattle.solo_store.specs.Replies.{is_given}
 use Rattle.solo_store.specs.Steps.{IsHaltedSince, IsReplyCause, IsSameDisk, IsStep, RanUnderEvent, halted_by, keeps_flush}
-use Rattle.solo_store.specs.Stores.{HoldsSince, HoldsStore, IsReady, engine_of, job_of, now_of, store_faults, store_next}
-use Rattle.solo_store.specs.declared.store.RunningFlush.{RunningFlush}
+use Rattle.solo_store.specs.Stores.{HoldsSince, HoldsStore, IsStoreReady, engine_of, job_of, now_of, store_faults, store_next}
 use Rattle.solo_store.specs.declared.store.Store.{Store}
 use Rattle.solo_store.proofs.Asking.{Asks, course_told, course_wanted, legal_told, legal_want, state_told, state_want}
 use Rattle.solo_store.proofs.Behind.{after_still, course_still, is_own, is_still, names_after, snaps_after}
@@ -67,7 +66,7 @@ module _ {D F : Type 0} (d : disk.Ghosts D F) (f : file.Ghosts F) where
     pub flush : (m : State) (c : Course) → HoldsStore d f old m c → (after m number act reply).flush ≡ option_map job_of new.flush
     pub holds : (m : State) (c : Course) → HoldsStore d f old m c → HoldsSince d f new.halted (engine_of new) (now_of new) (after m number act reply) (course_after m number c act reply)
     pub moments : (m : State) (c : Course) → HoldsStore d f old m c → RanUnder d f m c number act (engine_of old) (engine_of new)
-    pub ready : IsReady d f new
+    pub ready : IsStoreReady d f new
     pub names : new.names.items ≡ old.names.items
     pub counted : IsReplyCause reply (store_faults d f old) (store_faults d f new)
     pub given : IsTrue (is_given reply)
@@ -108,14 +107,14 @@ module _ {D F : Type 0} (d : disk.Ghosts D F) (f : file.Ghosts F) where
     pub flush : new.flush ≡ old.flush
     pub holds : (m : State) (c : Course) → HoldsStore d f old m c → HoldsSince d f new.halted (engine_of new) (now_of new) m c
     pub moments : (m : State) (c : Course) (number : ℕ) (act : Act) → HoldsStore d f old m c → RanUnder d f m c number act (engine_of old) (engine_of new)
-    pub ready : IsReady d f new
+    pub ready : IsStoreReady d f new
     pub names : new.names.items ≡ old.names.items
     pub faults : store_faults d f new ≡ store_faults d f old
     pub halted : new.halted ≡ old.halted
     pub next : store_next new ≡ store_next old
     pub same : IsSameDisk d (engine_of old).disk (engine_of new).disk
 
-  pub keeps_itself : IsNowLast d f → (store : Store D F f) → IsReady d f store → Keeps store store
+  pub keeps_itself : IsNowLast d f → (store : Store D F f) → IsStoreReady d f store → Keeps store store
   keeps_itself last store ready = record {
     flush = refl;
     holds = λ m c h. h.holds;

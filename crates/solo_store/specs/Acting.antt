@@ -13,8 +13,8 @@ abbrev pub act_in : State → Event → Option Act
 act_in m event = act_of (heads_of m) no_names event
 
 -- the state and the course behind it
-abbrev pub state_behind : State → ℕ → Event → Reply → State
-state_behind m number event reply = after_event m number no_names event reply
+abbrev pub state_behind_event : State → ℕ → Event → Reply → State
+state_behind_event m number event reply = after_event m number no_names event reply
 
 abbrev pub course_behind_event : State → ℕ → Course → Event → Reply → Course
 course_behind_event m number c event reply = course_after_or m number c (act_in m event) reply

@@ -6,8 +6,8 @@ use Rattle.ts_key.specs.declared.version.Version.{Version}
 use Rattle.ts_key.specs.StoredKeys.{IsSequence, IsStamp}
 
 -- the sequence of a version
-abbrev pub number_of : Version → ℕ
-number_of v = v.seq.0
+abbrev pub sequence_of : Version → ℕ
+sequence_of v = v.seq.0
 
 -- the version has a spelling
 pub record MayBeFlushed (v : Version) : Type 0 where
@@ -15,6 +15,6 @@ pub record MayBeFlushed (v : Version) : Type 0 where
   pub sequence : IsSequence v.seq.0
 
 -- the versions are of the family, and each has a spelling
-pub record AreSpelled (family : Family) (vs : List Version) : Type 0 where
+pub record AreVersionsSpelled (family : Family) (vs : List Version) : Type 0 where
   pub own : All (λ (v : Version). v.family ≡ family) vs
   pub each : All MayBeFlushed vs

@@ -4,3 +4,4 @@ pub mod Replies
 pub mod Flushable
 pub mod Stores
 pub mod Steps
+pub mod Flushing

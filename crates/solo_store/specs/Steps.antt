@@ -15,10 +15,10 @@ use Rattle.udt_model.specs.State.{State}
 use Rattle.manifest_fold.specs.declared.limits.TheConstants.{FILE_NUMBER_LIMIT}
 use Rattle.store_engine.specs.Calls.{RanOn, RanUnder}
 use Rattle.store_engine.specs.declared.engine.Engine.{Engine}
-use Rattle.solo_store.specs.Acting.{act_in, course_behind_event, state_behind}
+use Rattle.solo_store.specs.Acting.{act_in, course_behind_event, state_behind_event}
 use Rattle.solo_store.specs.Names.{family_named}
 use Rattle.solo_store.specs.Replies.{is_given}
-use Rattle.solo_store.specs.Stores.{HoldsStore, IsReady, engine_of, store_faults, store_next}
+use Rattle.solo_store.specs.Stores.{HoldsStore, IsStoreReady, engine_of, store_faults, store_next}
 use Rattle.solo_store.specs.declared.store.RunningFlush.{RunningFlush}
 use Rattle.solo_store.specs.declared.store.Store.{Store}
 
@@ -71,9 +71,9 @@ module _ {D F : Type 0} (d : disk.Ghosts D F) (f : file.Ghosts F) where
   -- halted behind a fault, and tells so; no file numbers are left where that is told, and one is drawn at most.
   pub record IsStep (old new : Store D F f) (number : ℕ) (event : Event) (reply : Reply) : Type 0 where
     pub legal : (m : State) (c : Course) → HoldsStore d f old m c → IsReply 0 m no_names event reply
-    pub holds : (m : State) (c : Course) → HoldsStore d f old m c → HoldsStore d f new (state_behind m number event reply) (course_behind_event m number c event reply)
+    pub holds : (m : State) (c : Course) → HoldsStore d f old m c → HoldsStore d f new (state_behind_event m number event reply) (course_behind_event m number c event reply)
     pub moments : (m : State) (c : Course) → HoldsStore d f old m c → RanUnderEvent m c number (act_in m event) (engine_of old) (engine_of new)
-    pub ready : IsReady d f new
+    pub ready : IsStoreReady d f new
     pub names : new.names.items ≡ old.names.items
     pub flush : IsTrue (keeps_flush event) → new.flush ≡ old.flush
     pub counted : IsReplyCause reply (store_faults d f old) (store_faults d f new)

@@ -45,15 +45,14 @@ module _ {D F : Type 0} {f : file.Ghosts F} where
   abbrev pub engine_of : Store D F f → Engine D F f
   engine_of store = store.engine
 
-  -- the names of its families, in order
   abbrev pub names_of : Store D F f → List (List ℕ)
   names_of store = store.names.items
 
-  -- the flush that runs
+  -- the flush that runs, where one does
   abbrev pub flush_of : Store D F f → Option RunningFlush
   flush_of store = store.flush
 
-  -- the number of the event under which the disk failed
+  -- the number of the event under which the disk failed, where it did
   abbrev pub halted_of : Store D F f → Option ℕ
   halted_of store = store.halted
 
@@ -94,7 +93,7 @@ module _ {D F : Type 0} (d : disk.Ghosts D F) (f : file.Ghosts F) where
   GoesOnUnless (Some since) engine now = ⊤
 
   -- The next event may be made, whether or not the disk tells what it holds.
-  pub record IsReady (store : Store D F f) : Type 0 where
+  pub record IsStoreReady (store : Store D F f) : Type 0 where
     pub goes_on : GoesOnUnless store.halted (engine_of store) (now_of store)
     pub one : IsOneFolder d f (engine_of store)
     pub families : length (now_of store).families ≡ length store.names.items

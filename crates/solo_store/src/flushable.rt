@@ -9,7 +9,7 @@ ghost use Rattle.ts_key.specs.declared.version.Version.{Version as VersionOf};
 ghost use Rattle.memtable.specs.Memtables.{versions_of_memtable};
 ghost use Rattle.flush_job.specs.Flushes.{AreFlushable};
 ghost use Rattle.flush_job.specs.Walks.{versions_of_all};
-ghost use Rattle.solo_store.specs.Flushable.{AreSpelled, MayBeFlushed, number_of};
+ghost use Rattle.solo_store.specs.Flushable.{AreVersionsSpelled, MayBeFlushed, sequence_of};
 
 use crate::NoMemory;
 use memtable::Mem;
@@ -28,7 +28,7 @@ fn is_spelled(version: &Version) -> bool
 /// Adds the sequences of these versions to those before, up to the first version that has no spelling; then it answers false.
 fn add_sequences(numbers: &mut Vec<u64>, versions: &[Version]) -> Result<bool, NoMemory>
     ensures spelled { IfOk result (λ all. IsTrue all → All MayBeFlushed versions.now) }
-    ensures numbers { IfOk result (λ all. IsTrue all → numbers.new.items ≡ numbers.old.items ++ map number_of versions.now) }
+    ensures numbers { IfOk result (λ all. IsTrue all → numbers.new.items ≡ numbers.old.items ++ map sequence_of versions.now) }
 {
     for version in versions {
         if !is_spelled(version) {
@@ -41,8 +41,8 @@ fn add_sequences(numbers: &mut Vec<u64>, versions: &[Version]) -> Result<bool, N
 
 /// The same for the versions of a memtable, which is of this family; else it answers false.
 fn add_memtable(numbers: &mut Vec<u64>, family: Family, mem: &Mem) -> Result<bool, NoMemory>
-    ensures spelled { IfOk result (λ all. IsTrue all → AreSpelled family (versions_of_memtable mem.now)) }
-    ensures numbers { IfOk result (λ all. IsTrue all → numbers.new.items ≡ numbers.old.items ++ map number_of (versions_of_memtable mem.now)) }
+    ensures spelled { IfOk result (λ all. IsTrue all → AreVersionsSpelled family (versions_of_memtable mem.now)) }
+    ensures numbers { IfOk result (λ all. IsTrue all → numbers.new.items ≡ numbers.old.items ++ map sequence_of (versions_of_memtable mem.now)) }
 {
     if mem.family().0 != family.0 {
         return Ok(false);
@@ -57,8 +57,8 @@ fn add_memtables(
     family: Family,
     mems: &[Arc<Mem>],
 ) -> Result<bool, NoMemory>
-    ensures spelled { IfOk result (λ all. IsTrue all → AreSpelled family (versions_of_all (map arc_value mems.now))) }
-    ensures numbers { IfOk result (λ all. IsTrue all → numbers.new.items ≡ numbers.old.items ++ map number_of (versions_of_all (map arc_value mems.now))) }
+    ensures spelled { IfOk result (λ all. IsTrue all → AreVersionsSpelled family (versions_of_all (map arc_value mems.now))) }
+    ensures numbers { IfOk result (λ all. IsTrue all → numbers.new.items ≡ numbers.old.items ++ map sequence_of (versions_of_all (map arc_value mems.now))) }
 {
     for mem in mems {
         if !add_memtable(numbers, family, mem.as_ref())? {

@@ -57,12 +57,12 @@ impl<D: Disk> Store<D> {
     ghost use Rattle.store_engine.specs.Calls.{LeavesOutcomes};
     ghost use Rattle.store_engine.specs.Engines.{held};
     ghost use Rattle.solo_store.specs.Steps.{IsSameDisk, IsStep};
-    ghost use Rattle.solo_store.specs.Stores.{HoldsStore, IsReady, engine_of, names_of_fold, now_of, parts_faults, store_faults, store_next, store_pending};
+    ghost use Rattle.solo_store.specs.Stores.{HoldsStore, IsStoreReady, engine_of, names_of_fold, now_of, parts_faults, store_faults, store_next, store_pending};
 
     /// The store over the parts of an opened one. Where there is no memory for it, the folder is given back as it was.
     pub fn of(alloc: Global, parts: Parts<D>) -> Result<Store<D>, (D, NoMemory)>
         requires { (old : D) × ArePartsOf D.Disk D.File.DiskFile old parts }
-        ensures ready { IfOk result (IsReady D.Disk D.File.DiskFile) }
+        ensures ready { IfOk result (IsStoreReady D.Disk D.File.DiskFile) }
         ensures idle { IfOk result (λ store. (store.halted ≡ None) × (store.flush ≡ None)) }
         ensures shown { IfOk result (λ store. now_of store ≡ parts.version) }
         ensures held { IfOk result (λ store. held (engine_of store) ≡ holding parts.disk (wal_file parts.wal ∷ manifest_file parts.manifest ∷ [])) }
@@ -129,7 +129,7 @@ impl<D: Disk> Store<D> {
 
     /// The floor of a family.
     pub fn floor(&self, family: &Name) -> Reply
-        requires { IsReady D.Disk D.File.DiskFile self.now }
+        requires { IsStoreReady D.Disk D.File.DiskFile self.now }
         ensures { (number : ℕ) → IsStep D.Disk D.File.DiskFile self.now self.now number (FloorEvent family.now) result }
     {
         match self.version.as_ref().family(self.family_of(family)) {
@@ -140,7 +140,7 @@ impl<D: Disk> Store<D> {
 
     /// The value of a key at a timestamp. It is copied once.
     pub fn get(&self, alloc: Global, family: &Name, key: &Key, t: Ts) -> Reply
-        requires { IsReady D.Disk D.File.DiskFile self.now }
+        requires { IsStoreReady D.Disk D.File.DiskFile self.now }
         ensures { (number : ℕ) → IsStep D.Disk D.File.DiskFile self.now self.now number (GetEvent family.now key.now t None) result }
     {
         let now = self.version.as_ref();
@@ -156,7 +156,7 @@ impl<D: Disk> Store<D> {
         requires some { 0 < length ops.now }
         requires within { length ops.now ≤ BATCH_LIMIT }
         requires stamped { All (λ (o : Named). o.ts.0 ≤ STAMP_LIMIT) ops.now }
-        requires ready { IsReady D.Disk D.File.DiskFile self.old }
+        requires ready { IsStoreReady D.Disk D.File.DiskFile self.old }
         ensures { IsStep D.Disk D.File.DiskFile self.old self.new number (WriteEvent ops.now sync) result }
     {
         match self.halted {
@@ -171,14 +171,17 @@ impl<D: Disk> Store<D> {
         requires some { 0 < length ops.now }
         requires within { length ops.now ≤ BATCH_LIMIT }
         requires stamped { All (λ (o : Named). o.ts.0 ≤ STAMP_LIMIT) ops.now }
-        requires ready { IsReady D.Disk D.File.DiskFile self.old }
+        requires ready { IsStoreReady D.Disk D.File.DiskFile self.old }
         requires works { self.old.halted ≡ None }
         ensures { IsStep D.Disk D.File.DiskFile self.old self.new number (WriteEvent ops.now sync) result }
     {
         let Ok(batch) = batch_of(alloc, &self.names, ops) else {
             return Reply::NoMemory;
         };
-        match self.engine.write(alloc, self.version.as_ref(), &batch, sync) {
+        match self
+            .engine
+            .write(alloc, self.version.as_ref(), &batch, sync)
+        {
             Ok(next) => {
                 let last = next.as_ref().last;
                 self.version = next;
@@ -190,14 +193,17 @@ impl<D: Disk> Store<D> {
 
     /// Gives a family another floor, as the event of this number, or leaves the store as it was.
     pub fn raise(&mut self, alloc: Global, number: u64, family: &Name, floor: Ts) -> Reply
-        requires { IsReady D.Disk D.File.DiskFile self.old }
+        requires { IsStoreReady D.Disk D.File.DiskFile self.old }
         ensures { IsStep D.Disk D.File.DiskFile self.old self.new number (RaiseEvent family.now floor) result }
     {
         let family = self.family_of(family);
         if let Some(since) = self.halted {
             return self.halted_reply(family, since);
         }
-        match self.engine.raise(alloc, self.version.as_ref(), family, floor) {
+        match self
+            .engine
+            .raise(alloc, self.version.as_ref(), family, floor)
+        {
             Ok(next) => {
                 self.version = next;
                 Reply::Done
@@ -208,7 +214,7 @@ impl<D: Disk> Store<D> {
 
     /// Puts every accepted write on the disk, as the event of this number. It takes no memory.
     pub fn sync(&mut self, number: u64) -> Reply
-        requires { IsReady D.Disk D.File.DiskFile self.old }
+        requires { IsStoreReady D.Disk D.File.DiskFile self.old }
         ensures step { IsStep D.Disk D.File.DiskFile self.old self.new number SyncEvent result }
         ensures settled { result ≡ Reply.Done → (self.new.halted ≡ None) × (store_pending self.new ≡ 0) }
     {
@@ -223,7 +229,7 @@ impl<D: Disk> Store<D> {
 
     /// Gives the folder back. It writes nothing, so what waits is lost.
     pub fn close(self) -> D
-        requires { IsReady D.Disk D.File.DiskFile self }
+        requires { IsStoreReady D.Disk D.File.DiskFile self }
         ensures leaves { (m : State) (c : Course) → HoldsStore D.Disk D.File.DiskFile self m c → LeavesOutcomes D.Disk D.File.DiskFile m c (alone result) }
         // All there is where nothing waits.
         ensures whole { (m : State) (c : Course) → HoldsStore D.Disk D.File.DiskFile self m c → self.halted ≡ None

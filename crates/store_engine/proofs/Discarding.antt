@@ -1,5 +1,5 @@
 -- The file of a table that no outcome has live is given back: what a crash leaves, also of a failed engine.
-use Rattle.std.proofs.Common.{◌≡◌, ◌≢◌, ◌⊎◌, ℕ, List, [], ◌∷◌, map, refl, sym, ap, ◌∙◌, subst, inl, inr}
+use Rattle.std.proofs.Common.{◌≡◌, ◌≢◌, ◌⊎◌, ℕ, List, [], ◌∷◌, map, refl, sym, subst, inl, inr}
 use Rattle.std.specs.Prelude.{Contains, IsTrue}
 use Rattle.std.specs.List.{flat_map}
 use Rattle.udt_disk.specs.Crash.{Image}
@@ -33,17 +33,15 @@ use Rattle.store_engine.proofs.GivenBack.{table_apart}
 
 -- ---- the one image or the other
 
-pick : {P Q : Type 0} → P ⊎ Q → Image → Image → Image
+abbrev pick : {P Q : Type 0} → P ⊎ Q → Image → Image → Image
 pick (inl p) one other = one
 pick (inr q) one other = other
 
 picks_one : {P Q : Type 0} (o : P ⊎ Q) (one other : Image) → (Q → ⊥) → pick o one other ≡ one
-unfolding pick
 picks_one (inl p) one other never = refl
 picks_one (inr q) one other never = absurd (never q)
 
 picks_other : {P Q : Type 0} (o : P ⊎ Q) (one other : Image) → (P → ⊥) → pick o one other ≡ other
-unfolding pick
 picks_other (inl p) one other never = absurd (never p)
 picks_other (inr q) one other never = refl
 
@@ -68,7 +66,7 @@ live_listed folder left stands number live =
 module _ {D F : Type 0} (d : disk.Ghosts D F) (f : file.Ghosts F) (now_last : IsNowLast d f) (stays : (x : D) (n : FileName) → IsTrue (d.keeps_model x) → d.may_leave x n (d.stands x n)) where
   module _ (old new : Engine D F f) (given : F) (number : ℕ) (back : IsGivenBack d f given old new) (named : f.name given ≡ Table number) (one : IsOneFolder d f old) (model : IsTrue (d.keeps_model old.disk)) where
     -- the folder with what stands under the name in it
-    before : Folder → Folder
+    abbrev before : Folder → Folder
     before folder = λ n. pick (same_or_other (Table number) n) (d.stands old.disk n) (folder n)
 
     elsewhere : (folder : Folder) (n : FileName) → n ≢ Table number → before folder n ≡ folder n
@@ -97,6 +95,9 @@ module _ {D F : Type 0} (d : disk.Ghosts D F) (f : file.Ghosts F) (now_last : Is
     pub discard_leaves : (m : State) (c : Course) → ((left : State) → IsOutcome m c left → ¬ Contains (live_numbers left) number) → LeavesOutcomes d f m c (held old) → RanOn d f m c old new
     discard_leaves m c dead leaves =
         ran_more d f (AsAtBut d f (Contains (Table number ∷ [])) (held old)) (λ folder. StandsForSome ReadsAsTable folder (IsOutcome m c)) (λ folder at_start.
-            let left = leaves (before folder) (image_before folder at_start) in
-            (left.0, other_stands ReadsAsTable (before folder) folder left.0 left.1 (λ n live. sym (elsewhere folder n (λ is. dead left.0 left.2
-            (live_listed (before folder) left.0 left.1 number (subst (IsLiveName (chosen (before folder)) left.1.says.fold) is live))))), left.2)) (held old) (held new) touches.run
+        let left = leaves (before folder) (image_before folder at_start) in (
+          left.0,
+          other_stands ReadsAsTable (before folder) folder left.0 left.1 (λ n live. sym (elsewhere folder n (λ is. dead left.0 left.2
+              (live_listed (before folder) left.0 left.1 number (subst (IsLiveName (chosen (before folder)) left.1.says.fold) is live))))),
+          left.2,
+        )) (held old) (held new) touches.run

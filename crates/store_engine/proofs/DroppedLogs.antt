@@ -1,7 +1,6 @@
 -- The logs that no family needs may go.
-use Rattle.std.proofs.Common.{◌≡◌, ◌⊎◌, ℕ, zero, suc, ◌+◌, ◌-◌, ◌<◌, ◌≤◌, ◌==◌, ◌&&◌, Bool, true, false, List, [], ◌∷◌, ◌++◌, drop, length, take, Some, refl, sym, ap, ◌∙◌, subst, arith, inl, inr}
-use Rattle.std.specs.Prelude.{Contains, if◌then◌else◌, nat_lt, not, slice_get}
-use Rattle.std.specs.List.Sorted.{IsPermutation}
+use Rattle.std.proofs.Common.{◌≡◌, ◌⊎◌, ℕ, zero, suc, ◌<◌, ◌≤◌, ◌==◌, true, false, List, [], ◌∷◌, ◌++◌, drop, length, take, Some, refl, sym, ap, subst, arith, inl, inr}
+use Rattle.std.specs.Prelude.{Contains, nat_lt, not, slice_get}
 use Rattle.std.proofs.lemmas.Bool.{cases_Bool, false≢true, ltb-false, ne_eqb}
 use Rattle.std.proofs.lemmas.List.{length-drop, take-append-drop}
 use Rattle.std.proofs.lemmas.List.Sorted.{Contains-permutation}
@@ -25,7 +24,7 @@ use Rattle.engine_laws.specs.Standing.{Says}
 use Rattle.engine_laws.proofs.Ascending.{newest_of, rising_sorted, sorted_drop}
 use Rattle.engine_laws.proofs.Editing.{above_true}
 use Rattle.store_engine.specs.Dropping.{AreGone, lets_go, needs_log}
-use Rattle.store_engine.specs.Now.{IsFamilyNow, IsNow, versions_held}
+use Rattle.store_engine.specs.Now.{IsNow, versions_held}
 use Rattle.store_engine.specs.Older.{CoversOlder, last_in}
 use Rattle.store_engine.specs.declared.older.OlderLogs.{OlderLogs}
 use Rattle.store_engine.proofs.Current.{there_too}
@@ -90,9 +89,9 @@ none_above family through last w bounded none = nothing (above family through w)
     let a = filter-In (is_above_through family through) v w i in
     let t = above_true family through v a.1 in
     subst (In v) none (In-between family through last w v a.0 t.0 t.1 (bounded v a.0))) where
-  nothing : (vs : List Version) → ((v : Version) → In v vs → ⊥) → vs ≡ []
-  nothing [] h = refl
-  nothing (v ∷ vs) h = absurd (h v (inl refl))
+      nothing : (vs : List Version) → ((v : Version) → In v vs → ⊥) → vs ≡ []
+      nothing [] h = refl
+      nothing (v ∷ vs) h = absurd (h v (inl refl))
 
 -- ---- the logs may go
 
@@ -111,9 +110,9 @@ module _ (next : State) (s : Says) (older : OlderLogs) (version : SuperVersion) 
             let left = between family f.through.0 next.last.0 next.versions in
             inr (none_above family f.through.0 next.last.0 next.versions bounded (nothing left (λ v j. contains_In [] v (subst (λ (vs : List Version). Contains vs v) none (Contains-permutation left (versions_held g) v shown.holds (In-contains left v j))))))
       ] where
-    nothing : (vs : List Version) → ((v : Version) → In v vs → ⊥) → vs ≡ []
-    nothing [] h = refl
-    nothing (v ∷ vs) h = absurd (h v (inl refl))
+        nothing : (vs : List Version) → ((v : Version) → In v vs → ⊥) → vs ≡ []
+        nothing [] h = refl
+        nothing (v ∷ vs) h = absurd (h v (inl refl))
 
   pub logs_may_go : LogsMayGo s next (take count s.fold.logs)
   logs_may_go = record {

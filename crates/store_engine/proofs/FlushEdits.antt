@@ -1,5 +1,5 @@
 -- The edit of a flush: the manifest accepts it, and has in common with the next super version what it had with the one before.
-use Rattle.std.proofs.Common.{◌≡◌, ◌⊎◌, ℕ, ◌+◌, ◌-◌, ◌<◌, ◌≤◌, false, List, [], ◌∷◌, ◌++◌, drop, length, take, Some, refl, sym, ap, ◌∙◌, subst, arith, inl, inr}
+use Rattle.std.proofs.Common.{◌≡◌, ◌⊎◌, ℕ, ◌<◌, ◌≤◌, false, [], ◌∷◌, drop, length, take, Some, refl, sym, ap, ◌∙◌, subst, arith, inl, inr}
 use Rattle.std.specs.Prelude.{All, IsTrue, not, slice_get}
 use Rattle.std.proofs.lemmas.List.{append-nil, length-drop, length-take-le}
 use Rattle.std.proofs.lemmas.List.Elements.{All-nil}
@@ -20,7 +20,7 @@ use Rattle.super_version.specs.Changes.{ChangesFamily, family_with_flush}
 use Rattle.super_version.specs.Live.{Live}
 use Rattle.floor_laws.proofs.Members.{All-from}
 use Rattle.engine_laws.specs.Installs.{flush_edit}
-use Rattle.engine_laws.specs.Manifests.{IsWell, table_number}
+use Rattle.engine_laws.specs.Manifests.{IsWell}
 use Rattle.engine_laws.proofs.Folding.{families_length, family_from}
 use Rattle.recovery.specs.Versions.{FitsFold, IsOfFold}
 use Rattle.store_engine.proofs.Current.{get_changed, length_changed, there_too}

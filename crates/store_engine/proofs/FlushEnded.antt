@@ -1,5 +1,5 @@
 -- The install of a flush, clause by clause, from what its steps left.
-use Rattle.std.proofs.Common.{◌≡◌, ◌⊎◌, ℕ, zero, suc, ◌+◌, ◌<◌, ◌≤◌, max, false, List, [], ◌∷◌, length, map, take, Result, Ok, Err, Some, refl, sym, ap, ◌∙◌, subst, arith, inl, inr}
+use Rattle.std.proofs.Common.{◌≡◌, ◌⊎◌, ℕ, zero, suc, ◌<◌, ◌≤◌, max, false, List, [], ◌∷◌, length, map, take, Result, Ok, Err, Some, refl, sym, ap, ◌∙◌, subst, arith, inl, inr}
 use Rattle.std.specs.Prelude.{IfErr, IfOk, slice_get}
 use Rattle.std.specs.Arc.{arc_value}
 use Rattle.std.proofs.lemmas.Bool.{false≢true}
@@ -8,7 +8,6 @@ use Rattle.ts_key.specs.declared.numbers.Seq.{Seq}
 use Rattle.ts_key.specs.declared.numbers.Ts.{Ts}
 use Rattle.udt_disk.specs.declared.file.DiskFile as file
 use Rattle.udt_disk.specs.declared.disk.Disk as disk
-use Rattle.udt_disk.specs.declared.name.FileName.{FileName}
 use Rattle.udt_disk.specs.declared.name.FileName.TheVariants.{Log}
 use Rattle.udt_disk.proofs.Joints.{ran_more}
 use Rattle.manifest_edit.specs.declared.edit.Edit.{Edit}
@@ -16,7 +15,6 @@ use Rattle.manifest_fold.specs.declared.fold.Folded.{Folded}
 use Rattle.manifest_fold.specs.Folds.{IsAccepted, fold_with, is_live}
 use Rattle.manifest.specs.Manifest.{manifest_folded}
 use Rattle.udt_model.specs.declared.reply.Reply.{Reply}
-use Rattle.udt_model.specs.Acts.{Act}
 use Rattle.udt_model.specs.Acts.Act.{flush_end}
 use Rattle.udt_model.specs.State.{Flush, State}
 use Rattle.udt_model.specs.Crashes.{Course, IsOutcome, IsOutcomeUnder}
@@ -24,18 +22,15 @@ use Rattle.super_version.specs.Changes.{ChangesFamily, family_with_flush}
 use Rattle.super_version.specs.declared.family.FamilyState.{FamilyState}
 use Rattle.super_version.specs.declared.jobs.TableOut.{TableOut}
 use Rattle.super_version.specs.declared.version.SuperVersion.{SuperVersion}
-use Rattle.engine_laws.specs.Installs.{flush_edit}
 use Rattle.engine_laws.specs.Joints.{IsNowLast}
 use Rattle.engine_laws.specs.Standing.{StandsForSome}
 use Rattle.recovery.specs.Tables.{ReadsAsTable}
 use Rattle.recovery.specs.Versions.{FitsFold}
-use Rattle.store_engine.specs.Asides.{AreRemoved, IsGivenBack}
 use Rattle.store_engine.specs.Calls.{RanUnder, Tells}
 use Rattle.store_engine.specs.Engines.{HoldsAsBefore, HoldsNow, IsCurrent, IsRunning, held}
-use Rattle.store_engine.specs.Installing.{EndsFlushBy, IsFlushEnded, IsFlushInstall, IsFlushInstalled, IsInstallCalled, IsInstallRemoval, IsInstalled, MayInstall, after_flush_end, course_after_flush_end, flush_end_reply, floor_over_now, floor_with, live_with, oldest_names}
+use Rattle.store_engine.specs.Installing.{EndsFlushBy, IsFlushEnded, IsFlushInstall, IsFlushInstalled, IsInstallCalled, IsInstallRemoval, IsInstalled, MayInstall, after_flush_end, course_after_flush_end, flush_end_reply, floor_over_now, floor_with, live_with}
 use Rattle.store_engine.specs.Installing.IsFlushEnded.{ended, refused, stopped}
 use Rattle.store_engine.specs.Replies.{is_disk_fault}
-use Rattle.store_engine.specs.Steps.{IsEdited, IsLogSynced, ReservesEdit}
 use Rattle.store_engine.specs.declared.engine.Engine.{Engine}
 use Rattle.store_engine.specs.declared.fault.EngineFault.{EngineFault}
 use Rattle.store_engine.specs.declared.fault.EngineFault.TheVariants.{DiskFault, NoMemory}
@@ -43,7 +38,7 @@ use Rattle.store_engine.specs.declared.install.FlushEnd.{FlushEnd}
 use Rattle.store_engine.specs.declared.install.Install.{Install}
 use Rattle.store_engine.proofs.Answering.{disk_disk, disk_tells, none_tells}
 use Rattle.store_engine.proofs.FlushEdits.{flush_accepted, flushed_fits, fold_there, one_stays}
-use Rattle.store_engine.proofs.GivenBack.{back_before, back_fold, back_ran}
+use Rattle.store_engine.proofs.GivenBack.{back_before, back_ran}
 use Rattle.store_engine.proofs.InstallCalls.{fold_new, gone_or_rose, installed_called, installed_current, refused_called, unedited_called, unsynced_called}
 use Rattle.store_engine.proofs.Installed.{edited_under, end_fails, end_told, installed_now, removed_under, synced_under}
 use Rattle.store_engine.proofs.JobNumbers.{flushed_live}

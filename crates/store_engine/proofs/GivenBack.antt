@@ -1,5 +1,5 @@
 -- A table's file that was given back: what the engine holds behind that, and what a crash leaves of the file.
-use Rattle.std.proofs.Common.{◌≡◌, ℕ, ◌+◌, ◌-◌, ◌^◌, ◌≤◌, false, min, List, [], ◌∷◌, Result, Some, refl, sym, ap, ◌∙◌, subst, arith, inl, inr}
+use Rattle.std.proofs.Common.{◌≡◌, ℕ, ◌-◌, ◌^◌, List, [], ◌∷◌, Result, Some, refl, sym, ap, ◌∙◌, subst, inl, inr}
 use Rattle.std.specs.Prelude.{Contains}
 use Rattle.udt_disk.specs.Causes.{plus_faults}
 use Rattle.udt_disk.specs.Crash.{Image}
@@ -8,7 +8,7 @@ use Rattle.udt_disk.specs.Moments.{MayLeave}
 use Rattle.udt_disk.specs.declared.file.DiskFile as file
 use Rattle.udt_disk.specs.declared.disk.Disk as disk
 use Rattle.udt_disk.specs.declared.name.FileName.{FileName}
-use Rattle.udt_disk.specs.declared.name.FileName.TheVariants.{Log, Manifest0, Manifest1, Table}
+use Rattle.udt_disk.specs.declared.name.FileName.TheVariants.{Table}
 use Rattle.udt_disk.proofs.Joints.{ran_more}
 use Rattle.wal.specs.declared.numbered.Numbered.{Numbered}
 use Rattle.wal.specs.Wals.{wal_file}
@@ -28,7 +28,7 @@ use Rattle.engine_laws.proofs.Resting.{stands_rest}
 use Rattle.recovery.specs.Replayed.{IsLogName}
 use Rattle.recovery.specs.Tables.{ReadsAsTable, says_of}
 use Rattle.store_engine.specs.Calls.{RanOn}
-use Rattle.store_engine.specs.Engines.{HoldsAsBefore, HoldsNow, IsCurrent, IsEngineOf, IsOneFolder, IsRunning, engine_faults, held}
+use Rattle.store_engine.specs.Engines.{HoldsAsBefore, HoldsNow, IsCurrent, IsEngineOf, IsRunning, engine_faults, held}
 use Rattle.store_engine.specs.Asides.{IsGivenBack}
 use Rattle.store_engine.specs.Installing.{IsFileOfTable}
 use Rattle.store_engine.specs.Jobs.{IsJobNumber}
@@ -36,7 +36,7 @@ use Rattle.store_engine.specs.Steps.{ReservesEdit}
 use Rattle.store_engine.specs.Together.{AreNamed}
 use Rattle.store_engine.specs.declared.engine.Engine.{Engine}
 use Rattle.store_engine.specs.declared.fault.EngineFault.{EngineFault}
-use Rattle.store_engine.proofs.Aside.{aside_current, aside_now, aside_of, aside_one, aside_ran, aside_running, table_dead}
+use Rattle.store_engine.proofs.Aside.{aside_current, aside_now, aside_of, aside_ran, aside_running, table_dead}
 use Rattle.store_engine.proofs.Counts.{more_faults}
 use Rattle.store_engine.proofs.Raised.{reserved_held, reserved_now, reserved_of}
 use Rattle.store_engine.proofs.Raising.{kept_before, kept_faults}

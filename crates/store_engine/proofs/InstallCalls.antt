@@ -1,6 +1,6 @@
 -- What an install leaves, whether or not the disk tells what it holds.
-use Rattle.std.proofs.Common.{◌≡◌, ◌⊎◌, ℕ, ◌+◌, ◌-◌, ◌^◌, ◌<◌, ◌≤◌, true, false, min, List, [], ◌∷◌, ◌++◌, drop, length, map, take, Result, Ok, Err, refl, sym, ap, ◌∙◌, subst, arith, inl, inr}
-use Rattle.std.specs.Prelude.{◌≢◌, Contains, IfErr, OnOk}
+use Rattle.std.proofs.Common.{◌≡◌, ◌⊎◌, ℕ, ◌+◌, ◌-◌, ◌^◌, ◌<◌, ◌≤◌, min, List, [], ◌∷◌, drop, length, map, take, Result, Ok, Err, sym, ap, ◌∙◌, subst, arith, inl, inr}
+use Rattle.std.specs.Prelude.{◌≢◌, Contains}
 use Rattle.std.proofs.lemmas.Bool.{false≢true}
 use Rattle.std.proofs.lemmas.List.{take-append-drop}
 use Rattle.udt_disk.specs.Causes.{HasCause, IsCause, Rose, plus_faults}
@@ -26,7 +26,6 @@ use Rattle.udt_disk.specs.Crash.{NoMore}
 use Rattle.udt_disk.specs.declared.name.FileName.TheVariants.{Table}
 use Rattle.store_engine.specs.Asides.{AreAbsent}
 use Rattle.store_engine.proofs.JobNumbers.{jobs_kept}
-use Rattle.store_engine.specs.Calls.{is_disk_failure}
 use Rattle.store_engine.specs.Engines.{IsCurrent, IsOneFolder, IsRunning, engine_faults, has_failed}
 use Rattle.store_engine.specs.Asides.{AreRemoved, IsGivenBack}
 use Rattle.store_engine.specs.Installing.{IsDropped, IsInstallCalled}
@@ -183,9 +182,12 @@ module _ {D F : Type 0} (d : disk.Ghosts D F) (f : file.Ghosts F) (now_last : Is
 
       dropped_name : (name : FileName) → Contains names name → IsDropped (manifest_folded old.manifest).logs (manifest_folded new.manifest).logs name
       dropped_name name i =
-          let r = map-In Log name edit.drop_logs (contains_In (map Log edit.drop_logs) name (subst (λ ns. Contains ns name) names_are i)) in
-          (r.0, sym r.2, In-contains (manifest_folded old.manifest).logs r.0 (drops_live r.0 r.1),
-          λ live. dropped_dead (manifest_folded old.manifest) edit r.0 accepted well r.1 (contains_In (fold_with (manifest_folded old.manifest) edit).logs r.0 (subst (λ fold. Contains fold.logs r.0) fold_new live)))
+          let r = map-In Log name edit.drop_logs (contains_In (map Log edit.drop_logs) name (subst (λ ns. Contains ns name) names_are i)) in (
+            r.0,
+            sym r.2,
+            In-contains (manifest_folded old.manifest).logs r.0 (drops_live r.0 r.1),
+            λ live. dropped_dead (manifest_folded old.manifest) edit r.0 accepted well r.1 (contains_In (fold_with (manifest_folded old.manifest) edit).logs r.0 (subst (λ fold. Contains fold.logs r.0) fold_new live)),
+          )
 
       new_running : IsRunning new
       new_running = aside_running d f now_last names three new removed.aside edited.running

@@ -1,5 +1,5 @@
 -- The install of a flush: what the engine holds behind its steps.
-use Rattle.std.proofs.Common.{◌≡◌, ◌⊎◌, ℕ, ◌+◌, ◌<◌, ◌≤◌, ◌==◌, ◌&&◌, max, true, false, List, [], ◌∷◌, ◌++◌, length, map, take, Result, Ok, Err, Some, None, refl, sym, ap, ◌∙◌, subst, arith, inl, inr}
+use Rattle.std.proofs.Common.{◌≡◌, ℕ, ◌<◌, ◌≤◌, max, true, false, List, [], ◌∷◌, ◌++◌, length, map, take, Result, Ok, Some, refl, sym, ap, ◌∙◌, subst, arith, inl, inr}
 use Rattle.std.specs.Prelude.{All, Contains, IsTrue, OnOk, option_map, slice_get}
 use Rattle.std.specs.List.{AllByRecursion}
 use Rattle.std.proofs.lemmas.Bool.{eq-eqb}
@@ -11,7 +11,7 @@ use Rattle.ts_key.specs.declared.version.Form.TheVariants.{Persist, Strip}
 use Rattle.ts_key.specs.declared.version.Version.{Version}
 use Rattle.ts_key.specs.Items.{Item}
 use Rattle.ts_key.specs.Lists.{joined_lists}
-use Rattle.udt_disk.specs.Joint.{Folder, Ran}
+use Rattle.udt_disk.specs.Joint.{Folder}
 use Rattle.udt_disk.specs.Moments.{MayLeave}
 use Rattle.udt_disk.specs.declared.file.DiskFile as file
 use Rattle.udt_disk.specs.declared.disk.Disk as disk
@@ -20,15 +20,13 @@ use Rattle.udt_disk.specs.declared.name.FileName.TheVariants.{Log, Table}
 use Rattle.udt_disk.proofs.Joints.{ran_more, ran_on}
 use Rattle.data_block.specs.Grammar.{IsBlock}
 use Rattle.block_table.specs.Contents.{Contents}
-use Rattle.block_table.specs.Held.{Held}
 use Rattle.block_table.specs.Tables.{IsTable}
-use Rattle.wal.specs.declared.numbered.Numbered.{Numbered}
 use Rattle.udt_model.specs.declared.reply.Reply.{Reply}
 use Rattle.udt_model.specs.declared.reply.Reply.TheVariants as replies
 use Rattle.udt_model.specs.Acts.{Act}
 use Rattle.udt_model.specs.Acts.Act.{flush_end}
 use Rattle.udt_model.specs.Collecting.{cutoff}
-use Rattle.udt_model.specs.Jobs.{are_new, flush_floor, flush_kept, flush_taken, floor_over, runs_flush}
+use Rattle.udt_model.specs.Jobs.{flush_floor, flush_kept, flush_taken, floor_over, runs_flush}
 use Rattle.udt_model.specs.Running.{IsFlushRight}
 use Rattle.udt_model.specs.State.{FamilyState as ModelFamily}
 use Rattle.udt_model.specs.State.{Flush, State, family_at, floor_at, floor_of, form_at}
@@ -37,7 +35,7 @@ use Rattle.udt_model.specs.Crashes.{Course, IsOutcome, IsOutcomeUnder, course_af
 use Rattle.manifest_edit.specs.declared.edit.Edit.{Edit}
 use Rattle.manifest_edit.specs.declared.edit.TableAt.{TableAt}
 use Rattle.manifest_fold.specs.declared.fold.FamilyFold.{FamilyFold}
-use Rattle.manifest_fold.specs.Folds.{IsAccepted, fold_with, is_live, newest_log}
+use Rattle.manifest_fold.specs.Folds.{fold_with, is_live, newest_log}
 use Rattle.manifest.specs.Manifest.{manifest_file, manifest_folded}
 use Rattle.super_version.specs.Changes.{ChangesFamily, family_with_flush}
 use Rattle.super_version.specs.Contents.{version_of_item}
@@ -48,7 +46,7 @@ use Rattle.super_version.specs.declared.version.SuperVersion.{SuperVersion}
 use Rattle.floor_laws.proofs.Kept.{same_number}
 use Rattle.floor_laws.proofs.Members.{In, All-In, All-from, In-append, In-contains, contains_In}
 use Rattle.floor_laws.proofs.States.{holds_of, some_same, written_of}
-use Rattle.engine_laws.specs.Installs.{EndsFlush, IsNextFile, LogsMayGo, flush_edit}
+use Rattle.engine_laws.specs.Installs.{IsNextFile, LogsMayGo, flush_edit}
 use Rattle.engine_laws.specs.Joints.{IsNowLast}
 use Rattle.engine_laws.specs.Moves.{AreDead, TableRests, added_tables}
 use Rattle.engine_laws.specs.Standing.{Fits, FolderSays, Says, StandsForSome, TableSays, TableReads}
@@ -62,8 +60,8 @@ use Rattle.engine_laws.proofs.Keeping.{fixed_table, same_holds}
 use Rattle.engine_laws.proofs.Moving.{same_rests}
 use Rattle.engine_laws.proofs.Syncing.{sync_unasked}
 use Rattle.recovery.specs.Tables.{ReadsAsTable, family_of_table, says_of}
-use Rattle.recovery.specs.Versions.{FitsFold, IsOfFold}
-use Rattle.store_engine.specs.Calls.{RanOn, RanUnder}
+use Rattle.recovery.specs.Versions.{IsOfFold}
+use Rattle.store_engine.specs.Calls.{RanUnder}
 use Rattle.store_engine.specs.Dropping.{AreGone}
 use Rattle.store_engine.specs.Engines.{HoldsNow, IsCurrent, IsEngineOf, IsRunning, held}
 use Rattle.store_engine.specs.Asides.{AreRemoved, IsGivenBack}

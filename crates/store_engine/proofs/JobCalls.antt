@@ -1,6 +1,6 @@
 -- The files of jobs: what the engine holds when one was made, and when one was given back.
-use Rattle.std.proofs.Common.{◌≡◌, ◌≢◌, ℕ, ◌+◌, ◌-◌, ◌^◌, ◌<◌, ◌≤◌, Bool, true, false, min, List, [], ◌∷◌, Result, Ok, Err, refl, sym, ap, ◌∙◌, subst, arith, inl, inr}
-use Rattle.std.specs.Prelude.{All, Contains}
+use Rattle.std.proofs.Common.{◌≡◌, ◌≢◌, ℕ, ◌-◌, ◌^◌, ◌<◌, ◌≤◌, false, List, [], ◌∷◌, Result, sym, ap, ◌∙◌, subst, arith, inl}
+use Rattle.std.specs.Prelude.{Contains}
 use Rattle.std.proofs.lemmas.Bool.{false_from_ne_true}
 use Rattle.udt_disk.specs.Causes.{HasCause, plus_faults}
 use Rattle.udt_disk.specs.Folder.{FolderElapses, OthersStay}
@@ -11,7 +11,6 @@ use Rattle.udt_disk.specs.declared.name.FileName.{FileName}
 use Rattle.udt_disk.specs.declared.name.FileName.TheVariants.{Table}
 use Rattle.udt_disk.proofs.Joints.{ran_more}
 use Rattle.udt_disk.proofs.TouchLemmas.{touches_more, touches_one}
-use Rattle.wal.specs.declared.numbered.Numbered.{Numbered}
 use Rattle.wal.specs.Wals.{wal_file}
 use Rattle.udt_model.specs.State.{State}
 use Rattle.udt_model.specs.Crashes.{Course, IsOutcome}
@@ -32,7 +31,7 @@ use Rattle.engine_laws.proofs.Resting.{stands_rest}
 use Rattle.recovery.specs.Tables.{ReadsAsTable}
 use Rattle.store_engine.specs.Asides.{IsAside, IsGivenBack}
 use Rattle.store_engine.specs.Calls.{RanOn}
-use Rattle.store_engine.specs.Engines.{HoldsAsBefore, HoldsNow, IsCurrent, IsEngineOf, IsOneFolder, IsRunning, engine_faults, has_failed, held}
+use Rattle.store_engine.specs.Engines.{HoldsAsBefore, HoldsNow, IsCurrent, IsOneFolder, IsRunning, engine_faults, held}
 use Rattle.store_engine.specs.JobCalls.{IsDeadTable, IsDiscarded}
 use Rattle.store_engine.specs.Jobs.{IsJobNumber}
 use Rattle.store_engine.specs.declared.engine.Engine.{Engine}

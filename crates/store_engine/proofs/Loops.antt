@@ -26,9 +26,9 @@ runs_some m (suc count) is few =
     let q : (length (versions_of_memtable m) == 0) ≡ false = ne_eqb (length (versions_of_memtable m)) 0 (λ z. omega (arith, few, up, double, z)) in
     let more : nat_lt 0 (suc count) ≡ true = lt-ltb 0 (suc count) (omega arith) in
     rw (q, more) refl where
-  pow_some : (k : ℕ) → 1 ≤ 2 ^ k
-  pow_some zero = omega arith
-  pow_some (suc k) = let r = pow_some k in let d : 2 ^ suc k ≡ 2 ^ k * 2 = pow-suc 2 k in omega (arith, r, d)
+      pow_some : (k : ℕ) → 1 ≤ 2 ^ k
+      pow_some zero = omega arith
+      pow_some (suc k) = let r = pow_some k in let d : 2 ^ suc k ≡ 2 ^ k * 2 = pow-suc 2 k in omega (arith, r, d)
 
 some_first : (xs ys : List Version) → not (length xs == 0) ≡ true → not (length (xs ++ ys) == 0) ≡ true
 some_first [] ys e = absurd (cc)

@@ -1,5 +1,5 @@
 -- A super version with a flush more shows the state behind the flush.
-use Rattle.std.proofs.Common.{◌≡◌, ◌⊎◌, ℕ, zero, suc, ◌+◌, ◌-◌, ◌<◌, ◌≤◌, ◌==◌, ◌&&◌, List, [], ◌∷◌, ◌++◌, length, map, take, Option, Some, None, refl, sym, ap, ◌∙◌, subst, arith, inl, inr}
+use Rattle.std.proofs.Common.{◌≡◌, ℕ, zero, suc, ◌+◌, ◌-◌, ◌<◌, ◌≤◌, ◌==◌, ◌&&◌, List, [], ◌∷◌, ◌++◌, length, map, take, Some, refl, sym, ap, ◌∙◌, subst, arith, inl, inr}
 use Rattle.std.specs.Prelude.{if◌then◌else◌, nat_le, nat_lt, slice_get}
 use Rattle.std.specs.List.{AllByRecursion, flat_map}
 use Rattle.std.specs.List.Sorted.{IsPermutation}
@@ -21,12 +21,11 @@ use Rattle.udt_model.specs.Running.{IsFlushRight}
 use Rattle.udt_model.specs.Steps.{flushed, with_flush}
 use Rattle.udt_model.specs.Versions.{between}
 use Rattle.super_version.specs.Changes.{ChangesFamily, family_with_flush, in_front, with_level}
-use Rattle.super_version.specs.Contents.{items_of_table, version_of_item}
-use Rattle.super_version.specs.Levels.{StandInOrder, item_changed_at, table_properties}
+use Rattle.super_version.specs.Contents.{version_of_item}
+use Rattle.super_version.specs.Levels.{StandInOrder, table_properties}
 use Rattle.super_version.specs.Live.{Live}
 use Rattle.super_version.specs.Numbers.{IsTableOf}
 use Rattle.super_version.specs.declared.family.FamilyState.{FamilyState}
-use Rattle.super_version.specs.declared.family.TheConstants.{LEVELS}
 use Rattle.super_version.specs.declared.version.SuperVersion.{SuperVersion}
 use Rattle.super_version.proofs.Numbered.{after_flush}
 use Rattle.super_version.proofs.Orders.{front_order}
@@ -34,10 +33,10 @@ use Rattle.floor_laws.proofs.Counts.{count}
 use Rattle.floor_laws.specs.Sound.{IsSoundState}
 use Rattle.floor_laws.proofs.Families.{In-between, between-In, flushed_from, tables_below}
 use Rattle.floor_laws.proofs.Kept.{same_number}
-use Rattle.floor_laws.proofs.Members.{In, In-append, In-contains, In-left, In-map, In-right, contains_In, filter_within, map-In}
+use Rattle.floor_laws.proofs.Members.{In, In-append, In-contains, In-left, In-map, contains_In}
 use Rattle.floor_laws.proofs.States.{at_changed, holds_of, length-changed, some_same, written_of}
 use Rattle.floor_laws.proofs.Tables.{contents-from}
-use Rattle.store_engine.specs.Now.{FitsFamily, IsFamilyNow, IsNow, table_shown, tables_shown, versions_held}
+use Rattle.store_engine.specs.Now.{FitsFamily, IsFamilyNow, IsNow, table_shown, tables_shown}
 use Rattle.store_engine.proofs.Current.{get_changed, length_changed}
 use Rattle.store_engine.proofs.OneForOne.{Once, same_once, times, times-append, times-filter, times-moved}
 use Rattle.store_engine.proofs.Shown.{shown-In}

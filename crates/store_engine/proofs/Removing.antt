@@ -1,13 +1,12 @@
 -- Removals of files, one after the other.
-use Rattle.std.proofs.Common.{◌≡◌, ◌⊎◌, ℕ, ◌+◌, ◌<◌, ◌≤◌, List, [], ◌∷◌, ◌++◌, get_or, length, take, Result, Ok, Err, None, refl, sym, ap, ◌∙◌, subst, arith, inl, inr}
-use Rattle.std.specs.Prelude.{Contains, IsTrue, OnErr, OnOk}
-use Rattle.std.proofs.lemmas.List.{take_all, take_more}
+use Rattle.std.proofs.Common.{◌≡◌, ◌≤◌, List, [], ◌∷◌, ◌++◌, Result, Ok, Err, None, sym, ◌∙◌, subst, arith, inl, inr}
+use Rattle.std.specs.Prelude.{IsTrue, OnOk}
 use Rattle.udt_disk.specs.Causes.{HasCause, Rose}
 use Rattle.udt_disk.specs.Folder.{OthersStay}
 use Rattle.udt_disk.specs.declared.disk.Disk as disk
 use Rattle.udt_disk.specs.declared.name.FileName.{FileName}
 use Rattle.udt_disk.proofs.Names.{same_or_other}
-use Rattle.floor_laws.proofs.Members.{In, In-append, contains_In, In-contains}
+use Rattle.floor_laws.proofs.Members.{In-append, contains_In, In-contains}
 use Rattle.store_engine.specs.Asides.{AreAbsent, IsRemoval}
 
 module _ {D F : Type 0} (d : disk.Ghosts D F) (old mid new : D) where

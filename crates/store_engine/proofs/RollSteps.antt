@@ -1,13 +1,11 @@
 -- The steps of a roll together: a sync, a new log, and the edit that adds it.
-use Rattle.std.proofs.Common.{◌≡◌, ◌⊎◌, ℕ, ◌+◌, ◌<◌, ◌≤◌, List, [], ◌∷◌, Result, Ok, Err, None, refl, sym, ap, ◌∙◌, subst, arith, inl, inr}
+use Rattle.std.proofs.Common.{◌≡◌, ℕ, ◌+◌, ◌<◌, ◌≤◌, List, [], ◌∷◌, Result, Ok, Err, None, refl, sym, ap, ◌∙◌, subst, arith}
 use Rattle.std.specs.Prelude.{Contains, IfErr, OnErr, OnOk, Option}
 use Rattle.udt_disk.specs.Causes.{HasCause, plus_faults}
-use Rattle.udt_disk.specs.Joint.{Ran}
 use Rattle.udt_disk.specs.Runs.{IsSameFile}
 use Rattle.udt_disk.specs.Touches.{Touches}
 use Rattle.udt_disk.specs.declared.file.DiskFile as file
 use Rattle.udt_disk.specs.declared.disk.Disk as disk
-use Rattle.udt_disk.specs.declared.name.FileName.{FileName}
 use Rattle.udt_disk.specs.declared.name.FileName.TheVariants.{Log}
 use Rattle.udt_disk.proofs.Joints.{ran_on}
 use Rattle.udt_disk.proofs.TouchLemmas.{touches_nothing}
@@ -24,7 +22,7 @@ use Rattle.manifest_fold.specs.Folds.{families_with, fold_with, is_live, newest_
 use Rattle.manifest.specs.Folders.{IsManifestName}
 use Rattle.manifest.specs.Manifest.{manifest_file, manifest_folded}
 use Rattle.floor_laws.proofs.Members.{contains_In}
-use Rattle.engine_laws.specs.Engine.{AreSameKept, HoldsState, MayEdit, newest_log_of, with_batches, with_edit}
+use Rattle.engine_laws.specs.Engine.{HoldsState, MayEdit, with_batches, with_edit}
 use Rattle.engine_laws.specs.Installs.{roll_edit}
 use Rattle.engine_laws.specs.Joints.{IsNowLast}
 use Rattle.engine_laws.specs.Moves.{added_tables}
@@ -40,7 +38,7 @@ use Rattle.store_engine.specs.Calls.{RanOn, is_disk_failure}
 use Rattle.store_engine.specs.Engines.{IsEngineOf, IsOneFolder, IsRunning, engine_faults, has_failed, held}
 use Rattle.store_engine.specs.Sealing.{IsLogRolled, IsRolled, IsRolledName}
 use Rattle.store_engine.specs.Sealing.IsRolled.{edited, unrolled, unsynced}
-use Rattle.store_engine.specs.Steps.{IsEdited, IsLogSynced}
+use Rattle.store_engine.specs.Steps.{IsLogSynced}
 use Rattle.store_engine.specs.declared.engine.Engine.{Engine}
 use Rattle.store_engine.specs.declared.fault.EngineFault.{EngineFault}
 use Rattle.store_engine.specs.declared.fault.EngineFault.TheVariants.{DiskFault}

@@ -1,8 +1,7 @@
 -- The log goes on with a new file, which the manifest then names: what the engine holds behind it.
-use Rattle.std.proofs.Common.{◌≡◌, ◌≢◌, ◌⊎◌, ℕ, ◌+◌, ◌-◌, ◌^◌, ◌<◌, ◌≤◌, List, [], ◌∷◌, ◌++◌, length, drop, min, Result, Ok, Err, refl, sym, ap, ◌∙◌, subst, arith, inl, inr}
-use Rattle.std.specs.Prelude.{All, Contains, IsTrue, OnErr, OnOk}
+use Rattle.std.proofs.Common.{◌≡◌, ◌≢◌, ℕ, ◌+◌, ◌-◌, ◌^◌, ◌<◌, ◌≤◌, List, [], ◌∷◌, ◌++◌, length, drop, min, Result, Ok, Err, refl, sym, ap, ◌∙◌, subst, arith, inl, inr}
+use Rattle.std.specs.Prelude.{Contains, IsTrue, OnErr, OnOk}
 use Rattle.udt_disk.specs.Causes.{HasCause, Rose, plus_faults}
-use Rattle.udt_disk.specs.Crash.{Image}
 use Rattle.udt_disk.specs.Joint.{IsFree, Ran}
 use Rattle.udt_disk.specs.Moments.{AsAtBut, MayLeave, holding}
 use Rattle.udt_disk.specs.Runs.{Leaves}
@@ -11,7 +10,6 @@ use Rattle.udt_disk.specs.declared.disk.Disk as disk
 use Rattle.udt_disk.specs.declared.name.FileName.{FileName}
 use Rattle.udt_disk.specs.declared.name.FileName.TheVariants.{Log}
 use Rattle.udt_disk.proofs.Joints.{ran_more}
-use Rattle.wal.specs.declared.numbered.Numbered.{Numbered}
 use Rattle.wal.specs.declared.wal.Wal.{Wal}
 use Rattle.wal.specs.Making.{IsWhileMade}
 use Rattle.wal.specs.Replays.{ReadsAs}
@@ -46,7 +44,7 @@ use Rattle.engine_laws.proofs.Moving.{edit_ready, log_same}
 use Rattle.engine_laws.proofs.Resting.{stands_rest}
 use Rattle.recovery.specs.Tables.{ReadsAsTable}
 use Rattle.store_engine.specs.Calls.{RanOn}
-use Rattle.store_engine.specs.Engines.{IsEngineOf, IsOneFolder, IsRunning, engine_faults, held}
+use Rattle.store_engine.specs.Engines.{IsEngineOf, IsOneFolder, engine_faults, held}
 use Rattle.store_engine.specs.Sealing.{IsLogRolled}
 use Rattle.store_engine.specs.Steps.{IsEdited, IsLogSynced}
 use Rattle.store_engine.specs.Together.{AreTogether, IsReadyFor}

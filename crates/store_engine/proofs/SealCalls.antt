@@ -1,6 +1,6 @@
 -- A call of a seal: its answers, and what the engine holds behind it.
-use Rattle.std.proofs.Common.{◌≡◌, ◌⊎◌, ℕ, ◌+◌, ◌<◌, ◌≤◌, ◌==◌, true, false, List, [], ◌∷◌, ◌++◌, length, Result, Ok, Err, Some, None, refl, sym, ap, ◌∙◌, subst, arith, inl, inr}
-use Rattle.std.specs.Prelude.{All, Contains, IfErr, IfOk, OnOk, slice_get}
+use Rattle.std.proofs.Common.{◌≡◌, ℕ, ◌+◌, ◌<◌, ◌≤◌, true, false, List, [], ◌∷◌, ◌++◌, length, Result, Ok, Err, Some, None, refl, sym, ap, ◌∙◌, subst, arith, inl, inr}
+use Rattle.std.specs.Prelude.{Contains, IfErr, IfOk, slice_get}
 use Rattle.std.specs.Arc.{arc_value}
 use Rattle.std.specs.List.{flat_map}
 use Rattle.std.proofs.lemmas.Bool.{eq-eqb, false≢true, ne_eqb}
@@ -18,7 +18,6 @@ use Rattle.udt_disk.proofs.TouchLemmas.{touches_nothing}
 use Rattle.udt_disk.specs.declared.file.DiskFile as file
 use Rattle.udt_disk.specs.declared.disk.Disk as disk
 use Rattle.udt_disk.specs.declared.name.FileName.TheVariants.{Log}
-use Rattle.wal.specs.declared.numbered.Numbered.{Numbered}
 use Rattle.wal.specs.Wals as log
 use Rattle.wal.specs.Wals.{MayGoOn, wal_file, wal_pending}
 use Rattle.memtable.specs.Memtables.{versions_of_memtable}
@@ -55,18 +54,16 @@ use Rattle.floor_laws.proofs.Courses.{course_sound}
 use Rattle.floor_laws.proofs.Told.{sound_after}
 use Rattle.recovery.specs.Tables.{ReadsAsTable}
 use Rattle.recovery.specs.Versions.{FitsFold}
-use Rattle.store_engine.specs.Calls.{RanOn, is_disk_failure}
-use Rattle.store_engine.specs.Engines.{HoldsAsBefore, HoldsNow, IsCurrent, IsEngineOf, IsOneFolder, IsRunning, engine_faults, has_failed, held}
+use Rattle.store_engine.specs.Calls.{RanOn}
+use Rattle.store_engine.specs.Engines.{HoldsAsBefore, HoldsNow, IsCurrent, IsEngineOf, IsOneFolder, IsRunning, engine_faults, held}
 use Rattle.store_engine.specs.Now.{IsNow, versions_held}
 use Rattle.store_engine.specs.Older.{CoversOlder}
 use Rattle.store_engine.specs.Replies.{is_disk_fault}
 use Rattle.store_engine.specs.Jobs.{IsJobNumber}
-use Rattle.store_engine.specs.Sealing.{IsRolled, IsRolledAs, IsRolledName, IsSealOf, IsSealed, MayRoll, PreparesRoll, SealsActive, ShowsSeal, ShowsSealed, TellsSeal, after_seal, course_after_seal, rolled_count, version_after}
+use Rattle.store_engine.specs.Sealing.{IsRolled, IsRolledAs, IsRolledName, IsSealOf, IsSealed, PreparesRoll, SealsActive, ShowsSealed, TellsSeal, after_seal, course_after_seal, rolled_count, version_after}
 use Rattle.store_engine.specs.Sealing.SealsActive.{sealed, stopped, unmade, unreserved}
-use Rattle.store_engine.specs.Steps.{ReservesEdit}
 use Rattle.store_engine.specs.declared.engine.Engine.{Engine}
 use Rattle.store_engine.specs.declared.fault.EngineFault.{EngineFault}
-use Rattle.store_engine.specs.declared.fault.EngineFault.TheVariants.{DiskFault, NoMemory}
 use Rattle.store_engine.specs.declared.older.OlderLogs.{OlderLogs}
 use Rattle.store_engine.specs.declared.seal.Sealed.{Sealed}
 use Rattle.store_engine.specs.declared.seal.Sealed.TheVariants as seals

@@ -1,6 +1,5 @@
 -- A seal: its edit, and what the engine holds behind it.
-use Rattle.std.proofs.Common.{◌≡◌, ℕ, ◌+◌, ◌<◌, ◌≤◌, List, [], ◌∷◌, ◌++◌, length, sym, ap, ◌∙◌, subst, arith, refl, inl, inr}
-use Rattle.std.specs.Prelude.{All}
+use Rattle.std.proofs.Common.{ℕ, ◌+◌, ◌<◌, ◌≤◌, [], ◌∷◌, arith, refl, inl, inr}
 use Rattle.std.proofs.lemmas.List.{length-append}
 use Rattle.ts_key.specs.declared.limits.TheConstants.{SEQUENCE_LIMIT}
 use Rattle.ts_key.specs.declared.numbers.Seq.{Seq}
@@ -11,7 +10,6 @@ use Rattle.floor_laws.proofs.Members.{All-In, All-from, contains_In}
 use Rattle.engine_laws.specs.Installs.{roll_edit}
 use Rattle.engine_laws.specs.Manifests.{IsWell}
 use Rattle.engine_laws.proofs.Editing.{newest_live}
-use Rattle.store_engine.proofs.RollSteps.{rolls_of}
 
 -- the edit of a roll is accepted
 pub roll_accepted : (fold : Folded) (n : ℕ) (last : Seq) → IsWell fold → fold.next_file ≤ n → n < FILE_NUMBER_LIMIT → fold.last.0 ≤ last.0 → last.0 ≤ SEQUENCE_LIMIT → IsAccepted fold (roll_edit last n)

@@ -1,5 +1,5 @@
 -- What the calls leave that make the files of jobs and take them back.
-use Rattle.std.specs.Prelude.{◌≡◌, ℕ, ◌+◌, ◌<◌, List, [], ◌∷◌, false, Contains, IfErr, IsTrue, Result, Ok, Err}
+use Rattle.std.specs.Prelude.{◌≡◌, ℕ, ◌+◌, ◌<◌, [], ◌∷◌, false, Contains, IfErr, IsTrue, Result, Ok, Err}
 use Rattle.udt_disk.specs.Causes.{IsCause, plus_faults}
 use Rattle.udt_disk.specs.Crash.{Created, Image}
 use Rattle.udt_disk.specs.Touches.{Touches}

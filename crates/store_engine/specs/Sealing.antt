@@ -1,5 +1,5 @@
 -- What a seal answers and leaves.
-use Rattle.std.specs.Prelude.{◌≡◌, ◌⊎◌, ℕ, ◌+◌, ◌<◌, ◌≤◌, List, [], ◌∷◌, ◌++◌, length, map, slice_get, reverse, false, Contains, IfErr, IfSome, IsOk, OnErr, OnOk, Option, Some, None, Result, Ok, Err, IsTrue, ⊤}
+use Rattle.std.specs.Prelude.{◌≡◌, ◌⊎◌, ℕ, ◌+◌, ◌<◌, ◌≤◌, List, [], ◌∷◌, ◌++◌, length, map, slice_get, reverse, false, IfErr, IfSome, OnErr, OnOk, Option, Some, None, Result, Ok, Err, IsTrue, ⊤}
 use Rattle.std.specs.Arc.{arc_value}
 use Rattle.memtable.specs.Memtables.{Memtable, versions_of_memtable}
 use Rattle.ts_key.specs.declared.numbers.Family.{Family}
@@ -33,7 +33,7 @@ use Rattle.super_version.specs.declared.version.SuperVersion.{SuperVersion}
 use Rattle.store_engine.specs.Calls.{is_disk_failure}
 use Rattle.store_engine.specs.Engines.{IsOneFolder, IsRunning, engine_faults, has_failed, held}
 use Rattle.store_engine.specs.Now.{versions_held}
-use Rattle.store_engine.specs.Replies.{is_disk_fault, reply_of_fault}
+use Rattle.store_engine.specs.Replies.{reply_of_fault}
 use Rattle.store_engine.specs.Jobs.{IsJobNumber}
 use Rattle.store_engine.specs.Steps.{IsEdited, IsLogSynced, ReservesEdit}
 use Rattle.store_engine.specs.declared.engine.Engine.{Engine}

@@ -162,14 +162,7 @@ impl<D: Disk> Engine<D> {
             number: end.number,
             table: Arc::new(alloc, table)?,
         };
-        let next = now.with_flush(
-            alloc,
-            end.family,
-            end.gone,
-            end.through,
-            end.floor,
-            added,
-        )?;
+        let next = now.with_flush(alloc, end.family, end.gone, end.through, end.floor, added)?;
         let logs = self.manifest.fold().logs.as_slice();
         let count = count_gone(logs, &self.older, next.families.as_slice());
         let dropped = &logs[..count];

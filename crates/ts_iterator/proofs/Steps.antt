@@ -9,7 +9,7 @@ use Rattle.ts_key.specs.Visible.{is_item_within}
 use Rattle.ts_iterator.specs.Rows.{rows_up, emit, is_past, is_decided}
 use Rattle.ts_iterator.specs.Walks.{ahead}
 
-head_at : (vs : List Item) (n : ℕ) (v : Item) → slice_get vs n ≡ Some v → drop n vs ≡ v ∷ drop (suc n) vs
+pub head_at : (vs : List Item) (n : ℕ) (v : Item) → slice_get vs n ≡ Some v → drop n vs ≡ v ∷ drop (suc n) vs
 head_at [] n v e = absurd cc
 head_at (x ∷ xs) zero v e = let q : x ≡ v = cc in ap (λ (y : Item). y ∷ xs) q
 head_at (x ∷ xs) (suc n) v e = head_at xs n v e

@@ -21,7 +21,7 @@ inside_at [] n v e = absurd cc
 inside_at (x ∷ xs) zero v e = omega arith
 inside_at (x ∷ xs) (suc n) v e = let r = inside_at xs n v e in omega arith
 
-past_at : (vs : List Item) (n : ℕ) → slice_get vs n ≡ None → length vs ≤ n
+pub past_at : (vs : List Item) (n : ℕ) → slice_get vs n ≡ None → length vs ≤ n
 past_at [] n e = omega arith
 past_at (x ∷ xs) zero e = absurd cc
 past_at (x ∷ xs) (suc n) e = let r = past_at xs n e in omega arith

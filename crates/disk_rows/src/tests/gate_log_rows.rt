@@ -52,17 +52,12 @@ fn read_bytes(alloc: Global, bytes: &[u8]) -> Result<Reading, Failed> {
 fn a_frame_has_a_gate_a_length_and_a_body(rt: HostRuntime) -> Result<(), Fail> {
     let alloc = rt.alloc();
     let mut disk = MemDisk::new(alloc, Vec::new(alloc))?;
-    let Ok(file) = disk.create(LOG) else {
-        assert!(rt; false, "create");
-        return Ok(());
-    };
+    let file = disk.create(LOG)?;
     let Ok(mut log) = GateLog::create(alloc, file) else {
-        assert!(rt; false, "a new log");
-        return Ok(());
+        return Err("no new log".into());
     };
-    if let Ok(()) = log.reserve(2) {
-        assert_eq!(rt; log.append(b"ab"), Ok(()));
-    }
+    assert!(rt; log.reserve(2).is_ok());
+    assert_eq!(rt; log.append(b"ab"), Ok(()));
     disk.retire(log.into_file());
     assert!(rt; disk.contents(LOG) == Some(b"\xA5\x02\0\0\0ab\x5A".as_slice()));
     Ok(())

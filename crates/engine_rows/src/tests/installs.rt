@@ -8,7 +8,7 @@ use std::test::Fail;
 use store_engine::EngineFault;
 use super_version::SuperVersion;
 use ts_key::{Family, Form, Seq, Ts};
-use udt_disk::{FileName, MemDisk, Trouble};
+use udt_disk::{FileName, Outcome, Trouble};
 
 /// The table of the put of `\0` at 7 with sequence 1 and value `v` in family 0.
 const OF_FIRST: &[u8] =
@@ -25,15 +25,13 @@ const OF_SECOND: &[u8] =
 \x22\0\0\0\0\0\0\0\x3A\0\0\0\0\0\0\0udttab01";
 
 /// The first one with its timestamp stripped.
-const STRIPPED: &[u8] =
-    b"\0\0\x09\0\x01\0\0\0\0\x01\x01\0\0\0\0\0\0v\0\0\0\0\x01\0\0\0\
+const STRIPPED: &[u8] = b"\0\0\x09\0\x01\0\0\0\0\x01\x01\0\0\0\0\0\0v\0\0\0\0\x01\0\0\0\
 \x01\0\0\0\0\0\0\0\0\0\0\0\x1A\0\0\0\0\0\0\0\x01\0\0\0\
 \0\0\0\0\x01\x01\0\0\0\0\0\0\0\x01\0\0\x01\0\0\x01\0\0\0\0\0\0\0\x01\0\0\0\0\0\0\0\0\0\0\0\0\0\0\0\0\0\0\0\0\0\0\0\
 \x1A\0\0\0\0\0\0\0\x32\0\0\0\0\0\0\0udttab01";
 
 /// Of family 0 the puts of `\0` at 9 with sequence 3 and at 8 with sequence 2, collected by 8.
-const OF_TWO: &[u8] =
-    b"\0\0\x11\0\x01\0\0\0\0\x09\0\0\0\0\0\0\0\x01\x03\0\0\0\0\0\0v\
+const OF_TWO: &[u8] = b"\0\0\x11\0\x01\0\0\0\0\x09\0\0\0\0\0\0\0\x01\x03\0\0\0\0\0\0v\
 \x01\0\x10\0\x01\0\0\0\x08\0\0\0\0\0\0\0\x01\x02\0\0\0\0\0\0v\0\0\0\0\x01\0\0\0\
 \x01\0\0\0\0\0\0\0\0\0\0\0\x3B\0\0\0\0\0\0\0\x02\0\0\0\
 \0\0\0\0\0\x02\0\0\0\0\0\0\0\x01\0\0\x01\0\0\x02\0\0\0\0\0\0\0\x03\0\0\0\0\0\0\0\x09\0\0\0\0\0\0\0\x08\0\0\0\0\0\0\0\
@@ -80,12 +78,12 @@ const FLUSH_CALLS: &[(FileName, u64, u64)] = &[
 fn behind(
     alloc: Global,
     trouble: Trouble,
-    outcome: usize,
+    outcome: Outcome,
 ) -> Result<(SuperVersion, Option<EngineFault>), Fail> {
     let steps = [put(0, 7), Step::Seal { family: 0 }, FLUSH_FIRST];
     let disk = made(alloc, vec![in alloc; trouble]?)?.ok_or("no store")?;
     let (disk, fault) = history(alloc, disk, &steps)?;
-    let version = version_of(alloc, disk.after_crash(alloc, OUTCOMES[outcome])?)?;
+    let version = version_of(alloc, disk.after_crash(alloc, outcome)?)?;
     Ok((version, fault))
 }
 
@@ -93,17 +91,19 @@ fn behind(
 fn a_flush_that_stops_is_made_or_not(rt: HostRuntime) -> Result<(), Fail> {
     for (name, first, last) in FLUSH_CALLS {
         for call in *first..=*last {
-            for outcome in 0..OUTCOMES.len() {
+            for outcome in OUTCOMES {
                 let trouble = Trouble {
                     name: *name,
                     call,
                     lasting: true,
                 };
-                let (version, fault) = behind(rt.alloc(), trouble, outcome)?;
+                let (version, fault) = behind(rt.alloc(), trouble, *outcome)?;
                 let is_made = flushed_of(&version, 0) == Some((1, 1));
                 assert_eq!(rt; version.last, Seq(1));
                 assert_eq!(rt; fault.is_none(), call == *last, "{name:?} {call}");
-                assert!(rt; is_made || (fault.is_some() && flushed_of(&version, 0) == Some((0, 0))));
+                assert!(rt;
+                    is_made || (fault.is_some() && flushed_of(&version, 0) == Some((0, 0)))
+                );
             }
         }
     }
@@ -112,12 +112,7 @@ fn a_flush_that_stops_is_made_or_not(rt: HostRuntime) -> Result<(), Fail> {
 
 #[test]
 fn a_log_stays_while_a_family_needs_it(rt: HostRuntime) -> Result<(), Fail> {
-    let steps = [
-        put(0, 7),
-        put(1, 7),
-        Step::Seal { family: 1 },
-        FLUSH_SECOND,
-    ];
+    let steps = [put(0, 7), put(1, 7), Step::Seal { family: 1 }, FLUSH_SECOND];
     for outcome in OUTCOMES {
         let disk = made(rt.alloc(), Vec::new(rt.alloc()))?.ok_or("no store")?;
         let (disk, fault) = history(rt.alloc(), disk, &steps)?;
@@ -162,8 +157,8 @@ fn a_log_that_cant_be_removed_stays(rt: HostRuntime) -> Result<(), Fail> {
         call: 10,
         lasting: true,
     };
-    for outcome in 0..OUTCOMES.len() {
-        let (version, fault) = behind(rt.alloc(), trouble, outcome)?;
+    for outcome in OUTCOMES {
+        let (version, fault) = behind(rt.alloc(), trouble, *outcome)?;
         assert_eq!(rt; fault, None);
         assert_eq!(rt; flushed_of(&version, 0), Some((1, 1)));
     }

@@ -6,7 +6,7 @@ use Rattle.sorted_run.specs.Sorts.{sorted}
 use Rattle.memtable.specs.Memtables.{Memtable, versions_of_memtable}
 use Rattle.super_version.specs.Writes.{of_family}
 use Rattle.super_version.proofs.Written.{all_own}
-use Rattle.recovery.proofs.Stating.{own_alone}
+use Rattle.recovery.proofs.Stating.{one_run, own_alone}
 use Rattle.recovery.proofs.version.memtable_of.Goals as goal
 
 pub with-requires : goal.with-requires
@@ -32,3 +32,13 @@ returns-then-are_own-clause-versions c =
     let none : versions_of_memtable c.empty.result ≡ [] = ap versions_of_memtable c.empty.ensures in
     let more : vs ++ versions_of_memtable c.empty.result ≡ of_family family vs = ap (λ (l : List Version). vs ++ l) none ∙ append-nil vs ∙ sym is in
     subst (λ (l : List Version). IfOk c.with-then-are_own.result (λ mem. versions_of_memtable mem ≡ sorted l)) more c.with-then-are_own.ensures.versions
+
+pub returns-then-are_own-clause-runs : goal.returns-then-are_own-clause-runs
+returns-then-are_own-clause-runs c =
+    let empty : c.empty.result.runs ≡ [] = ap (λ (m : Memtable). m.runs) c.empty.ensures in
+    one_run c.args.versions.now c.empty.result c.with-then-are_own.result empty c.with-then-are_own.ensures.copy c.with-then-are_own.ensures.keeps
+
+pub returns-clause-runs : goal.returns-clause-runs
+returns-clause-runs c =
+    let empty : c.empty-2.result.runs ≡ [] = ap (λ (m : Memtable). m.runs) c.empty-2.ensures in
+    one_run c.deref.result.now c.empty-2.result c.with-3.result empty c.with-3.ensures.copy c.with-3.ensures.keeps

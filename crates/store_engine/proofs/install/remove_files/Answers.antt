@@ -1,8 +1,7 @@
-use Rattle.std.proofs.Common.{◌≡◌, ◌+◌, ◌++◌, [], ◌∷◌, List, ap, ◌∙◌, get_or, take, sym, subst, arith, refl, inl}
+use Rattle.std.proofs.Common.{take, sym, subst}
 use Rattle.std.specs.Prelude.{Contains}
 use Rattle.std.proofs.lemmas.List.{take_all, take_more}
 use Rattle.std.proofs.lemmas.List.Elements.{Contains-get_or}
-use Rattle.udt_disk.specs.declared.name.FileName.{FileName}
 use Rattle.udt_disk.proofs.TouchLemmas.{touches_more, touches_one, touches_then}
 use Rattle.store_engine.specs.Asides.{IsRemoval}
 use Rattle.store_engine.proofs.Removing.{removal_then}

@@ -1,4 +1,4 @@
-use Rattle.std.proofs.Common.{◌≡◌, map, reverse, ap, ◌∙◌}
+use Rattle.std.proofs.Common.{map, reverse, ap, ◌∙◌}
 use Rattle.std.specs.Arc.{arc_value}
 use Rattle.store_engine.proofs.SealedVersion.{map_reverse}
 use Rattle.store_engine.proofs.seal.from_last.Goals as goal

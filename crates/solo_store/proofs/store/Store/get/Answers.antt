@@ -1,5 +1,4 @@
-use Rattle.std.proofs.Common.{refl, sym, ap, ◌∙◌, subst, inl, inr}
-use Rattle.std.proofs.lemmas.Option.{slice_get_within}
+use Rattle.std.proofs.Common.{sym, ap, ◌∙◌, inl, inr}
 use Rattle.udt_model.specs.Steps.{reply_of_read}
 use Rattle.engine_laws.specs.Joints.{IsNowLast}
 use Rattle.solo_store.proofs.Events.{get_absent, get_found}

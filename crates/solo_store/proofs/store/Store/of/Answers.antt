@@ -1,6 +1,5 @@
-use Rattle.std.proofs.Common.{◌≡◌, map, refl, sym, ap, ◌∙◌, subst, []}
+use Rattle.std.proofs.Common.{◌≡◌, map, refl, ap, ◌∙◌, subst, []}
 use Rattle.std.specs.Prelude.{IfOk, ◌∷◌}
-use Rattle.std.specs.Arc.{arc_value}
 use Rattle.udt_disk.specs.Moments.{OnlyReads, alone, holding}
 use Rattle.udt_disk.proofs.Moments.{only_then}
 use Rattle.wal.specs.Wals.{wal_file}

@@ -3,7 +3,6 @@ use Rattle.udt_model.specs.Acts.Act.{raise}
 use Rattle.udt_model.specs.declared.event.Event.TheVariants.{Raise}
 use Rattle.udt_model.specs.declared.reply.Reply.{Reply}
 use Rattle.udt_model.specs.declared.reply.Reply.TheVariants.{Done}
-use Rattle.ts_key.specs.declared.numbers.Family.{Family}
 use Rattle.super_version.specs.Changes.{family_with_floor}
 use Rattle.engine_laws.specs.Joints.{IsNowLast}
 use Rattle.solo_store.specs.Steps.{IsStep}
@@ -75,6 +74,6 @@ returns-in-Err g c =
     let works = none_left s.halted c.in_default.not-Some in
     let done = rw c.as_ref.ensures at c.in-Err.ensures in
     let asks : Asks s.names.items (Raise name c.args.floor) act = rw c.family_of-family.ensures (asks_raise s.names.items name c.args.floor) in
-    let faulted = faulted_under d f last s c.raise.new.self c.args.number act c.in-Err.fault (λ m co h. done.tells m co h) done.refused (λ n is. absurd (raise_files _ c.args.floor c.in-Err.fault n done.answers is)) (λ m co h. done.moments m co c.args.number h) done.called in
+    let faulted = faulted_under d f last s c.raise.new.self c.args.number act works c.in-Err.fault (λ m co h. done.tells m co h) done.refused (λ n is. absurd (raise_files _ c.args.floor c.in-Err.fault n done.answers is)) (λ m co h. done.moments m co c.args.number h) done.called in
     subst (λ (r : Reply). IsStep d f s c.refused.new.self c.args.number (Raise name c.args.floor) r) (sym c.refused.ensures.told)
     (fault_step d f last s c.refused.new.self c.raise.new.self c.args.number act works c.requires (Raise name c.args.floor) asks (refuses_raise name i c.args.floor) c.in-Err.fault faulted c.refused.ensures.halted)

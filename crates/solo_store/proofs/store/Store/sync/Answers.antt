@@ -1,7 +1,5 @@
-use Rattle.std.proofs.Common.{refl, ap, ◌∙◌, subst, sym}
+use Rattle.std.proofs.Common.{refl, ap}
 use Rattle.engine_laws.specs.Joints.{IsNowLast}
-use Rattle.store_engine.specs.declared.fault.EngineFault.TheVariants.{DiskFault}
-use Rattle.udt_model.specs.declared.reply.Reply.{Reply}
 use Rattle.udt_model.specs.declared.reply.Reply.TheVariants.{Done}
 use Rattle.udt_model.specs.Acts.Act.{sync_all}
 use Rattle.solo_store.specs.Stores.{now_of, store_next}

@@ -15,7 +15,6 @@ use Rattle.solo_store.proofs.Events.{write_wants}
 use Rattle.solo_store.proofs.Faults.{fault_step, faulted_under, refuses_write}
 use Rattle.solo_store.proofs.Files.{write_files}
 use Rattle.solo_store.proofs.Stepping.{quiet}
-use Rattle.solo_store.proofs.Holding.{goes_on_of}
 use Rattle.solo_store.proofs.Naming.{named_batch}
 use Rattle.solo_store.proofs.store.Store.take.Goals as goal
 
@@ -87,6 +86,6 @@ returns g c =
     let act = write ops c.args.sync in
     let done = rw (c.as_ref.ensures, c.in-Ok.ensures) at c.in-Err.ensures in
     let asks : Asks s.names.items (Write c.args.ops.now c.args.sync) act = rw c.deref.ensures.value (asks_write s.names.items c.args.ops.now c.args.sync) in
-    let faulted = faulted_under d f last s c.write.new.self c.args.number act c.in-Err.fault (λ m co h. done.tells m co h) done.refused (λ n is. absurd (write_files (now_of s) ops c.in-Err.fault n done.answers is)) (λ m co h. done.moments m co c.args.number h) done.called in
+    let faulted = faulted_under d f last s c.write.new.self c.args.number act c.requires.works c.in-Err.fault (λ m co h. done.tells m co h) done.refused (λ n is. absurd (write_files (now_of s) ops c.in-Err.fault n done.answers is)) (λ m co h. done.moments m co c.args.number h) done.called in
     subst (λ (r : Reply). IsStep d f s c.refused.new.self c.args.number (Write c.args.ops.now c.args.sync) r) (sym c.refused.ensures.told)
     (fault_step d f last s c.refused.new.self c.write.new.self c.args.number act c.requires.works c.requires.ready (Write c.args.ops.now c.args.sync) asks (refuses_write c.args.ops.now ops c.args.sync) c.in-Err.fault faulted c.refused.ensures.halted)

@@ -1,4 +1,4 @@
-use Rattle.std.proofs.Common.{◌≡◌, ◌≤◌, [], ◌∷◌, arith, None, sym, subst, ap, refl, ◌∙◌}
+use Rattle.std.proofs.Common.{◌≡◌, [], ◌∷◌, arith, None, sym, subst, ap, refl, ◌∙◌}
 use Rattle.manifest_edit.specs.declared.edit.Edit.{Edit}
 use Rattle.manifest_fold.specs.declared.fold.Folded.{Folded}
 use Rattle.manifest_fold.specs.Folds.{IsAccepted}

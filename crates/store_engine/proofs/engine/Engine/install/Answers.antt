@@ -16,11 +16,16 @@ pub returns : goal.returns
 returns g c =
     let d = g.D.Disk in
     let before = c.append_edit.new.self.disk in
-    let now = c.remove_files.new.disk in
-    (c.sync_log.new.self, c.append_edit.new.self, c.in-Ok.ensures, c.in-Ok-append_edit.ensures, record {
-      aside = record { wal = refl; manifest = refl; next = refl; older = refl; failed = refl; touches = subst (λ names. Touches d (Contains names) before now) c.deref.ensures.value c.remove_files.ensures.touches };
-      gone = subst (λ names. IsRemoval d names before now) c.deref.ensures.value c.remove_files.ensures.gone;
-    })
+    let now = c.remove_files.new.disk in (
+      c.sync_log.new.self,
+      c.append_edit.new.self,
+      c.in-Ok.ensures,
+      c.in-Ok-append_edit.ensures,
+      record {
+        aside = record { wal = refl; manifest = refl; next = refl; older = refl; failed = refl; touches = subst (λ names. Touches d (Contains names) before now) c.deref.ensures.value c.remove_files.ensures.touches };
+        gone = subst (λ names. IsRemoval d names before now) c.deref.ensures.value c.remove_files.ensures.gone;
+      },
+    )
 
 pub append_edit-requires-clause-accepted : goal.append_edit-requires-clause-accepted
 append_edit-requires-clause-accepted g c κs within = subst (λ k. IsAccepted (manifest_folded k) c.args.install.now.edit) (sym c.in-Ok.ensures.manifest) c.requires.accepted

@@ -1,4 +1,4 @@
-use Rattle.std.proofs.Common.{◌≡◌, ◌+◌, ◌<◌, ◌≤◌, length, Some, refl, sym, ap, ◌∙◌, subst, arith, inl, inr}
+use Rattle.std.proofs.Common.{◌≡◌, ◌<◌, ◌≤◌, length, Some, refl, sym, subst, arith, inl, inr}
 use Rattle.std.specs.Prelude.{Option, slice_get}
 use Rattle.std.proofs.lemmas.Bool.{cases_lt}
 use Rattle.memtable.specs.Memtables.{versions_of_memtable}
@@ -7,7 +7,7 @@ use Rattle.super_version.specs.declared.family.FamilyState.{FamilyState}
 use Rattle.engine_laws.specs.Joints.{IsNowLast}
 use Rattle.store_engine.specs.Now.{versions_held}
 use Rattle.store_engine.specs.Sealing.{AnswersSeal}
-use Rattle.store_engine.proofs.SealCalls.{active_answers, active_called, active_current, active_holds, active_ran, active_refused, active_shown, active_still, active_tells, full_tells, nothing_tells, still_ran, unknown_tells, waiting_holds, waiting_tells}
+use Rattle.store_engine.proofs.SealCalls.{active_answers, active_called, active_current, active_holds, active_ran, active_refused, active_tells, full_tells, nothing_tells, still_ran, waiting_holds, waiting_tells}
 use Rattle.store_engine.proofs.SealedVersion.{got_within, none_there, some_there}
 use Rattle.store_engine.proofs.engine.Engine.seal.Goals as goal
 
