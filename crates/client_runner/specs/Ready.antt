@@ -5,7 +5,7 @@ use Rattle.udt_disk.specs.declared.file.DiskFile as file
 use Rattle.udt_disk.specs.declared.disk.Disk as disk
 use Rattle.udt_model.specs.Crashes.{course_start}
 use Rattle.client_lang.specs.declared.command.Command.{Command}
-use Rattle.solo_store.specs.Stores.{HoldsStore, IsReady, flush_of}
+use Rattle.solo_store.specs.Stores.{HoldsStore, IsStoreReady, flush_of}
 use Rattle.solo_store.specs.declared.store.Store.{Store}
 use Rattle.udt_model.specs.Histories.{HasFiles, IsSound}
 use Rattle.solo_runner.specs.Expand.{IsSoloHistory}
@@ -93,6 +93,6 @@ IsMessage path stop status text =
 
 -- a store that no event was asked of holds the state of a new one
 pub record HoldsFresh {D F : Type 0} (d : disk.Ghosts D F) (f : file.Ghosts F) (store : Store D F f) : Type 0 where
-  pub ready : IsReady d f store
+  pub ready : IsStoreReady d f store
   pub idle : flush_of store ≡ None
   pub holds : HoldsStore d f store fresh (course_start fresh)

@@ -4,7 +4,7 @@ ghost use Rattle.std.specs.List.{list_any};
 ghost use Rattle.udt_disk.specs.OpensFolder.{KeepsFoldersBut, LeavesNoMoreBut};
 ghost use Rattle.engine_laws.specs.Standing.{head_of};
 ghost use Rattle.store_engine.specs.Parts.{ArePartsOf};
-ghost use Rattle.solo_store.specs.Stores.{IsReady, flush_of};
+ghost use Rattle.solo_store.specs.Stores.{IsStoreReady, flush_of};
 ghost use Rattle.client_runner.specs.Hosts.{UsesFolder, StaysElsewhere, FileStaysOrGoes};
 ghost use Rattle.client_runner.specs.HostRuns.{IsRunAt, IsRunFrom, IsStoppedAt, IsStoppedFrom};
 ghost use Rattle.client_runner.specs.Left.{crashes, status_of_lines as status_of_list, tells_fault as reply_tells};
@@ -83,7 +83,7 @@ fn run_over<D: Disk>(
     header: Vec<u8>,
 ) -> Result<Ready, NoMemory>
     requires can_run { CanRun commands.items lines }
-    requires ready { IsReady D.Disk D.File.DiskFile store.old }
+    requires ready { IsStoreReady D.Disk D.File.DiskFile store.old }
     requires idle { flush_of store.old ≡ None }
     ensures { HasRunOver D.Disk D.File.DiskFile store.old store.new commands.items header.items result }
 {

@@ -24,10 +24,10 @@ use Rattle.udt_model.specs.Histories.{IsLegal, IsSound, Point, Leads, behind, is
 use Rattle.client_lang.specs.declared.command.Command.{Command}
 use Rattle.client_lang.specs.declared.command.Command.TheVariants as commands
 use Rattle.client_lang.specs.Print.{IsBuilt, IsBuiltCommand, IsBuiltLine, IsBuiltReply}
-use Rattle.solo_store.specs.Acting.{course_behind_event, state_behind}
+use Rattle.solo_store.specs.Acting.{course_behind_event, state_behind_event}
 use Rattle.solo_store.specs.Replies.{is_given}
 use Rattle.solo_store.specs.Steps.{IsReplyCause, IsStep, keeps_flush}
-use Rattle.solo_store.specs.Stores.{HoldsStore, IsReady, flush_of, names_of, store_faults}
+use Rattle.solo_store.specs.Stores.{HoldsStore, IsStoreReady, flush_of, names_of, store_faults}
 use Rattle.solo_store.specs.declared.store.RunningFlush.{RunningFlush}
 use Rattle.solo_store.specs.declared.store.Store.{Store}
 use Rattle.solo_runner.specs.Expand.{AreAskedSoFar, Expand, IsAskedRun, IsClient, Task, goes_on, rest_of, first_event}
@@ -171,7 +171,7 @@ module _ {D F : Type 0} (d : disk.Ghosts D F) (f : file.Ghosts F) where
         → HoldsStore d f old p.state (course_behind (start m) c ls) → HoldsStore d f new (behind p said).state (course_behind (start m) c (ls ++ said ∷ []))
     holds_next m p c ls n leads built step holds =
         let course = course_push (start m) p c ls said built leads ∙ ap (λ (k : ℕ). course_behind_event p.state (k + 1) (course_behind (start m) c ls) event reply) n in
-        let state : (behind p said).state ≡ state_behind p.state (number + 1) event reply =
+        let state : (behind p said).state ≡ state_behind_event p.state (number + 1) event reply =
         after_same p.state (p.names who) (p.number + 1) event reply built ∙ ap (λ (k : ℕ). after_event p.state (k + 1) no_names event reply) n in
         subst (λ (x : Course). HoldsStore d f new (behind p said).state x) (sym course)
         (subst (λ (s : State). HoldsStore d f new s (course_behind_event p.state (number + 1) (course_behind (start m) c ls) event reply)) (sym state)
@@ -185,7 +185,7 @@ module _ {D F : Type 0} (d : disk.Ghosts D F) (f : file.Ghosts F) where
 
   -- what lines leave of a store, though a flush may run
   pub record Leaves (old new : Store D F f) (ls : List Line) : Type 0 where
-    pub ready : IsReady d f new
+    pub ready : IsStoreReady d f new
     pub names : names_of new ≡ names_of old
     pub sound : AreSoundUnless (store_faults d f old) (store_faults d f new) ls
     pub later : store_faults d f old ≤ store_faults d f new
@@ -224,7 +224,7 @@ module _ {D F : Type 0} (d : disk.Ghosts D F) (f : file.Ghosts F) where
 
   -- ---- runs
 
-  pub none_ran : (store : Store D F f) (ls : List Line) → ls ≡ [] → IsReady d f store → flush_of store ≡ None → HasRun d f store store [] ls no_mark
+  pub none_ran : (store : Store D F f) (ls : List Line) → ls ≡ [] → IsStoreReady d f store → flush_of store ≡ None → HasRun d f store store [] ls no_mark
   none_ran store ls e ready idle = record {
     led = λ m c holds. subst (λ (xs : List Line). LedTo d f store m c xs no_mark) (sym e) (record { end = start m; legal = refl; number_is = refl; last_is = refl; runner_is = refl; holds = holds });
     asked = subst (λ (xs : List Line). AreAskedSoFar [] xs) (sym e) (record { once = refl; alone = refl });

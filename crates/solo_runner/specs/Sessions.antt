@@ -13,7 +13,7 @@ use Rattle.udt_model.specs.Histories.{IsSound, Leads, Point, start}
 use Rattle.udt_model.specs.Crashes.{Course, course_behind}
 use Rattle.client_lang.specs.declared.command.Command.{Command}
 use Rattle.client_lang.specs.Print.{IsBuiltLine}
-use Rattle.solo_store.specs.Stores.{HoldsStore, IsReady, engine_of, flush_of, halted_of, names_of, store_faults, store_pending}
+use Rattle.solo_store.specs.Stores.{HoldsStore, IsStoreReady, engine_of, flush_of, halted_of, names_of, store_faults, store_pending}
 use Rattle.solo_store.specs.Steps.{IsSameDisk}
 use Rattle.solo_store.specs.declared.store.Store.{Store}
 use Rattle.solo_runner.specs.Expand.{AreAskedSoFar, IsAskedRun}
@@ -44,7 +44,7 @@ module _ {D F : Type 0} (d : disk.Ghosts D F) (f : file.Ghosts F) where
 
   -- what lines leave of a store, whatever it held: the next event may be made, and no flush runs
   pub record GoesOn (old new : Store D F f) (lines : List Line) : Type 0 where
-    pub ready : IsReady d f new
+    pub ready : IsStoreReady d f new
     pub idle : flush_of new ≡ None
     pub names : names_of new ≡ names_of old
     pub sound : AreSoundUnless (store_faults d f old) (store_faults d f new) lines

@@ -5,7 +5,7 @@ ghost use Rattle.client_lang.specs.declared.command.Command.TheVariants as comma
 ghost use Rattle.client_lang.specs.Print.{IsBuiltCommand};
 ghost use Rattle.client_lang.specs.Stamps.{IsStampedCommand, IsStampedEvent};
 ghost use Rattle.solo_store.specs.Steps.{IsStep};
-ghost use Rattle.solo_store.specs.Stores.{IsReady, flush_of};
+ghost use Rattle.solo_store.specs.Stores.{IsStoreReady, flush_of};
 ghost use Rattle.solo_store.specs.declared.store.Store.{Store as StoreOf};
 ghost use Rattle.solo_runner.specs.Sessions.{HasRun, HasSession};
 
@@ -28,7 +28,7 @@ pub struct Ran {
 fn answer<D: Disk>(store: &mut Store<D>, alloc: Global, number: u64, event: &Event) -> Reply
     requires asked { IsBuiltCommand (commands.Line event.now) }
     requires stamped { IsStampedEvent event.now }
-    requires ready { IsReady D.Disk D.File.DiskFile store.old }
+    requires ready { IsStoreReady D.Disk D.File.DiskFile store.old }
     ensures { IsStep D.Disk D.File.DiskFile store.old store.new number event.now result }
 {
     match event {
@@ -55,7 +55,7 @@ fn flush<D: Disk>(
     last: Mark,
     lines: &mut Vec<Line>,
 ) -> Mark
-    requires ready { IsReady D.Disk D.File.DiskFile store.old }
+    requires ready { IsStoreReady D.Disk D.File.DiskFile store.old }
     requires idle { flush_of store.old ≡ None }
     requires number { last.number + 2 < 2 ^ 64 }
     requires sub { last.sub + 2 < 2 ^ 32 }
@@ -91,7 +91,7 @@ fn run_command<D: Disk>(
 ) -> Mark
     requires built { IsBuiltCommand command }
     requires stamped { IsStampedCommand command }
-    requires ready { IsReady D.Disk D.File.DiskFile store.old }
+    requires ready { IsStoreReady D.Disk D.File.DiskFile store.old }
     requires idle { flush_of store.old ≡ None }
     requires number { last.number + 2 < 2 ^ 64 }
     requires sub { last.sub + 2 < 2 ^ 32 }
@@ -120,7 +120,7 @@ pub fn run<D: Disk>(
     requires built { All IsBuiltCommand commands.items }
     requires stamped { All IsStampedCommand commands.items }
     requires few { 2 * length commands.items < 2 ^ 32 - 2 }
-    requires ready { IsReady D.Disk D.File.DiskFile store.old }
+    requires ready { IsStoreReady D.Disk D.File.DiskFile store.old }
     requires idle { flush_of store.old ≡ None }
     requires empty { lines.items ≡ [] }
     requires room { 2 * length commands.items ≤ vec_capacity lines }
@@ -144,7 +144,7 @@ pub fn run_and_sync<D: Disk>(
     requires built { All IsBuiltCommand commands.items }
     requires stamped { All IsStampedCommand commands.items }
     requires few { 2 * length commands.items < 2 ^ 32 - 2 }
-    requires ready { IsReady D.Disk D.File.DiskFile store.old }
+    requires ready { IsStoreReady D.Disk D.File.DiskFile store.old }
     requires idle { flush_of store.old ≡ None }
     requires empty { lines.items ≡ [] }
     requires room { 2 * length commands.items < vec_capacity lines }
