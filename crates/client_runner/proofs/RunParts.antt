@@ -3,8 +3,9 @@ use Rattle.std.proofs.Common.{◌⊎◌, ◌≡◌, inl, inr, ℕ, List, [], ◌
 use Rattle.std.specs.Prelude.{All, None, IfOk, IsTrue, OnOk, Result, Ok, Err}
 use Rattle.std.proofs.lemmas.List.Elements.{All-nil}
 use Rattle.udt_disk.specs.Causes.{Rose}
-use Rattle.udt_disk.specs.Joint.{Folder, IsImage}
-use Rattle.udt_disk.specs.Moments.{IsClean, alone}
+use Rattle.udt_disk.specs.Joint.{Folder, IsImage, Joint, LeavesNow}
+use Rattle.udt_disk.specs.Moments.{IsClean, OnlyReads, alone, holding}
+use Rattle.udt_disk.proofs.Moments.{leaves_all, only_then, stands_all}
 use Rattle.udt_disk.specs.declared.file.DiskFile as file
 use Rattle.udt_disk.specs.declared.disk.Disk as disk
 use Rattle.udt_model.specs.declared.line.FamilyHead.{FamilyHead}
@@ -16,7 +17,8 @@ use Rattle.manifest_fold.specs.declared.fold.FamilyFold.{FamilyFold}
 use Rattle.manifest_fold.specs.declared.fold.Folded.{Folded}
 use Rattle.manifest.specs.Folders.{Means}
 use Rattle.manifest.specs.Folders.Meaning.{store}
-use Rattle.manifest.specs.Manifest.{manifest_folded}
+use Rattle.wal.specs.Wals.{wal_file}
+use Rattle.manifest.specs.Manifest.{manifest_file, manifest_folded}
 use Rattle.manifest.proofs.Meanings.{means_once}
 use Rattle.engine_laws.specs.Standing.{FolderStands, TableSays, family_said, head_of}
 use Rattle.recovery.specs.Opening.{AreLiveClean}
@@ -25,10 +27,10 @@ use Rattle.recovery.specs.declared.opening.Parts.{Parts}
 use Rattle.recovery.proofs.Openings.{clean_live}
 use Rattle.recovery.proofs.Unrefused.{store_once}
 use Rattle.store_engine.specs.Calls.{LeavesOutcomes}
+use Rattle.store_engine.specs.Engines.{held}
 use Rattle.store_engine.specs.Parts.{ArePartsOf}
-use Rattle.udt_disk.specs.Joint.{LeavesNow}
 use Rattle.client_lang.specs.declared.command.Command.{Command}
-use Rattle.solo_store.specs.Stores.{HoldsSince, HoldsStore, halted_of, now_of, parts_faults, store_faults, store_pending}
+use Rattle.solo_store.specs.Stores.{HoldsSince, HoldsStore, engine_of, halted_of, now_of, parts_faults, store_faults, store_pending}
 use Rattle.solo_store.specs.declared.store.Store.{Store}
 use Rattle.solo_runner.specs.Sessions.{AreSoundUnless, HasSession, IsUnhalted}
 use Rattle.client_runner.specs.Left.{GoesOnFrom, MayBeLeft, status_of_lines, tells_fault}
@@ -56,12 +58,13 @@ module _ {D F : Type 0} (d : disk.Ghosts D F) (f : file.Ghosts F) where
   pub record IsStoreOf (parts : Parts D F f) (first : Store D F f) : Type 0 where
     pub works : halted_of first ≡ None
     pub shown : now_of first ≡ parts.version
-    pub pending : store_pending first ≡ 0
+    pub held : held (engine_of first) ≡ holding parts.disk (wal_file parts.wal ∷ manifest_file parts.manifest ∷ [])
     pub faults : store_faults d f first ≡ parts_faults d f parts
     pub holds : (old : D) (m : State) → ArePartsOf d f old parts → IsTrue (d.is_told old) → AreLiveClean d old (manifest_folded parts.manifest) → FolderStands ReadsAsTable (d.stands old) m → HoldsStore d f first m (course_start m)
 
   -- the store gave its folder back
   pub record IsClosed (now : Store D F f) (new : D) : Type 0 where
+    pub reads : OnlyReads d f (held (engine_of now)) (alone new)
     pub leaves : (m : State) (c : Course) → HoldsStore d f now m c → LeavesOutcomes d f m c (alone new)
     pub whole : (m : State) (c : Course) → HoldsStore d f now m c → halted_of now ≡ None → store_pending now ≡ 0 → LeavesNow d f (λ folder. FolderStands ReadsAsTable folder (settled m)) (alone new)
     pub counted : d.faults new ≡ store_faults d f now
@@ -114,19 +117,11 @@ module _ {D F : Type 0} (d : disk.Ghosts D F) (f : file.Ghosts F) where
             goes_on opened new parts first now m over.lines e.end of told stands of_parts closed holds e.legal e.holds (λ done. s.settled (session_syncs m commands over.lines e.end e.legal s.asked done)));
       }
 
-  -- where there was none, no line was made
-  pub parts_unmade : {E : Type 0} (parts : Parts D F f) (new : D) (first : Store D F f) (commands : List Command) (e : E) → IsStoreOf parts first → IsClosed first new → HasRunParts d f parts new commands (Err e)
-  parts_unmade parts new first commands e of_parts closed = record {
-    lines = [];
-    all_or_none = inl refl;
-    ready = tt;
-    quiet = inl (All-nil (λ (l : Line). tells_fault l.reply ≡ false));
-    left = λ opened of. inr (λ told clean m stands.
-        let holds = of_parts.holds opened m of told (clean_live d opened (manifest_folded parts.manifest) clean) stands in
-        goes_on opened new parts first first m [] (start m) of told stands of_parts closed holds refl holds (λ done. (of_parts.works, of_parts.pending)));
-  }
+  -- calls that only read leave a folder as it was
+  pub same_by : (opened new : D) → OnlyReads d f (alone opened) (alone new) → IsSameFolder d opened new
+  same_by opened new reads = record { stands = λ told n. stands_all d f opened new reads told n; no_more = λ n image left. leaves_all d f opened new reads n image left }
 
-  -- nor was one where there was none for the store
+  -- where there was no memory for the store, no line was made
   pub parts_given_up : {E : Type 0} (parts : Parts D F f) (new : D) (commands : List Command) (e : E) → ((opened : D) → ArePartsOf d f opened parts → IsSameFolder d opened new) → HasRunParts d f parts new commands (Err e)
   parts_given_up parts new commands e same = record {
     lines = [];
@@ -135,3 +130,8 @@ module _ {D F : Type 0} (d : disk.Ghosts D F) (f : file.Ghosts F) where
     quiet = inl (All-nil (λ (l : Line). tells_fault l.reply ≡ false));
     left = λ opened of. inl ((λ is. cc is), same opened of);
   }
+
+  -- nor was one where there was none for the header
+  pub parts_unmade : {E : Type 0} (parts : Parts D F f) (new : D) (first : Store D F f) (commands : List Command) (e : E) → IsStoreOf parts first → IsClosed first new → HasRunParts d f parts new commands (Err e)
+  parts_unmade parts new first commands e of_parts closed =
+      parts_given_up parts new commands e (λ opened of. same_by opened new (only_then d f (λ n. ⊥) (alone opened) (held (engine_of first)) (alone new) (subst (λ (j : Joint D F). OnlyReads d f (alone opened) j) (sym of_parts.held) of.reads) closed.reads))

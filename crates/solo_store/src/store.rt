@@ -230,6 +230,7 @@ impl<D: Disk> Store<D> {
     /// Gives the folder back. It writes nothing, so what waits is lost.
     pub fn close(self) -> D
         requires { IsStoreReady D.Disk D.File.DiskFile self }
+        ensures reads { OnlyReads D.Disk D.File.DiskFile (held (engine_of self)) (alone result) }
         ensures leaves { (m : State) (c : Course) → HoldsStore D.Disk D.File.DiskFile self m c → LeavesOutcomes D.Disk D.File.DiskFile m c (alone result) }
         // All there is where nothing waits.
         ensures whole { (m : State) (c : Course) → HoldsStore D.Disk D.File.DiskFile self m c → self.halted ≡ None

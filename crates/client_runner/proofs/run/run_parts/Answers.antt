@@ -1,7 +1,6 @@
 use Rattle.std.proofs.Common.{◌≡◌, sym, ap, ◌∙◌, subst}
-use Rattle.udt_disk.proofs.Moments.{stands_all, leaves_all}
 use Rattle.client_runner.specs.Runs.{HasRunParts}
-use Rattle.client_runner.proofs.RunParts.{IsClosed, IsStoreOf, parts_given_up, parts_over, parts_unmade}
+use Rattle.client_runner.proofs.RunParts.{IsClosed, IsStoreOf, parts_given_up, parts_over, parts_unmade, same_by}
 use Rattle.client_runner.proofs.run.run_parts.Goals.{in-Ok-header, in-Err-header}
 use Rattle.client_runner.proofs.run.run_parts.Goals as goal
 
@@ -14,8 +13,8 @@ returns-clause-run g c =
     let e = c.in-Ok.ensures in
     let first = c.in-Ok.store in
     let new = c.close.result in
-    let of_parts : IsStoreOf d f parts first = record { works = e.idle.0; shown = e.shown; pending = e.pending; faults = e.counted; holds = e.holds } in
-    let closed : IsClosed d f c.match-header-2.store new = record { leaves = c.close.ensures.leaves; whole = c.close.ensures.whole; counted = c.close.ensures.counted } in
+    let of_parts : IsStoreOf d f parts first = record { works = e.idle.0; shown = e.shown; held = e.held; faults = e.counted; holds = e.holds } in
+    let closed : IsClosed d f c.match-header-2.store new = record { reads = c.close.ensures.reads; leaves = c.close.ensures.leaves; whole = c.close.ensures.whole; counted = c.close.ensures.counted } in
     elim c.match-header-2.branch [
       | in-Ok-header w ↦
           subst (HasRunParts d f parts new commands) (sym w.ready-is)
@@ -48,7 +47,7 @@ returns-in-Err-clause-run g c =
     let d = g.D.Disk in
     let f = g.D.File.DiskFile in
     parts_given_up d f c.args.parts c.in-Err.disk c.args.commands.items _
-    (λ opened of. let reads = c.in-Err.ensures.closed opened of in record { stands = λ told n. stands_all d f opened c.in-Err.disk reads told n; no_more = λ n image left. leaves_all d f opened c.in-Err.disk reads n image left })
+    (λ opened of. same_by d f opened c.in-Err.disk (c.in-Err.ensures.closed opened of))
 
 pub returns-in-Err-clause-told : goal.returns-in-Err-clause-told
 returns-in-Err-clause-told g c = let of = c.requires.parts in (c.in-Err.ensures.closed of.0 of.1).told ∙ sym of.1.reads.told
