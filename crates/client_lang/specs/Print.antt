@@ -119,19 +119,19 @@ abbrev pub IsBuiltReply : Reply → Type 0
 IsBuiltReply reply = HasParts (reply_parts reply)
 
 -- The reply refuses what was asked. What a read below the floor is told counts among these.
-abbrev pub IsRefusal : Reply → Type 0
-IsRefusal (replies.Below op floor) = Unit {0}
-IsRefusal (replies.Fell op newest) = Unit {0}
-IsRefusal (replies.Full last) = Unit {0}
-IsRefusal (replies.Collapsed floor) = Unit {0}
-IsRefusal (replies.Busy start) = Unit {0}
-IsRefusal (replies.Files next) = Unit {0}
-IsRefusal replies.Unknown = Unit {0}
-IsRefusal (replies.Halted since) = Unit {0}
-IsRefusal replies.Fault = Unit {0}
-IsRefusal replies.NoMemory = Unit {0}
-IsRefusal replies.History = Unit {0}
-IsRefusal reply = ⊥
+abbrev pub IsRefusalReply : Reply → Type 0
+IsRefusalReply (replies.Below op floor) = Unit {0}
+IsRefusalReply (replies.Fell op newest) = Unit {0}
+IsRefusalReply (replies.Full last) = Unit {0}
+IsRefusalReply (replies.Collapsed floor) = Unit {0}
+IsRefusalReply (replies.Busy start) = Unit {0}
+IsRefusalReply (replies.Files next) = Unit {0}
+IsRefusalReply replies.Unknown = Unit {0}
+IsRefusalReply (replies.Halted since) = Unit {0}
+IsRefusalReply replies.Fault = Unit {0}
+IsRefusalReply replies.NoMemory = Unit {0}
+IsRefusalReply replies.History = Unit {0}
+IsRefusalReply reply = ⊥
 
 -- the words of a reply that is built
 abbrev pub reply_words : Reply → List (List ℕ)

@@ -457,7 +457,7 @@ fn push_reply(out: &mut Vec<u8>, reply: &Reply) -> Result<(), NoMemory>
 
 /// Adds the words of a reply that refuses what was asked.
 fn push_refusal(out: &mut Vec<u8>, reply: &Reply) -> Result<(), NoMemory>
-    requires { printed.IsRefusal reply.now }
+    requires { printed.IsRefusalReply reply.now }
     ensures { Pushes out.old out.new result (followed (printed.reply_words reply.now)) }
 {
     match reply {
