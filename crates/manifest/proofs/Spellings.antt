@@ -1,5 +1,5 @@
 -- Bytes spell one thing at most.
-use Rattle.std.proofs.Common.{◌≡◌, ◌==◌, ℕ, ◌<◌, true, false, List, [], ◌∷◌, ◌++◌, length, take, drop, refl, sym, ap, ◌∙◌, arith, append_assoc}
+use Rattle.std.proofs.Common.{◌≡◌, ◌==◌, ◌×◌, ℕ, ◌^◌, ◌<◌, ◌≤◌, true, false, List, [], ◌∷◌, ◌++◌, length, length-append, take, drop, get_or, refl, sym, ap, ◌∙◌, arith, append_assoc}
 use Rattle.std.specs.List.{All, flat_map}
 use Rattle.std.proofs.lemmas.List.{take-append-drop, take_at, drop_at}
 use Rattle.std.proofs.lemmas.List.Elements.{All-head, All-tail}
@@ -128,6 +128,26 @@ families_of body families h = ap (drop 6) h.is
 
 spelled_of : (body : List ℕ) (families : List FamilyHead) (count : ℕ) → count ≡ length families → IsHead body families → AreSpelled (drop 6 body) count families
 spelled_of body families count counted h = record { long = sym counted; new = h.new.each; named = h.named; is = families_of body families h }
+
+-- ---- what no head has
+
+pub six_bytes : (body : List ℕ) (families : List FamilyHead) → IsHead body families → 6 ≤ length body
+six_bytes body families h =
+    let both = length-append (number_bytes 4 (length families)) (flat_map family_text families) in
+    let four = length-number_bytes 4 (length families) in
+    let long : length body ≡ length (1 ∷ 1 ∷ (number_bytes 4 (length families) ++ flat_map family_text families)) = ap length h.is in
+    omega arith
+
+pub kind_is : (body : List ℕ) (families : List FamilyHead) → IsHead body families → get_or body 0 0 ≡ 1
+kind_is body families h = ap (λ (l : List ℕ). get_or l 0 0) h.is
+
+pub version_is : (body : List ℕ) (families : List FamilyHead) → IsHead body families → get_or body 1 0 ≡ 1
+version_is body families h = ap (λ (l : List ℕ). get_or l 1 0) h.is
+
+pub count_within : (body : List ℕ) (families : List FamilyHead) (count : ℕ) → count < 2 ^ 32 → take 4 (drop 2 body) ≡ number_bytes 4 count → IsHead body families → (1 ≤ count) × (count ≤ 16)
+count_within body families count fits counted h =
+    let same = count_of body families count fits counted h in
+    (omega (arith, h.new.some), omega (arith, h.new.few))
 
 -- so many families are one list
 pub spelled_once : (bytes : List ℕ) (count : ℕ) (fs gs : List FamilyHead) → AreSpelled bytes count fs → AreSpelled bytes count gs → fs ≡ gs
