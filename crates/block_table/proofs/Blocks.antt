@@ -4,7 +4,7 @@ use Rattle.std.specs.List.{AllByRecursion, slice_range}
 use Rattle.std.proofs.lemmas.List.{append-nil, take_at, drop_at, take_all, take_more, take-append-drop, length-take-le}
 use Rattle.std.proofs.Math.Seq.{take-add}
 use Rattle.ts_key.specs.Items.{Item}
-use Rattle.ts_key.specs.Lists.{IsSorted, joined}
+use Rattle.ts_key.specs.Lists.{IsSorted, joined_lists}
 use Rattle.ts_key.specs.declared.version.Form.{Form}
 use Rattle.data_block.specs.Grammar.{block, IsBlock}
 use Rattle.data_block.proofs.Joins.{sorted_join}
@@ -76,7 +76,7 @@ module _ (form : Form) (image : List ℕ) (end : ℕ) (hs : List BlockHandle) (f
       h-is ∙ ap (λ (ks : List BlockHandle). get_or ks n h) (a.handles ∙ ap (handles form 0) is) ∙ ap (λ (m : ℕ). get_or (handles form 0 (done ++ vs ∷ rest)) m h) (sym r.count)
       ∙ handle_at form 0 done vs rest h ∙ ap (λ (m : ℕ). handle_of form m vs) (omega (arith, r.place)) in
       let hs-len : length hs ≡ length done + (1 + length rest) = ap length (a.handles ∙ ap (handles form 0) is) ∙ length-handles form 0 (done ++ vs ∷ rest) ∙ length-append done (vs ∷ rest) ∙ ap (λ (m : ℕ). length done + m) (omega arith) in
-      let sorted : IsSorted (items ++ (vs ++ joined rest)) = subst IsSorted (ap joined is ∙ joined_append done (vs ∷ rest) ∙ ap (λ (us : List Item). us ++ (vs ++ joined rest)) (sym r.versions)) a.sorted in
+      let sorted : IsSorted (items ++ (vs ++ joined_lists rest)) = subst IsSorted (ap joined_lists is ∙ joined_append done (vs ∷ rest) ∙ ap (λ (us : List Item). us ++ (vs ++ joined_lists rest)) (sym r.versions)) a.sorted in
       record {
         vs = vs;
         rest = rest;
@@ -88,7 +88,7 @@ module _ (form : Form) (image : List ℕ) (end : ℕ) (hs : List BlockHandle) (f
           handle = handle;
           in_time = cut.0;
           full = λ no. cut.1 (omega (arith, more no, hs-len, r.count));
-          follows = comes_after_in items vs (joined rest) sorted;
+          follows = comes_after_in items vs (joined_lists rest) sorted;
         };
       }
 

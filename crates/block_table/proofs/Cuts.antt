@@ -3,7 +3,7 @@ use Rattle.std.proofs.Common.{◌≡◌, ℕ, suc, ◌+◌, ◌<◌, List, [], �
 use Rattle.std.specs.List.{AllByRecursion}
 use Rattle.std.proofs.lemmas.List.{append_assoc, append-nil}
 use Rattle.ts_key.specs.Items.{Item}
-use Rattle.ts_key.specs.Lists.{joined}
+use Rattle.ts_key.specs.Lists.{joined_lists}
 use Rattle.ts_key.specs.declared.version.Form.{Form}
 use Rattle.data_block.specs.Grammar.{block_target, entries, block_entries, block, entry_of, last_key}
 use Rattle.data_block.proofs.Written.{entries_snoc}
@@ -14,9 +14,9 @@ use Rattle.block_table.specs.Gathering.{handle_of}
 
 -- ---- one more
 
-pub joined_more : (done : List (List Item)) (vs : List Item) → joined (done ++ vs ∷ []) ≡ joined done ++ vs
+pub joined_more : (done : List (List Item)) (vs : List Item) → joined_lists (done ++ vs ∷ []) ≡ joined_lists done ++ vs
 joined_more [] vs = append-nil vs
-joined_more (ws ∷ done) vs = ap (λ (xs : List Item). ws ++ xs) (joined_more done vs) ∙ sym (append_assoc ws (joined done) vs)
+joined_more (ws ∷ done) vs = ap (λ (xs : List Item). ws ++ xs) (joined_more done vs) ∙ sym (append_assoc ws (joined_lists done) vs)
 
 pub blocks_more : (form : Form) (done : List (List Item)) (vs : List Item) → blocks form (done ++ vs ∷ []) ≡ blocks form done ++ block form vs
 blocks_more form [] vs = append-nil (block form vs)

@@ -5,7 +5,7 @@ use Rattle.std.specs.declared.cmp.Ordering.TheVariants.{Less}
 use Rattle.ts_key.specs.Order.{sort_cmp}
 use Rattle.ts_key.specs.declared.version.Version.{Version}
 use Rattle.ts_key.specs.Items.{Item, item_of, items_of}
-use Rattle.ts_key.specs.Lists.{IsSorted, joined}
+use Rattle.ts_key.specs.Lists.{IsSorted, joined_lists}
 use Rattle.data_block.specs.Reading.{EndsBefore}
 use Rattle.data_block.specs.Gathered.{ComesAfter}
 
@@ -54,6 +54,6 @@ sorted_right (x ∷ xs) ys s = sorted_right xs ys s.1
 
 -- ---- joined lists
 
-pub joined_append : (xs ys : List (List Item)) → joined (xs ++ ys) ≡ joined xs ++ joined ys
+pub joined_append : (xs ys : List (List Item)) → joined_lists (xs ++ ys) ≡ joined_lists xs ++ joined_lists ys
 joined_append [] ys = refl
-joined_append (x ∷ xs) ys = ap (λ (vs : List Item). x ++ vs) (joined_append xs ys) ∙ sym (append_assoc x (joined xs) (joined ys))
+joined_append (x ∷ xs) ys = ap (λ (vs : List Item). x ++ vs) (joined_append xs ys) ∙ sym (append_assoc x (joined_lists xs) (joined_lists ys))

@@ -4,7 +4,7 @@ use Rattle.std.specs.List.{AllByRecursion}
 use Rattle.std.proofs.lemmas.Bool.{cases_lt}
 use Rattle.std.proofs.lemmas.List.{append-nil}
 use Rattle.ts_key.specs.Items.{Item}
-use Rattle.ts_key.specs.Lists.{IsSorted, joined}
+use Rattle.ts_key.specs.Lists.{IsSorted, joined_lists}
 use Rattle.ts_key.specs.declared.version.Form.{Form}
 use Rattle.data_block.specs.Grammar.{block_target, entries, block_entries, block, IsBlock}
 use Rattle.data_block.specs.Written.{Written, HasWritten}
@@ -15,7 +15,7 @@ use Rattle.block_table.specs.declared.writer.TableWriter.{TableWriter}
 use Rattle.block_table.specs.Contents.{Contents, properties_of}
 use Rattle.block_table.specs.Tables.{IsFull, blocks, handles, index, properties, IsTable}
 use Rattle.block_table.specs.Ranges.{IsRangeOf}
-use Rattle.block_table.specs.Pushed.{IsReadable, IsOpen, IsBehind, IsDone, HasPushed, HaveBlockBytes, IsClosed, IsSpelled}
+use Rattle.block_table.specs.Pushed.{IsReadable, IsOpen, IsBehind, IsDone, HasPushed, HaveBlockBytes, AreBlocksDone, IsSpelled}
 use Rattle.block_table.specs.Gathering.{handle_of}
 use Rattle.block_table.proofs.Cuts.{joined_more, blocks_more, handles_more, cut_more, cut_done, ends_with, ends_open}
 use Rattle.block_table.proofs.Lists.{sorted_left, sorted_right}
@@ -42,8 +42,8 @@ index_more form done vs old new h o at len n e =
     let h-is : h ≡ handle_of form (0 + length (blocks form done)) vs = λ i. record { offset = at0 i; length = len i; versions = n i } in
     e ∙ (λ i. o i ++ h-is i ∷ []) ∙ sym (handles_more form 0 done vs)
 
-pub items_moved : (done : List (List Item)) (vs items : List Item) → items ≡ joined done ++ vs → items ≡ joined (done ++ vs ∷ []) ++ []
-items_moved done vs items e = e ∙ sym (joined_more done vs) ∙ sym (append-nil (joined (done ++ vs ∷ [])))
+pub items_moved : (done : List (List Item)) (vs items : List Item) → items ≡ joined_lists done ++ vs → items ≡ joined_lists (done ++ vs ∷ []) ++ []
+items_moved done vs items e = e ∙ sym (joined_more done vs) ∙ sym (append-nil (joined_lists (done ++ vs ∷ [])))
 
 some_done : (form : Form) (done : List (List Item)) → AllByRecursion (IsDone form) done → AllByRecursion (λ vs. 0 < length vs) done
 unfolding entries
@@ -51,25 +51,25 @@ some_done form [] each = tt
 some_done form ([] ∷ done) each = let f : block_target ≤ length (block_entries form []) = each.0.full in absurd (omega (arith, f))
 some_done form ((v ∷ vs) ∷ done) each = (omega arith, some_done form done each.1)
 
-has_done : (done : List (List Item)) (items : List Item) → items ≡ joined done → 0 < length items → 0 < length done
+has_done : (done : List (List Item)) (items : List Item) → items ≡ joined_lists done → 0 < length items → 0 < length done
 has_done [] items e some = omega (arith, ap length e, some)
 has_done (vs ∷ done) items e some = omega arith
 
-closed_on : (w : TableWriter) (t : Contents) (done : List (List Item)) (os : List Item) → AllByRecursion (IsDone t.form) done → 0 < length t.items → length os ≡ 0 → IsBehind w t done os → IsClosed w t done
+closed_on : (w : TableWriter) (t : Contents) (done : List (List Item)) (os : List Item) → AllByRecursion (IsDone t.form) done → 0 < length t.items → length os ≡ 0 → IsBehind w t done os → AreBlocksDone w t done
 closed_on w t done [] each some l b = record {
   behind = b;
-  some = has_done done t.items (b.items ∙ append-nil (joined done)) some;
+  some = has_done done t.items (b.items ∙ append-nil (joined_lists done)) some;
   cut = cut_done t.form done each;
   some_each = some_done t.form done each;
 }
 closed_on w t done (v ∷ os) each some l b = absurd (omega (arith, l))
 
 -- a writer with no open block
-pub closed_none : (w : TableWriter) (t : Contents) (h : HasPushed w t) → 0 < length t.items → w.versions ≡ 0 → IsClosed w t h.done
+pub closed_none : (w : TableWriter) (t : Contents) (h : HasPushed w t) → 0 < length t.items → w.versions ≡ 0 → AreBlocksDone w t h.done
 closed_none w t h some none = closed_on w t h.done h.open_items h.each some (sym h.behind.versions ∙ none) h.behind
 
 -- a writer whose open block was put behind the others
-pub closed_last : (w : TableWriter) (t : Contents) (done : List (List Item)) (vs : List Item) → AllByRecursion (IsDone t.form) done → length (block_entries t.form vs) < block_target → 0 < length vs → IsBehind w t (done ++ vs ∷ []) [] → IsClosed w t (done ++ vs ∷ [])
+pub closed_last : (w : TableWriter) (t : Contents) (done : List (List Item)) (vs : List Item) → AllByRecursion (IsDone t.form) done → length (block_entries t.form vs) < block_target → 0 < length vs → IsBehind w t (done ++ vs ∷ []) [] → AreBlocksDone w t (done ++ vs ∷ [])
 closed_last w t done vs each room some b = record {
   behind = b;
   some = omega (arith, length-append done (vs ∷ []));
@@ -102,7 +102,7 @@ push_full w t done os v each room full b o = record {
 bytes_on : (w : TableWriter) (t : Contents) (done : List (List Item)) (os : List Item) → AllByRecursion (IsDone t.form) done → length os ≡ 0 → IsBehind w t done os → HaveBlockBytes t (length w.blocks.items)
 bytes_on w t done [] each l b = record {
   cuts = done;
-  joins = b.items ∙ append-nil (joined done);
+  joins = b.items ∙ append-nil (joined_lists done);
   cut = cut_done t.form done each;
   some_each = some_done t.form done each;
   bytes = ap length b.bytes;
@@ -143,10 +143,10 @@ told_properties w t cuts r b e =
     }
 
 -- what was spelled is a table, where it is sorted
-are_blocks : (form : Form) (cuts : List (List Item)) → AllByRecursion (IsReadable form) cuts → AllByRecursion (λ vs. 0 < length vs) cuts → IsSorted (joined cuts) → AllByRecursion (IsBlock form) cuts
+are_blocks : (form : Form) (cuts : List (List Item)) → AllByRecursion (IsReadable form) cuts → AllByRecursion (λ vs. 0 < length vs) cuts → IsSorted (joined_lists cuts) → AllByRecursion (IsBlock form) cuts
 are_blocks form [] readable some sorted = tt
 are_blocks form (vs ∷ cuts) readable some sorted =
-    (readable.0 (sorted_left vs (joined cuts) sorted) some.0, are_blocks form cuts readable.1 some.1 (sorted_right vs (joined cuts) sorted))
+    (readable.0 (sorted_left vs (joined_lists cuts) sorted) some.0, are_blocks form cuts readable.1 some.1 (sorted_right vs (joined_lists cuts) sorted))
 
 pub spelled_table : (t : Contents) (image : List ℕ) → IsSpelled t image → IsSorted t.items → length image < 2 ^ 64 → IsTable t image
 spelled_table t image s sorted small = record {

@@ -4,7 +4,7 @@ use Rattle.std.specs.List.{AllByRecursion}
 use Rattle.std.proofs.lemmas.List.{take_at}
 use Rattle.ts_key.specs.Numbers.{number_bytes}
 use Rattle.ts_key.specs.Items.{Item}
-use Rattle.ts_key.specs.Lists.{IsSorted, joined}
+use Rattle.ts_key.specs.Lists.{IsSorted, joined_lists}
 use Rattle.ts_key.specs.declared.version.Form.{Form}
 use Rattle.data_block.specs.Grammar.{block}
 use Rattle.data_block.proofs.Fielded.{cut}
@@ -13,7 +13,7 @@ use Rattle.block_table.specs.declared.parts.Head.{Head}
 use Rattle.block_table.specs.declared.properties.Properties.{Properties}
 use Rattle.block_table.specs.Contents.{Contents, properties_of}
 use Rattle.block_table.specs.Tables.{magic, footer, with_footer, blocks, handles, index, properties, IsTable}
-use Rattle.block_table.specs.Parts.{ReadsParts, FitsHead, FitsFound, IsHead}
+use Rattle.block_table.specs.Parts.{ReadsParts, FitsHead, FitsFound, IsFoundHead}
 use Rattle.block_table.specs.Indexes.{IsHandle, AreHandles}
 use Rattle.std.specs.Prelude.{Result, Err, None}
 use Rattle.block_table.specs.declared.fault.TableFault.{TableFault}
@@ -72,9 +72,9 @@ pub moved_blocks : (form : Form) (image other : List ℕ) (end to : ℕ) (hs ks 
 moved_blocks form image other end to hs ks r a b c h =
     subst (λ (xs : List BlockHandle). ReadsBlocks form other to xs r) c (subst (λ (n : ℕ). ReadsBlocks form other n hs r) b (subst (λ (bs : List ℕ). ReadsBlocks form bs end hs r) a h))
 
-some_on : (form : Form) (image : List ℕ) (end : ℕ) (hs : List BlockHandle) (items : List Item) (cuts : List (List Item)) → AreBlocksOf form image end hs cuts → items ≡ joined cuts → 0 < length items
+some_on : (form : Form) (image : List ℕ) (end : ℕ) (hs : List BlockHandle) (items : List Item) (cuts : List (List Item)) → AreBlocksOf form image end hs cuts → items ≡ joined_lists cuts → 0 < length items
 some_on form image end hs items [] a e = absurd (let s = a.some in omega (arith, s))
-some_on form image end hs items (vs ∷ rest) a e = let s = a.each.0.some in omega (arith, s, ap length e, length-append vs (joined rest))
+some_on form image end hs items (vs ∷ rest) a e = let s = a.each.0.some in omega (arith, s, ap length e, length-append vs (joined_lists rest))
 
 -- blocks that were read have a version
 pub some_read : (form : Form) (image : List ℕ) (end : ℕ) (hs : List BlockHandle) (items : List Item) → AreOnlyBlocksOf form image end hs items → 0 < length items
@@ -114,7 +114,7 @@ module _ (image b i p : List ℕ) (is : image ≡ with_footer b i p) (small : le
   pub no_index : ((hs : List BlockHandle) → AreHandles hs → i ≡ index hs → ⊥) → (t : Contents) → IsTable t image → ⊥
   no_index none t h = let w = told t h in none (handles t.form 0 h.cuts) (own_handles t h) w.1
 
-  module _ (head : Head) (knows : (q : Properties) → FitsHead q → p ≡ properties q → IsHead q (Some head)) (hs : List BlockHandle) (are : AreHandles hs) (index-is : i ≡ index hs) where
+  module _ (head : Head) (knows : (q : Properties) → FitsHead q → p ≡ properties q → IsFoundHead q (Some head)) (hs : List BlockHandle) (are : AreHandles hs) (index-is : i ≡ index hs) where
     -- the blocks of a table stand where its handles say
     pub its_blocks : (t : Contents) (h : IsTable t image) → AreBlocksOf head.form image (length b) hs h.cuts
     its_blocks t h =
@@ -142,7 +142,7 @@ module _ (image b i p : List ℕ) (is : image ≡ with_footer b i p) (small : le
       one t h =
           let w = told t h in
           let k = knows (properties_of t) (fits_of t h) w.2 in
-          let is-items : t.items ≡ items = h.blocks.joins ∙ ap joined (own.only h.cuts (its_blocks t h)) ∙ sym own.joins in
+          let is-items : t.items ≡ items = h.blocks.joins ∙ ap joined_lists (own.only h.cuts (its_blocks t h)) ∙ sym own.joins in
           λ j. record { family = sym k.family j; form = sym k.form j; collected_by = sym k.collected_by j; items = is-items j }
 
       pub other_properties : (p ≡ properties q → ⊥) → (t : Contents) → IsTable t image → ⊥

@@ -2,7 +2,7 @@
 use Rattle.std.proofs.Common.{◌≡◌, ℕ, ◌+◌, ◌^◌, ◌<◌, List, [], ◌∷◌, length, get_or, drop, refl, sym, ap, subst, ◌∙◌, arith}
 use Rattle.std.specs.List.{AllByRecursion}
 use Rattle.ts_key.specs.Items.{Item}
-use Rattle.ts_key.specs.Lists.{joined}
+use Rattle.ts_key.specs.Lists.{joined_lists}
 use Rattle.ts_key.specs.declared.version.Form.{Form}
 use Rattle.data_block.specs.Grammar.{block, IsBlock}
 use Rattle.data_block.proofs.Faulting.{blocks_unique}
@@ -46,5 +46,5 @@ tables_once image t u small x y =
     let same-handles : handles t.form 0 x.cuts ≡ handles t.form 0 y.cuts = its ∙ ap (λ (f : Form). handles f 0 y.cuts) (sym form) in
     let same-blocks : blocks t.form x.cuts ≡ blocks t.form y.cuts = w.0 ∙ ap (λ (f : Form). blocks f y.cuts) (sym form) in
     let cuts : x.cuts ≡ y.cuts = cuts_once t.form 0 x.cuts y.cuts x.blocks.each each same-handles same-blocks in
-    let items : t.items ≡ u.items = x.blocks.joins ∙ ap joined cuts ∙ sym y.blocks.joins in
+    let items : t.items ≡ u.items = x.blocks.joins ∙ ap joined_lists cuts ∙ sym y.blocks.joins in
     λ i. record { family = family i; form = form i; collected_by = floor i; items = items i }

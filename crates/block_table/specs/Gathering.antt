@@ -2,7 +2,7 @@
 use Rattle.std.specs.Prelude.{◌≡◌, ℕ, ◌+◌, ◌<◌, ◌≤◌, Bool, true, false, List, ◌++◌, length, take, slice_range, Result, Ok, Err, ⊤, ◌⊎◌}
 use Rattle.std.specs.List.{AllByRecursion}
 use Rattle.ts_key.specs.Items.{Item}
-use Rattle.ts_key.specs.Lists.{IsSorted, joined}
+use Rattle.ts_key.specs.Lists.{IsSorted, joined_lists}
 use Rattle.ts_key.specs.declared.version.Form.{Form}
 use Rattle.data_block.specs.Grammar.{block_target, block, IsBlock}
 use Rattle.data_block.specs.declared.gather.BlockCut.{BlockCut}
@@ -52,7 +52,7 @@ pub record AreBlocksOf (form : Form) (image : List ℕ) (end : ℕ) (hs : List B
   pub some : 0 < length cuts
   pub cut : AreCut form cuts
   pub each : AllByRecursion (IsBlock form) cuts
-  pub sorted : IsSorted (joined cuts)
+  pub sorted : IsSorted (joined_lists cuts)
   pub handles : hs ≡ handles form 0 cuts
   pub spelled : take end image ≡ blocks form cuts
 
@@ -60,7 +60,7 @@ pub record AreBlocksOf (form : Form) (image : List ℕ) (end : ℕ) (hs : List B
 pub record AreOnlyBlocksOf (form : Form) (image : List ℕ) (end : ℕ) (hs : List BlockHandle) (items : List Item) : Type 0 where
   pub cuts : List (List Item)
   pub are : AreBlocksOf form image end hs cuts
-  pub joins : items ≡ joined cuts
+  pub joins : items ≡ joined_lists cuts
   pub only : (others : List (List Item)) → AreBlocksOf form image end hs others → others ≡ cuts
 
 -- such blocks were read; or there are none
@@ -80,7 +80,7 @@ pub record HasReadBlocks (form : Form) (image : List ℕ) (end : ℕ) (hs : List
   pub full : n < length hs → AllByRecursion (IsDone form) done
   pub each : AllByRecursion (IsBlock form) done
   pub handles : handles form 0 done ≡ take n hs
-  pub versions : items ≡ joined done
+  pub versions : items ≡ joined_lists done
   pub sorted : IsSorted items
   -- no other blocks are there
   pub only : (cuts : List (List Item)) → AreBlocksOf form image end hs cuts → (rest : List (List Item)) × (cuts ≡ done ++ rest)

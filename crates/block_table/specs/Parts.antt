@@ -27,6 +27,6 @@ pub record IsHeadOf (p : Properties) (h : Head) : Type 0 where
   pub collected_by : h.collected_by.0 ≡ p.collected_by.0
 
 -- what was found is what these properties say
-abbrev pub IsHead : Properties → Option Head → Type 0
-IsHead p None = ⊥
-IsHead p (Some h) = IsHeadOf p h
+abbrev pub IsFoundHead : Properties → Option Head → Type 0
+IsFoundHead p None = ⊥
+IsFoundHead p (Some h) = IsHeadOf p h

@@ -2,7 +2,7 @@
 use Rattle.std.specs.Prelude.{◌≡◌, ℕ, ◌<◌, ◌^◌, List, [], ◌∷◌, ◌++◌, length}
 use Rattle.std.specs.List.{AllByRecursion}
 use Rattle.ts_key.specs.Items.{Item, item_of}
-use Rattle.ts_key.specs.Lists.{IsSorted, joined}
+use Rattle.ts_key.specs.Lists.{IsSorted, joined_lists}
 use Rattle.ts_key.specs.StoredKeys.{IsItem}
 use Rattle.ts_key.specs.declared.numbers.Family.{Family}
 use Rattle.ts_key.specs.declared.numbers.Ts.{Ts}
@@ -37,7 +37,7 @@ pub record IsBehind (w : TableWriter) (t : Contents) (done : List (List Item)) (
   pub family : w.family.0 ≡ t.family
   pub form : w.form ≡ t.form
   pub collected_by : w.collected_by.0 ≡ t.collected_by
-  pub items : t.items ≡ joined done ++ open_items
+  pub items : t.items ≡ joined_lists done ++ open_items
   pub bytes : w.blocks.items ≡ blocks t.form done
   pub index : w.handles.items ≡ handles t.form 0 done
   pub versions : w.versions ≡ length open_items
@@ -62,7 +62,7 @@ pub record HasPushed (w : TableWriter) (t : Contents) : Type 0 where
   pub room : length (block_entries t.form open_items) < block_target
 
 -- the versions of these contents were pushed, in the stored order, and there is one
-pub record IsWhole (w : TableWriter) (t : Contents) : Type 0 where
+pub record IsWholeTable (w : TableWriter) (t : Contents) : Type 0 where
   pub pushed : HasPushed w t
   pub some : 0 < length t.items
   pub sorted : IsSorted t.items
@@ -70,13 +70,13 @@ pub record IsWhole (w : TableWriter) (t : Contents) : Type 0 where
 -- the blocks of these contents have so many bytes
 pub record HaveBlockBytes (t : Contents) (n : ℕ) : Type 0 where
   pub cuts : List (List Item)
-  pub joins : t.items ≡ joined cuts
+  pub joins : t.items ≡ joined_lists cuts
   pub cut : AreCut t.form cuts
   pub some_each : AllByRecursion (λ vs. 0 < length vs) cuts
   pub bytes : n ≡ length (blocks t.form cuts)
 
 -- all blocks are done
-pub record IsClosed (w : TableWriter) (t : Contents) (cuts : List (List Item)) : Type 0 where
+pub record AreBlocksDone (w : TableWriter) (t : Contents) (cuts : List (List Item)) : Type 0 where
   pub behind : IsBehind w t cuts []
   pub some : 0 < length cuts
   pub cut : AreCut t.form cuts
@@ -87,7 +87,7 @@ pub record IsSpelled (t : Contents) (image : List ℕ) : Type 0 where
   pub cuts : List (List Item)
   pub some : 0 < length cuts
   pub count : length cuts < 2 ^ 32
-  pub joins : t.items ≡ joined cuts
+  pub joins : t.items ≡ joined_lists cuts
   pub cut : AreCut t.form cuts
   pub some_each : AllByRecursion (λ vs. 0 < length vs) cuts
   pub readable : AllByRecursion (IsReadable t.form) cuts

@@ -2,7 +2,7 @@
 use Rattle.std.specs.Prelude.{◌≡◌, ℕ, ◌+◌, ◌^◌, ◌<◌, ◌≤◌, List, [], ◌∷◌, ◌++◌, length, codes}
 use Rattle.std.specs.List.{flat_map, AllByRecursion}
 use Rattle.ts_key.specs.Items.{Item}
-use Rattle.ts_key.specs.Lists.{IsSorted, joined}
+use Rattle.ts_key.specs.Lists.{IsSorted, joined_lists}
 use Rattle.ts_key.specs.Numbers.{number_bytes}
 use Rattle.ts_key.specs.declared.version.Form.{Form}
 use Rattle.ts_key.specs.declared.version.Form.TheVariants.{Persist, Strip}
@@ -90,7 +90,7 @@ pub record AreBlocks (t : Contents) (cuts : List (List Item)) : Type 0 where
   pub some : 0 < length cuts
   pub count : length cuts < 2 ^ 32
   pub versions : AllByRecursion (λ vs. length vs < 2 ^ 32) cuts
-  pub joins : t.items ≡ joined cuts
+  pub joins : t.items ≡ joined_lists cuts
   pub cut : AreCut t.form cuts
   pub each : AllByRecursion (IsBlock t.form) cuts
   pub sorted : IsSorted t.items

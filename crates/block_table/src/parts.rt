@@ -3,7 +3,7 @@
 ghost use Rattle.std.specs.Prelude.{◌≡◌, ◌<◌, ◌^◌, ◌↔◌, length, IsTrue, IfSome, MatchOption};
 ghost use Rattle.block_table.specs.Tables.{magic, form_number, properties};
 ghost use Rattle.ts_key.specs.declared.version.Form.{Form as FormOf};
-ghost use Rattle.block_table.specs.Parts.{ReadsParts, FitsHead, FitsFound, IsHead};
+ghost use Rattle.block_table.specs.Parts.{ReadsParts, FitsHead, FitsFound, IsFoundHead};
 ghost use Rattle.block_table.specs.declared.properties.Properties.{Properties as PropertiesOf};
 
 use ts_key::coding::{u32_of, u64_of};
@@ -78,7 +78,7 @@ fn form_of(byte: u8) -> Option<Form>
 
 /// What properties that are spelled so say of the family, the form and the floor.
 pub(crate) fn head_of(bytes: &[u8]) -> Option<Head>
-    ensures head { (p : PropertiesOf) → FitsHead p → bytes.now ≡ properties p → IsHead p result }
+    ensures head { (p : PropertiesOf) → FitsHead p → bytes.now ≡ properties p → IsFoundHead p result }
     ensures fits { IfSome result FitsFound }
 {
     if bytes.len() < 13 {

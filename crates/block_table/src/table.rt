@@ -3,8 +3,8 @@
 ghost use Rattle.std.specs.Prelude.{◌≡◌, ◌<◌, ◌^◌, Some, IsOk, IfOk, IsTrue, ◌↔◌, length, option_map};
 ghost use Rattle.ts_key.specs.Items.{Item, found};
 ghost use Rattle.ts_key.specs.Lists.{standing};
-ghost use Rattle.ts_key.specs.Visible.{visible, newest_ts};
-ghost use Rattle.data_block.specs.Cursors.{versions_of, place_of};
+ghost use Rattle.ts_key.specs.Visible.{visible_item, newest_ts};
+ghost use Rattle.data_block.specs.Cursors.{cursor_items, place_of};
 ghost use Rattle.block_table.specs.Contents.{properties_of};
 ghost use Rattle.block_table.specs.Tallies.{tally_of};
 ghost use Rattle.block_table.specs.Tables.{properties};
@@ -68,7 +68,7 @@ fn tally_in(alloc: Global, versions: &Block) -> Result<Tally, NoMemory>
 
 /// The key where a cursor stands.
 fn key_at(alloc: Global, c: &BlockCursor<'_>) -> Result<Key, NoMemory>
-    ensures { (v : Item) → Some v ≡ standing (versions_of c.now) (place_of c.now) → IfOk result (λ key. key ≡ v.sort_key.key) }
+    ensures { (v : Item) → Some v ≡ standing (cursor_items c.now) (place_of c.now) → IfOk result (λ key. key ≡ v.sort_key.key) }
 {
     let Some((k, _)) = c.at() else {
         return Err(AllocError);
@@ -152,7 +152,7 @@ impl Table {
 
     /// The newest version of the key with a timestamp up to `t` and a sequence up to `s`.
     pub fn find(&self, key: &[u8], t: Ts, s: Seq) -> Option<Hit<'_>>
-        ensures { found key.now result ≡ visible self.now.contents.items key.now t.0 s.0 }
+        ensures { found key.now result ≡ visible_item self.now.contents.items key.now t.0 s.0 }
     {
         self.versions.find(key, t, s)
     }
@@ -192,7 +192,7 @@ impl Table {
     /// A cursor at the first version. It takes no memory yet.
     pub fn cursor(&self, alloc: Global) -> Result<TableCursor<'_>, NoMemory>
         ensures made { IsOk result }
-        ensures versions { IfOk result (λ c. versions_of c ≡ self.now.contents.items) }
+        ensures versions { IfOk result (λ c. cursor_items c ≡ self.now.contents.items) }
         ensures first { IfOk result (λ c. place_of c ≡ 1) }
     {
         self.versions.cursor(alloc)

@@ -30,14 +30,14 @@ fn table_of(alloc: Global, image: Vec<u8>) -> Result<Table, TableFault>
 }
 
 impl TableWriter {
-    ghost use Rattle.block_table.specs.Pushed.{IsWhole};
+    ghost use Rattle.block_table.specs.Pushed.{IsWholeTable};
 
     /// Writes the table of the versions that were pushed to a file that was just made, in one piece, and syncs it. They were
     /// pushed in the stored order, and there was one. All memory is taken before the first call of the file.
     pub fn finish<F: DiskFile>(self, alloc: Global, file: &mut F) -> Result<Table, TableWriteFault>
-        requires whole { (t : Contents) × IsWhole self t }
+        requires whole { (t : Contents) × IsWholeTable self t }
         requires empty { IsTrue (F.is_told file.old) → F.seen file.old ≡ [] }
-        ensures { (t : Contents) → IsWhole self t → WritesTable F.DiskFile t file.old file.new result }
+        ensures { (t : Contents) → IsWholeTable self t → WritesTable F.DiskFile t file.old file.new result }
     {
         let image = self.into_image(alloc)?;
         let table = match table_of(alloc, image) {

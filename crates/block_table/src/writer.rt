@@ -82,7 +82,7 @@ pub(crate) fn put_tail(
 }
 
 impl TableWriter {
-    ghost use Rattle.block_table.specs.Pushed.{IsBehind, IsOpen, HasPushed, HaveBlockBytes, IsClosed, IsSpelled, contents_of, and_version};
+    ghost use Rattle.block_table.specs.Pushed.{IsBehind, IsOpen, HasPushed, HaveBlockBytes, AreBlocksDone, IsSpelled, contents_of, and_version};
 
     /// A writer that no version was pushed to. It takes no memory yet.
     pub fn new(
@@ -186,7 +186,7 @@ impl TableWriter {
 
     /// With the open block put behind the others, if it has a version.
     fn closed(self, alloc: Global) -> Result<TableWriter, NoMemory>
-        ensures { (t : Contents) → HasPushed self t → 0 < length t.items → IfOk result (λ w. (cuts : List (List Item)) × IsClosed w t cuts) }
+        ensures { (t : Contents) → HasPushed self t → 0 < length t.items → IfOk result (λ w. (cuts : List (List Item)) × AreBlocksDone w t cuts) }
     {
         let mut w = self;
         if w.versions == 0 {
@@ -199,7 +199,7 @@ impl TableWriter {
 
     /// The bytes of the table, where no block is open.
     fn spell(self) -> Result<Vec<u8>, NoMemory>
-        ensures { (t : Contents) (cuts : List (List Item)) → IsClosed self t cuts → IfOk result (λ image. IsSpelled t image.items) }
+        ensures { (t : Contents) (cuts : List (List Item)) → AreBlocksDone self t cuts → IfOk result (λ image. IsSpelled t image.items) }
     {
         let TableWriter {
             family,

@@ -11,7 +11,7 @@ use Rattle.udt_model.specs.declared.line.Line.{Line}
 use Rattle.udt_model.specs.declared.line.Who.TheVariants.{Client}
 use Rattle.udt_model.specs.State.{State}
 use Rattle.solo_runner.specs.Named.{IsReply, after}
-use Rattle.udt_model.specs.Histories.{Point, start, IsLegal, behind, Leads, own}
+use Rattle.udt_model.specs.Histories.{Point, start, IsLegal, behind, Leads, own_lines}
 use Rattle.udt_model.specs.Crashes.{Course, course_start, course_behind}
 use Rattle.solo_runner.specs.Named.{course_after}
 use Rattle.solo_runner.proofs.Naming.{after_agrees, reply_agrees_back}
@@ -83,7 +83,7 @@ settled_by m lines line end leads event none =
 
 pub session_settles : (m : State) (commands : List Command) (lines : List Line) (end : Point) → IsRunHistory m commands lines end → Settles m lines end
 session_settles m commands lines end h done =
-    let before : List Line = own (Client 1) lines in
+    let before : List Line = own_lines (Client 1) lines in
     let leads : Leads (start m) (before ++ h.sync ∷ []) end = subst (λ (ls : List Line). Leads (start m) ls end) h.rest h.legal in
     let none : list_any (λ (l : Line). tells_fault l.reply) (before ++ h.sync ∷ []) ≡ false = ap (list_any (λ (l : Line). tells_fault l.reply)) (sym h.rest) ∙ no_line_tells lines done in
     let both = settled_by m before h.sync end leads h.is_sync (last_none before h.sync none) in

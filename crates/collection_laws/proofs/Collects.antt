@@ -9,7 +9,7 @@ use Rattle.std.proofs.lemmas.List.{at_drop_more, at_drop_all, append-nil}
 use Rattle.ts_key.specs.declared.numbers.Seq.{Seq}
 use Rattle.ts_key.specs.declared.numbers.Ts.{Ts}
 use Rattle.ts_key.specs.declared.version.Version.{Version}
-use Rattle.udt_model.specs.Orders.{is_before, with_version, stored}
+use Rattle.udt_model.specs.Orders.{is_version_before, with_version, stored}
 use Rattle.udt_model.specs.Versions.{up_to}
 use Rattle.udt_model.specs.Collecting.{hides, is_hidden}
 
@@ -49,12 +49,12 @@ filter_more p xs kept more all i v l is false k inv e = ap (λ (m : List Version
 
 -- put before the first that it stands before
 abbrev behind : Version → Version → Bool
-behind v o = not (is_before o v)
+behind v o = not (is_version_before o v)
 
-pub insert_is : (v : Version) (os : List Version) → insert os (position_or_len (λ o. not (is_before o v)) os) v ≡ with_version v os
+pub insert_is : (v : Version) (os : List Version) → insert os (position_or_len (λ o. not (is_version_before o v)) os) v ≡ with_version v os
 insert_is v [] = refl
 insert_is v (o ∷ os) =
-    elim (cases_Bool (is_before o v)) [
+    elim (cases_Bool (is_version_before o v)) [
       | inl y ↦
           ap (λ b. insert (o ∷ os) (cond (not (not b)) (1 + position_or_len (behind v) os) 0) v) y
           ∙ ap (λ n. insert (o ∷ os) n v) (one_more (position_or_len (behind v) os))

@@ -26,7 +26,7 @@ use Rattle.ts_key.specs.declared.numbers.Ts.{Ts}
 use Rattle.ts_key.specs.declared.version.Version.{Version}
 use Rattle.udt_model.specs.declared.reply.KeySpan.{KeySpan}
 use Rattle.udt_model.specs.Versions.{is_newer, is_put, up_to}
-use Rattle.udt_model.specs.Orders.{is_below, is_before, is_in_some, with_version, stored}
+use Rattle.udt_model.specs.Orders.{is_below, is_version_before, is_in_some, with_version, stored}
 use Rattle.collection_laws.specs.Places.{HaveOnePlace, AreApart, AreSortedByPlace, AreStored}
 use Rattle.udt_model.specs.Collecting.{hides, is_hidden, is_seen_at, is_ever_seen, seen_of, is_put_below, is_useless, without_useless, collect}
 
@@ -68,7 +68,7 @@ eq_nat x y = on_tests (nat_lt y x) (y == x) (not_both x y) ∙ turned x y
     turned : (x y : ℕ) → (y == x) ≡ (x == y)
     turned x y = grind (arith, nat_tests)
 
-pub before_is : (a b : Version) → is_before a b ≡ is_lt (version_cmp a b)
+pub before_is : (a b : Version) → is_version_before a b ≡ is_lt (version_cmp a b)
 before_is a b =
     sym (then_lt (slice_cmp nat_cmp a.key b.key) (ordering_then (nat_cmp b.ts.0 a.ts.0) (nat_cmp b.seq.0 a.seq.0))
     ∙ (λ i. is_below a.key b.key || (is_eq-slice_cmp a.key b.key i && (then_lt (nat_cmp b.ts.0 a.ts.0) (nat_cmp b.seq.0 a.seq.0)
@@ -84,19 +84,19 @@ not_less Less h = absurd cc
 not_less Equal h = inl refl
 not_less Greater h = inr refl
 
-pub before_less : (a b : Version) → is_before a b ≡ true → version_cmp a b ≡ Less
+pub before_less : (a b : Version) → is_version_before a b ≡ true → version_cmp a b ≡ Less
 before_less a b h = less_is (version_cmp a b) (sym (before_is a b) ∙ h)
 
-pub less_before : (a b : Version) → version_cmp a b ≡ Less → is_before a b ≡ true
+pub less_before : (a b : Version) → version_cmp a b ≡ Less → is_version_before a b ≡ true
 less_before a b h = before_is a b ∙ ap is_lt h
 
-pub before_trans : (a b c : Version) → is_before a b ≡ true → is_before b c ≡ true → is_before a c ≡ true
+pub before_trans : (a b c : Version) → is_version_before a b ≡ true → is_version_before b c ≡ true → is_version_before a c ≡ true
 before_trans a b c h k = less_before a c (version_cmp_total.trans a b c (before_less a b h) (before_less b c k))
 
-pub before_back : (a b : Version) → is_before a b ≡ true → is_before b a ≡ false
+pub before_back : (a b : Version) → is_version_before a b ≡ true → is_version_before b a ≡ false
 before_back a b h = before_is b a ∙ ap is_lt (version_cmp_total.antisymm b a ∙ ap ordering_reverse (before_less a b h))
 
-pub before_itself : (a : Version) → is_before a a ≡ false
+pub before_itself : (a : Version) → is_version_before a a ≡ false
 before_itself a = before_is a a ∙ ap is_lt (tied_itself version_cmp_total a)
 
 then_equal : (a b : Ordering) → ordering_then a b ≡ Equal → (a ≡ Equal) × (b ≡ Equal)
@@ -114,7 +114,7 @@ equal_place a b e =
     (exact_bytes a.key b.key p.0, sym (nat_equal b.ts.0 a.ts.0 q.0), sym (nat_equal b.seq.0 a.seq.0 q.1))
 
 -- of two at different places the one stands before the other, or the other way round
-pub apart_before : (a b : Version) → (HaveOnePlace a b → ⊥) → is_before a b ≡ false → is_before b a ≡ true
+pub apart_before : (a b : Version) → (HaveOnePlace a b → ⊥) → is_version_before a b ≡ false → is_version_before b a ≡ true
 apart_before a b n h =
     elim (not_less (version_cmp a b) (sym (before_is a b) ∙ h)) [
       | inl e ↦ absurd (n (equal_place a b e))
@@ -240,7 +240,7 @@ stored_filter p [] h = tt
 stored_filter p (x ∷ xs) h = on (stored_filter p xs h.1) (p x)
   where
     on : AreStored (filter p xs) → (b : Bool) → AreStored (cond b (x ∷ filter p xs) (filter p xs))
-    on rest true = (all_filter (λ w. is_before x w ≡ true) p xs h.0, rest)
+    on rest true = (all_filter (λ w. is_version_before x w ≡ true) p xs h.0, rest)
     on rest false = rest
 
 -- ---- a list in the stored order
@@ -248,7 +248,7 @@ stored_filter p (x ∷ xs) h = on (stored_filter p xs h.1) (p x)
 in_with : (x v : Version) (os : List Version) → In x (with_version v os) → (x ≡ v) ⊎ In x os
 in_with x v [] (inl e) = inl e
 in_with x v [] (inr h) = absurd h
-in_with x v (o ∷ os) h = on (in_with x v os) (is_before o v) h
+in_with x v (o ∷ os) h = on (in_with x v os) (is_version_before o v) h
   where
     on : (In x (with_version v os) → (x ≡ v) ⊎ In x os) → (b : Bool) → In x (if b then o ∷ with_version v os else v ∷ o ∷ os) → (x ≡ v) ⊎ In x (o ∷ os)
     on rest true (inl e) = inr (inl e)
@@ -259,7 +259,7 @@ in_with x v (o ∷ os) h = on (in_with x v os) (is_before o v) h
 with_in : (x v : Version) (os : List Version) → (x ≡ v) ⊎ In x os → In x (with_version v os)
 with_in x v [] (inl e) = inl e
 with_in x v [] (inr h) = absurd h
-with_in x v (o ∷ os) h = on (with_in x v os) (is_before o v) h
+with_in x v (o ∷ os) h = on (with_in x v os) (is_version_before o v) h
   where
     on : ((x ≡ v) ⊎ In x os → In x (with_version v os)) → (b : Bool) → (x ≡ v) ⊎ In x (o ∷ os) → In x (if b then o ∷ with_version v os else v ∷ o ∷ os)
     on rest true (inl e) = inr (rest (inl e))
@@ -282,19 +282,19 @@ same_stored vs = record { to = to vs; back = back vs }
 
 with_sorted : (v : Version) (os : List Version) → AreStored os → AllByRecursion (λ o. HaveOnePlace v o → ⊥) os → AreStored (with_version v os)
 with_sorted v [] s a = (tt, tt)
-with_sorted v (o ∷ os) s a = on (with_sorted v os s.1 a.1) (is_before o v) refl
+with_sorted v (o ∷ os) s a = on (with_sorted v os s.1 a.1) (is_version_before o v) refl
   where
-    on : AreStored (with_version v os) → (b : Bool) → is_before o v ≡ b → AreStored (if b then o ∷ with_version v os else v ∷ o ∷ os)
+    on : AreStored (with_version v os) → (b : Bool) → is_version_before o v ≡ b → AreStored (if b then o ∷ with_version v os else v ∷ o ∷ os)
     on rest true e = (
-      all_in (λ w. is_before o w ≡ true) (with_version v os) (λ w k. elim (in_with w v os k) [
-        | inl q ↦ ap (λ x. is_before o x) q ∙ e
-        | inr m ↦ in_all (λ w. is_before o w ≡ true) os w s.0 m
+      all_in (λ w. is_version_before o w ≡ true) (with_version v os) (λ w k. elim (in_with w v os k) [
+        | inl q ↦ ap (λ x. is_version_before o x) q ∙ e
+        | inr m ↦ in_all (λ w. is_version_before o w ≡ true) os w s.0 m
       ]),
       rest,
     )
     on rest false e =
-        let first : is_before v o ≡ true = apart_before o v (λ p. a.0 (sym p.0, sym p.1, sym p.2)) e in
-        ((first, all_in (λ w. is_before v w ≡ true) os (λ w m. before_trans v o w first (in_all (λ w. is_before o w ≡ true) os w s.0 m))), s)
+        let first : is_version_before v o ≡ true = apart_before o v (λ p. a.0 (sym p.0, sym p.1, sym p.2)) e in
+        ((first, all_in (λ w. is_version_before v w ≡ true) os (λ w m. before_trans v o w first (in_all (λ w. is_version_before o w ≡ true) os w s.0 m))), s)
 
 -- versions apart, put in order
 pub stored_sorted : (vs : List Version) → AreApart vs → AreStored (stored vs)
@@ -308,7 +308,7 @@ pub stored_is : (vs : List Version) → AreStored vs → stored vs ≡ vs
 stored_is [] s = refl
 stored_is (v ∷ vs) s = ap (with_version v) (stored_is vs s.1) ∙ first vs s.0
   where
-    first : (vs : List Version) → AllByRecursion (λ w. is_before v w ≡ true) vs → with_version v vs ≡ v ∷ vs
+    first : (vs : List Version) → AllByRecursion (λ w. is_version_before v w ≡ true) vs → with_version v vs ≡ v ∷ vs
     first [] h = refl
     first (w ∷ ws) h = ap (λ b. if b then w ∷ with_version v ws else v ∷ w ∷ ws) (before_back v w h.0)
 
@@ -323,19 +323,19 @@ stored_once (x ∷ xs) [] s t h = absurd (h.to x (inl refl))
 stored_once (x ∷ xs) (y ∷ ys) s t h =
     let e = same_head (h.to x (inl refl)) (h.back y (inl refl)) in
     let rest = stored_once xs ys s.1 t.1 (record {
-      to = λ v k. later v y ys (λ q. never x v (e ∙ sym q) (in_all (λ w. is_before x w ≡ true) xs v s.0 k)) (h.to v (inr k));
-      back = λ v k. later v x xs (λ q. never y v (sym e ∙ sym q) (in_all (λ w. is_before y w ≡ true) ys v t.0 k)) (h.back v (inr k));
+      to = λ v k. later v y ys (λ q. never x v (e ∙ sym q) (in_all (λ w. is_version_before x w ≡ true) xs v s.0 k)) (h.to v (inr k));
+      back = λ v k. later v x xs (λ q. never y v (sym e ∙ sym q) (in_all (λ w. is_version_before y w ≡ true) ys v t.0 k)) (h.back v (inr k));
     }) in
     λ i. e i ∷ rest i
   where
-    never : (a b : Version) → a ≡ b → is_before a b ≡ true → ⊥
-    never a b q k = clash (is_before a b) k (ap (λ w. is_before a w) (sym q) ∙ before_itself a)
+    never : (a b : Version) → a ≡ b → is_version_before a b ≡ true → ⊥
+    never a b q k = clash (is_version_before a b) k (ap (λ w. is_version_before a w) (sym q) ∙ before_itself a)
 
     same_head : (x ≡ y) ⊎ In x ys → (y ≡ x) ⊎ In y xs → x ≡ y
     same_head (inl e) q = e
     same_head (inr k) (inl e) = sym e
     same_head (inr k) (inr m) =
-        absurd (clash (is_before x y) (in_all (λ w. is_before x w ≡ true) xs y s.0 m) (before_back y x (in_all (λ w. is_before y w ≡ true) ys x t.0 k)))
+        absurd (clash (is_version_before x y) (in_all (λ w. is_version_before x w ≡ true) xs y s.0 m) (before_back y x (in_all (λ w. is_version_before y w ≡ true) ys x t.0 k)))
 
     later : (v z : Version) (zs : List Version) → (v ≡ z → ⊥) → (v ≡ z) ⊎ In v zs → In v zs
     later v z zs n (inl e) = absurd (n e)
@@ -376,17 +376,17 @@ module _ (floor : Ts) (seqs : List Seq) (deeper : List KeySpan) where
 
 -- ---- a sorted list
 
-pub before_ranks : IsStrictWeakOrder is_before
+pub before_ranks : IsStrictWeakOrder is_version_before
 before_ranks = subst IsStrictWeakOrder (λ i x y. sym (before_is x y) i) (ranks_by version_cmp_total (λ (v : Version). v))
 
 -- versions apart that are sorted stand in the stored order
 pub stored_from : (vs : List Version) → AreSortedByPlace vs → AreApart vs → AreStored vs
 stored_from [] o a = tt
 stored_from (v ∷ vs) o a = (
-  all_from (λ w. is_before v w ≡ true) vs (λ k d l. apart_before (get_or vs k d) v
+  all_from (λ w. is_version_before v w ≡ true) vs (λ k d l. apart_before (get_or vs k d) v
       (λ p. a 0 (suc k) d (omega arith) (omega (arith, l)) (sym p.0, sym p.1, sym p.2))
-      (sorted_far is_before before_ranks (v ∷ vs) o 0 (suc k) d (omega arith) (omega (arith, l)))),
-  stored_from vs (λ k d l m. subst (λ i. is_before (get_or (v ∷ vs) i d) (get_or vs k d) ≡ false) (more k) (o (suc k) d (omega arith) (omega (arith, m)))) (pairs_tail (λ x y. HaveOnePlace x y → ⊥) v vs a),
+      (sorted_far is_version_before before_ranks (v ∷ vs) o 0 (suc k) d (omega arith) (omega (arith, l)))),
+  stored_from vs (λ k d l m. subst (λ i. is_version_before (get_or (v ∷ vs) i d) (get_or vs k d) ≡ false) (more k) (o (suc k) d (omega arith) (omega (arith, m)))) (pairs_tail (λ x y. HaveOnePlace x y → ⊥) v vs a),
 )
   where
     more : (k : ℕ) → suc k + 1 ≡ suc (k + 1)
@@ -484,7 +484,7 @@ pub stored_from_sorted : (vs : List Version) → IsSorted (items_of vs) → AreS
 stored_from_sorted [] s = tt
 stored_from_sorted (v ∷ vs) s = (each v vs s.0, stored_from_sorted vs s.1)
   where
-    each : (v : Version) (ws : List Version) → AllByRecursion (λ i. sort_cmp (item_of v).sort_key i.sort_key ≡ Less) (items_of ws) → AllByRecursion (λ w. is_before v w ≡ true) ws
+    each : (v : Version) (ws : List Version) → AllByRecursion (λ i. sort_cmp (item_of v).sort_key i.sort_key ≡ Less) (items_of ws) → AllByRecursion (λ w. is_version_before v w ≡ true) ws
     each v [] h = tt
     each v (w ∷ ws) h = (less_before v w h.0, each v ws h.1)
 
@@ -492,6 +492,6 @@ pub sorted_from_stored : (vs : List Version) → AreStored vs → IsSorted (item
 sorted_from_stored [] s = tt
 sorted_from_stored (v ∷ vs) s = (each v vs s.0, sorted_from_stored vs s.1)
   where
-    each : (v : Version) (ws : List Version) → AllByRecursion (λ w. is_before v w ≡ true) ws → AllByRecursion (λ i. sort_cmp (item_of v).sort_key i.sort_key ≡ Less) (items_of ws)
+    each : (v : Version) (ws : List Version) → AllByRecursion (λ w. is_version_before v w ≡ true) ws → AllByRecursion (λ i. sort_cmp (item_of v).sort_key i.sort_key ≡ Less) (items_of ws)
     each v [] h = tt
     each v (w ∷ ws) h = (before_less v w h.0, each v ws h.1)

@@ -4,7 +4,7 @@ use Rattle.std.specs.List.{All, AllByRecursion, AllPairs}
 use Rattle.std.specs.List.Sorted.{IsSortedBy}
 use Rattle.ts_key.specs.declared.numbers.Family.{Family}
 use Rattle.ts_key.specs.declared.version.Version.{Version}
-use Rattle.udt_model.specs.Orders.{is_before}
+use Rattle.udt_model.specs.Orders.{is_version_before}
 
 -- both have one place: the same key, timestamp and sequence
 abbrev pub HaveOnePlace : Version → Version → Type 0
@@ -21,8 +21,8 @@ AreOfFamily family vs = All (λ v. v.family.0 ≡ family.0) vs
 -- each stands before the ones behind it
 abbrev pub AreStored : List Version → Type 0
 AreStored [] = Unit {0}
-AreStored (v ∷ vs) = AllByRecursion (λ w. is_before v w ≡ true) vs × AreStored vs
+AreStored (v ∷ vs) = AllByRecursion (λ w. is_version_before v w ≡ true) vs × AreStored vs
 
 -- none stands before one that it comes after; two may have one place
 abbrev pub AreSortedByPlace : List Version → Type 0
-AreSortedByPlace vs = IsSortedBy is_before vs
+AreSortedByPlace vs = IsSortedBy is_version_before vs

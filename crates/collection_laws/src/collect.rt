@@ -1,7 +1,7 @@
 //! What a collection keeps, as the definition says it.
 ghost use Rattle.std.specs.Prelude.{◌≡◌, ◌≤◌, ◌&&◌, ◌++◌, ◌∷◌, [], not, nat_le, if◌then◌else◌, length, position, IfOk, OnOk};
 ghost use Rattle.std.specs.List.{list_any, position_or_len};
-ghost use Rattle.udt_model.specs.Orders.{is_before, is_in, is_in_some, stored};
+ghost use Rattle.udt_model.specs.Orders.{is_version_before, is_in, is_in_some, stored};
 ghost use Rattle.udt_model.specs.Versions.{is_newer, is_of};
 ghost use Rattle.udt_model.specs.Collecting.{collect, hides, is_hidden, is_put_below, is_ever_seen, is_seen_at, is_useless, seen_of, without_useless};
 
@@ -148,21 +148,21 @@ fn keep_useful(
 
 /// Whether the first stands before the second in the stored order.
 fn stands_before(a: &Version, b: &Version) -> bool
-    ensures { result ≡ is_before a.now b.now }
+    ensures { result ≡ is_version_before a.now b.now }
 {
     compare(&a.key_ref(), &b.key_ref()).is_lt()
 }
 
 /// The place of the first version that doesn't stand before this one.
 fn first_behind(versions: &[Version], v: &Version) -> Option<usize>
-    ensures { result ≡ position (λ o. not (is_before o v.now)) versions.now }
+    ensures { result ≡ position (λ o. not (is_version_before o v.now)) versions.now }
 {
     versions.iter().position(|o| !stands_before(o, v))
 }
 
 /// The same, or behind the last.
 fn place_of(versions: &[Version], v: &Version) -> usize
-    ensures place { result ≡ position_or_len (λ o. not (is_before o v.now)) versions.now }
+    ensures place { result ≡ position_or_len (λ o. not (is_version_before o v.now)) versions.now }
     ensures within { result ≤ length versions.now }
 {
     match first_behind(versions, v) {

@@ -17,7 +17,7 @@ use Rattle.super_version.specs.declared.family.FamilyState.{FamilyState}
 use Rattle.super_version.specs.declared.jobs.Plan.{Plan}
 use Rattle.compaction.specs.declared.plans.Choice.{Choice}
 use Rattle.compaction.specs.declared.sizes.TheConstants.{LOWEST_LEVEL}
-use Rattle.compaction.specs.Plans.{Leveled, choice_of, due_from, due_level, every, bytes_limit, bytes_of, first_number, hull_of, is_due, is_number, is_picked, is_taken, meets_some, of_level, whole_of, plan_of, range_of, ranges_of, tables_in}
+use Rattle.compaction.specs.Plans.{Leveled, choice_of, due_from, due_level, every, bytes_limit, file_bytes, first_number, hull_if_any, is_level_due, is_number, is_picked, is_taken, meets_some, of_level, whole_of, plan_of, table_span, ranges_of, tables_in}
 use Rattle.compaction.specs.Closed.{model_table, ShowsTables, input_numbers, IsPlanOf, WholePlansAreClosed, PickedPlansAreClosed}
 use Rattle.compaction.proofs.Hulls.{span_sorted, span_up, IsUp, Lies, lies_within, lies_meets, meets_wider, apart_hull}
 
@@ -113,10 +113,10 @@ module _ (m : State) (family : Family) (f : FamilyState) (shows : ShowsTables m 
   ascending : is_ascending (map number ts) ≡ true
   ascending = sym (ap is_ascending (ap numbers_of shows.tables ∙ map_twice g (λ t. t.number) ts)) ∙ shows.ordered.ascending
 
-  span_is : (t : Leveled) → In t ts → span_of (g t).versions ≡ range_of t
+  span_is : (t : Leveled) → In t ts → span_of (g t).versions ≡ table_span t
   span_is t i = span_sorted family t.table.table.contents.items (all_in (λ (z : Leveled). IsSorted z.table.table.contents.items) ts t shows.sorted i)
 
-  range_up : (t : Leveled) → In t ts → IsUp (range_of t)
+  range_up : (t : Leveled) → In t ts → IsUp (table_span t)
   range_up t i = subst IsUp (span_is t i) (span_up (g t).versions)
 
   module _ (p : Leveled → Bool) (level : ℕ) where
@@ -147,7 +147,7 @@ module _ (m : State) (family : Family) (f : FamilyState) (shows : ShowsTables m 
 
     deeper_is : plan.deeper ≡ deeper_of m family nums level
     deeper_is =
-        map_same range_of (λ (t : Leveled). span_of (g t).versions) (filter (λ (t : Leveled). nat_lt level t.level && not (p t)) ts)
+        map_same table_span (λ (t : Leveled). span_of (g t).versions) (filter (λ (t : Leveled). nat_lt level t.level && not (p t)) ts)
         (λ t i. sym (span_is t (filter-In (λ (z : Leveled). nat_lt level z.level && not (p z)) t ts i).0))
         ∙ sym (map_twice g (λ (t : LiveTable). span_of t.versions) (filter (λ (t : Leveled). nat_lt level t.level && not (p t)) ts))
         ∙ ap (λ l. spans_of (map g l)) (filter_same (λ (t : Leveled). nat_lt level t.level && not (p t)) (λ (t : Leveled). nat_lt level t.level && not (is_input nums (g t))) ts (λ t i. ap (λ b. nat_lt level t.level && not b) (sym (has_is t i))))
@@ -220,7 +220,7 @@ module _ (m : State) (family : Family) (f : FamilyState) (shows : ShowsTables m 
     first_of [] h = absurd (h refl)
     first_of (u ∷ us) h = (u, inl refl, refl)
 
-    some_due : is_due ts level ≡ true → of_level level ts ≡ [] → ⊥
+    some_due : is_level_due ts level ≡ true → of_level level ts ≡ [] → ⊥
     some_due d e = elim (cases_Bool (level == 0)) [
       | inl y ↦
           let z : level ≡ 0 = eqb-true level 0 y in
@@ -228,8 +228,8 @@ module _ (m : State) (family : Family) (f : FamilyState) (shows : ShowsTables m 
           let k : nat_le 4 (length (of_level 0 ts)) ≡ true = rw y at d in
           few (length (of_level 0 ts)) (ap length n) k
       | inr y ↦
-          let k : nat_lt (bytes_limit level) (bytes_of (of_level level ts)) ≡ true = rw y at d in
-          nothing (bytes_limit level) (bytes_of (of_level level ts)) (ap bytes_of e) k
+          let k : nat_lt (bytes_limit level) (file_bytes (of_level level ts)) ≡ true = rw y at d in
+          nothing (bytes_limit level) (file_bytes (of_level level ts)) (ap file_bytes e) k
     ]
       where
         few : (n : ℕ) → n ≡ 0 → nat_le 4 n ≡ true → ⊥
@@ -238,7 +238,7 @@ module _ (m : State) (family : Family) (f : FamilyState) (shows : ShowsTables m 
         nothing : (limit n : ℕ) → n ≡ 0 → nat_lt limit n ≡ true → ⊥
         nothing limit n e h = let k = ltb-true limit n h in omega (arith, e, k)
 
-    pub taken_some : is_due ts level ≡ true → (t : Leveled) × In t ts × (taken t ≡ true)
+    pub taken_some : is_level_due ts level ≡ true → (t : Leveled) × In t ts × (taken t ≡ true)
     taken_some d =
         let r = first_of (of_level level ts) (some_due d) in
         let j = filter-In (λ (t : Leveled). t.level == level) r.0 ts r.1 in
@@ -246,7 +246,7 @@ module _ (m : State) (family : Family) (f : FamilyState) (shows : ShowsTables m 
         (r.0, j.0, and_from (r.0.level == level) (level == 0 || is_number (first_number (of_level level ts)) (number r.0)) j.1 (or_right (level == 0) (is_number (first_number (of_level level ts)) (number r.0)) n))
 
     -- there is a hull where something is picked
-    hull_some : (ss : List KeySpan) (s : KeySpan) → In s ss → (hull : KeySpan) × (hull_of ss ≡ Some hull)
+    hull_some : (ss : List KeySpan) (s : KeySpan) → In s ss → (hull : KeySpan) × (hull_if_any ss ≡ Some hull)
     hull_some [] s i = absurd i
     hull_some (a ∷ bs) s i = (hull_with a bs, refl)
 
@@ -255,50 +255,50 @@ module _ (m : State) (family : Family) (f : FamilyState) (shows : ShowsTables m 
     hull_met (Some hull) s h = (hull, refl)
 
     abbrev next : Leveled → Bool
-    next t = t.level == level + 1 && meets_some (hull_of ranges) (range_of t)
+    next t = t.level == level + 1 && meets_some (hull_if_any ranges) (table_span t)
 
-    range_in : (t : Leveled) → In t ts → taken t ≡ true → In (range_of t) ranges
-    range_in t i y = In-map range_of t (filter taken ts) (In-filter taken t ts i y)
+    range_in : (t : Leveled) → In t ts → taken t ≡ true → In (table_span t) ranges
+    range_in t i y = In-map table_span t (filter taken ts) (In-filter taken t ts i y)
 
-    hull_there : (x : Leveled) → In x ts → p x ≡ true → (hull : KeySpan) × (hull_of ranges ≡ Some hull)
+    hull_there : (x : Leveled) → In x ts → p x ≡ true → (hull : KeySpan) × (hull_if_any ranges ≡ Some hull)
     hull_there x i h = elim (or_cases (taken x) (next x) h) [
-      | inl y ↦ hull_some ranges (range_of x) (range_in x i y)
-      | inr y ↦ hull_met (hull_of ranges) (range_of x) (and_parts (x.level == level + 1) (meets_some (hull_of ranges) (range_of x)) y).1
+      | inl y ↦ hull_some ranges (table_span x) (range_in x i y)
+      | inr y ↦ hull_met (hull_if_any ranges) (table_span x) (and_parts (x.level == level + 1) (meets_some (hull_if_any ranges) (table_span x)) y).1
     ]
 
-    module _ (hull : KeySpan) (hull_is : hull_of ranges ≡ Some hull) where
+    module _ (hull : KeySpan) (hull_is : hull_if_any ranges ≡ Some hull) where
       -- a picked table is taken, or stands on the next level and meets the hull
-      goes : (x : Leveled) → p x ≡ true → (taken x ≡ true) ⊎ ((x.level ≡ level + 1) × (meets (range_of x) hull ≡ true))
+      goes : (x : Leveled) → p x ≡ true → (taken x ≡ true) ⊎ ((x.level ≡ level + 1) × (meets (table_span x) hull ≡ true))
       goes x h = elim (or_cases (taken x) (next x) h) [
         | inl y ↦ inl y
-        | inr y ↦ (let a = and_parts (x.level == level + 1) (meets_some (hull_of ranges) (range_of x)) y in inr (eqb-true x.level (level + 1) a.0, sym (ap (λ o. meets_some o (range_of x)) hull_is) ∙ a.1))
+        | inr y ↦ (let a = and_parts (x.level == level + 1) (meets_some (hull_if_any ranges) (table_span x)) y in inr (eqb-true x.level (level + 1) a.0, sym (ap (λ o. meets_some o (table_span x)) hull_is) ∙ a.1))
       ]
 
       level_of : (x : Leveled) → p x ≡ true → (x.level ≡ level) ⊎ (x.level ≡ level + 1)
       level_of x h = elim (goes x h) [ inl y ↦ inl (taken_level x y) | inr y ↦ inr y.0 ]
 
-      taken_within : (x : Leveled) → In x ts → taken x ≡ true → Lies (range_of x) hull
-      taken_within x i y = lies_within ranges hull (range_of x) hull_is (range_in x i y)
+      taken_within : (x : Leveled) → In x ts → taken x ≡ true → Lies (table_span x) hull
+      taken_within x i y = lies_within ranges hull (table_span x) hull_is (range_in x i y)
 
-      meets_hull : (x : Leveled) → In x ts → p x ≡ true → meets (range_of x) hull ≡ true
+      meets_hull : (x : Leveled) → In x ts → p x ≡ true → meets (table_span x) hull ≡ true
       meets_hull x i h = elim (goes x h) [
-        | inl y ↦ lies_meets (range_of x) hull (range_up x i) (taken_within x i y)
+        | inl y ↦ lies_meets (table_span x) hull (range_up x i) (taken_within x i y)
         | inr y ↦ y.1
       ]
 
       module _ (t : Leveled) (t_in : In t ts) (out : p t ≡ false) where
-        not_next : t.level ≡ level + 1 → meets (range_of t) hull ≡ false
+        not_next : t.level ≡ level + 1 → meets (table_span t) hull ≡ false
         not_next e =
             let n : next t ≡ false = (or_parts (taken t) (next t) out).1 in
-            false_from_ne_true (meets (range_of t) hull) (λ y.
-            false≢true (sym n ∙ and_from (t.level == level + 1) (meets_some (hull_of ranges) (range_of t)) (eq-eqb t.level (level + 1) e) (ap (λ o. meets_some o (range_of t)) hull_is ∙ y)))
+            false_from_ne_true (meets (table_span t) hull) (λ y.
+            false≢true (sym n ∙ and_from (t.level == level + 1) (meets_some (hull_if_any ranges) (table_span t)) (eq-eqb t.level (level + 1) e) (ap (λ o. meets_some o (table_span t)) hull_is ∙ y)))
 
         other_number : (y : Leveled) → In y ts → p y ≡ true → number t ≢ number y
         other_number y i h e = let k : t ≡ y = one_of_number ts ascending t y t_in i e in false≢true (sym out ∙ ap p k ∙ h)
 
-        misses : t.level ≡ level + 1 → (y : Leveled) → In y ts → p y ≡ true → meets (range_of t) (range_of y) ≡ false
+        misses : t.level ≡ level + 1 → (y : Leveled) → In y ts → p y ≡ true → meets (table_span t) (table_span y) ≡ false
         misses e y i h = elim (goes y h) [
-          | inl k ↦ false_from_ne_true (meets (range_of t) (range_of y)) (λ w. false≢true (sym (not_next e) ∙ meets_wider (range_of t) (range_of y) hull (taken_within y i k) w))
+          | inl k ↦ false_from_ne_true (meets (table_span t) (table_span y)) (λ w. false≢true (sym (not_next e) ∙ meets_wider (table_span t) (table_span y) hull (taken_within y i k) w))
           | inr k ↦
               let here : In (g t) (tables_of m family) = subst (In (g t)) (sym shows.tables) (In-map g t ts t_in) in
               let there : In (g y) (tables_of m family) = subst (In (g y)) (sym shows.tables) (In-map g y ts i) in
@@ -310,15 +310,15 @@ module _ (m : State) (family : Family) (f : FamilyState) (shows : ShowsTables m 
             above : (l n : ℕ) → n ≡ l + 1 → 0 < n
             above l n e = omega (arith, e)
 
-        hull_apart : (e : t.level ≡ level + 1) (us : List Leveled) → ((y : Leveled) → In y us → In y ts × (p y ≡ true)) → (x : Leveled) → In x us → meets (range_of t) (jobs.hull_of (map g us)) ≡ false
+        hull_apart : (e : t.level ≡ level + 1) (us : List Leveled) → ((y : Leveled) → In y us → In y ts × (p y ≡ true)) → (x : Leveled) → In x us → meets (table_span t) (jobs.hull_of (map g us)) ≡ false
         hull_apart e [] each x i = absurd i
         hull_apart e (u ∷ us) each x i =
-            apart_hull (range_of t) hull (span_of (g u).versions) (spans_of (map g us)) (range_up t t_in) (not_next e) (λ s k.
+            apart_hull (table_span t) hull (span_of (g u).versions) (spans_of (map g us)) (range_up t t_in) (not_next e) (λ s k.
             let r = map-In (λ (z : LiveTable). span_of z.versions) s (map g (u ∷ us)) k in
             let q = map-In g r.0 (u ∷ us) r.1 in
             let y = each q.0 q.1 in
-            let same : range_of q.0 ≡ s = sym (span_is q.0 y.0) ∙ ap (λ (z : LiveTable). span_of z.versions) q.2 ∙ r.2 in
-            (subst (λ z. meets z hull ≡ true) same (meets_hull q.0 y.0 y.1), subst (λ z. meets (range_of t) z ≡ false) same (misses e q.0 y.0 y.1)))
+            let same : table_span q.0 ≡ s = sym (span_is q.0 y.0) ∙ ap (λ (z : LiveTable). span_of z.versions) q.2 ∙ r.2 in
+            (subst (λ z. meets z hull ≡ true) same (meets_hull q.0 y.0 y.1), subst (λ z. meets (table_span t) z ≡ false) same (misses e q.0 y.0 y.1)))
 
         between : (a b l : ℕ) → is_amid a b (l + 1) ≡ true → (a ≡ l) ⊎ (a ≡ l + 1) → ⊥
         between a b l h w = elim (or_cases (nat_lt a b && nat_lt b (l + 1)) (nat_lt (l + 1) b && nat_lt b a) h) [
@@ -366,7 +366,7 @@ module _ (m : State) (family : Family) (f : FamilyState) (shows : ShowsTables m 
               | inr b ↦ bottom s.0 j.1 b
             ])
 
-    pub picked_closed : level < 6 → is_due ts level ≡ true → IsPlanOf m family (plan_of family (level + 1) (is_picked c) ts)
+    pub picked_closed : level < 6 → is_level_due ts level ≡ true → IsPlanOf m family (plan_of family (level + 1) (is_picked c) ts)
     picked_closed l d =
         let r = taken_some d in
         let y : p r.0 ≡ true = or_left (taken r.0) (next r.0) r.2 in
@@ -390,11 +390,11 @@ whole_plans m family f plan shows e =
     let r = whole_is family (tables_in f) plan e in
     subst (IsPlanOf m family) r.2 (whole_closed m family f shows r.0 r.1)
 
-due_is : (n l : ℕ) (us : List Leveled) (level : ℕ) → due_from n l us ≡ Some level → (level < l + n) × (is_due us level ≡ true)
+due_is : (n l : ℕ) (us : List Leveled) (level : ℕ) → due_from n l us ≡ Some level → (level < l + n) × (is_level_due us level ≡ true)
 due_is zero l us level e = cc
 due_is (suc n) l us level e =
-    elim (cases_Bool (is_due us l)) [
-      | inl y ↦ (let k : l ≡ level = some_is l level (rw y at e) in (omega (arith, k), subst (λ z. is_due us z ≡ true) k y))
+    elim (cases_Bool (is_level_due us l)) [
+      | inl y ↦ (let k : l ≡ level = some_is l level (rw y at e) in (omega (arith, k), subst (λ z. is_level_due us z ≡ true) k y))
       | inr y ↦ (let r = due_is n (l + 1) us level (rw y at e) in let k = r.0 in (omega (arith, k), r.1))
     ]
   where

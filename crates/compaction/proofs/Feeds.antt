@@ -16,7 +16,7 @@ use Rattle.ts_key.specs.declared.numbers.Ts.{Ts}
 use Rattle.ts_key.specs.declared.version.Form.{Form}
 use Rattle.ts_key.specs.declared.version.Version.{Version}
 use Rattle.ts_key.specs.Items.{Item, item_of}
-use Rattle.ts_key.specs.Lists.{joined, merged, with_item, stored}
+use Rattle.ts_key.specs.Lists.{joined_lists, merged, with_item, stored_items}
 use Rattle.ts_key.specs.Order as order
 use Rattle.ts_key.specs.Order.{SortKey, sort_cmp}
 use Rattle.ts_key.specs.Orders as orders
@@ -24,7 +24,7 @@ use Rattle.ts_key.specs.StoredKeys.{IsItem, IsSequence, IsStamp}
 use Rattle.data_block.specs.Grammar.{IsBlock}
 use Rattle.udt_model.specs.declared.reply.KeySpan.{KeySpan}
 use Rattle.udt_model.specs.Collecting.{collect}
-use Rattle.udt_model.specs.Orders.{is_before, is_below}
+use Rattle.udt_model.specs.Orders.{is_version_before, is_below}
 use Rattle.udt_model.proofs.Sorted.{orders_agree}
 use Rattle.collection_laws.specs.Places.{AreApart, AreStored, HaveOnePlace}
 use Rattle.collection_laws.proofs.Storing.{apart_moved, before_itself, before_trans, collect_by_order, same_from}
@@ -98,9 +98,9 @@ in_order_more family vs k v o e a = subst AreInOrder (sym (versions_snoc family 
 
 -- ---- all versions of the tables
 
-pub joined_is : (family : Family) (tables : List Live) → versions_in_tables family tables ≡ versions_from family (joined (map items_of_table tables))
+pub joined_is : (family : Family) (tables : List Live) → versions_in_tables family tables ≡ versions_from family (joined_lists (map items_of_table tables))
 joined_is family [] = refl
-joined_is family (t ∷ ts) = ap (λ l. versions_from family (items_of_table t) ++ l) (joined_is family ts) ∙ sym (map-append (version_of_item family) (items_of_table t) (joined (map items_of_table ts)))
+joined_is family (t ∷ ts) = ap (λ l. versions_from family (items_of_table t) ++ l) (joined_is family ts) ∙ sym (map-append (version_of_item family) (items_of_table t) (joined_lists (map items_of_table ts)))
 
 swapped : (v x : Item) (xs : List Item) → IsPermutation (v ∷ x ∷ xs) (x ∷ v ∷ xs)
 swapped v x xs = IsPermutation-middle (v ∷ []) x xs
@@ -113,22 +113,22 @@ with_moved v (x ∷ xs) =
       | inr y ↦ rw y (IsPermutation-refl (v ∷ x ∷ xs))
     ]
 
-stored_moved : (xs : List Item) → IsPermutation xs (stored xs)
+stored_moved : (xs : List Item) → IsPermutation xs (stored_items xs)
 stored_moved [] = IsPermutation-refl []
-stored_moved (x ∷ xs) = IsPermutation-trans (x ∷ xs) (x ∷ stored xs) (with_item x (stored xs)) (IsPermutation-cons x xs (stored xs) (stored_moved xs)) (with_moved x (stored xs))
+stored_moved (x ∷ xs) = IsPermutation-trans (x ∷ xs) (x ∷ stored_items xs) (with_item x (stored_items xs)) (IsPermutation-cons x xs (stored_items xs) (stored_moved xs)) (with_moved x (stored_items xs))
 
-pub versions_moved : (family : Family) (items : List Item) → IsPermutation (versions_from family items) (versions_from family (stored items))
-versions_moved family items = IsPermutation-map (version_of_item family) items (stored items) (stored_moved items)
+pub versions_moved : (family : Family) (items : List Item) → IsPermutation (versions_from family items) (versions_from family (stored_items items))
+versions_moved family items = IsPermutation-map (version_of_item family) items (stored_items items) (stored_moved items)
 
 -- ---- what is in order is apart
 
-one_place : (a b : Version) → HaveOnePlace a b → is_before a b ≡ is_before b b
+one_place : (a b : Version) → HaveOnePlace a b → is_version_before a b ≡ is_version_before b b
 one_place a b p = λ i. is_below (p.0 i) b.key || (bytes_eq (p.0 i) b.key && (nat_lt b.ts.0 (p.1 i) || (p.1 i == b.ts.0 && nat_lt b.seq.0 (p.2 i))))
 
-before_apart : (a b : Version) → is_before a b ≡ true → HaveOnePlace a b → ⊥
+before_apart : (a b : Version) → is_version_before a b ≡ true → HaveOnePlace a b → ⊥
 before_apart a b h p = false≢true (sym (before_itself b) ∙ sym (one_place a b p) ∙ h)
 
-all_apart : (a : Version) (vs : List Version) → AllByRecursion (λ b. is_before a b ≡ true) vs → All (λ b. HaveOnePlace a b → ⊥) vs
+all_apart : (a : Version) (vs : List Version) → AllByRecursion (λ b. is_version_before a b ≡ true) vs → All (λ b. HaveOnePlace a b → ⊥) vs
 all_apart a [] h = All-nil (λ b. HaveOnePlace a b → ⊥)
 all_apart a (b ∷ bs) h = All-cons (λ b. HaveOnePlace a b → ⊥) b bs (before_apart a b h.0) (all_apart a bs h.1)
 
@@ -136,17 +136,17 @@ stored_apart : (vs : List Version) → AreStored vs → AreApart vs
 stored_apart [] h = λ i j d a b. absurd (omega (arith, b))
 stored_apart (v ∷ vs) h = AllPairs-cons (λ a b. HaveOnePlace a b → ⊥) v vs (all_apart v vs h.0) (stored_apart vs h.1)
 
-pub apart_from : (family : Family) (items : List Item) → AreInOrder (versions_from family (stored items)) → AreApart (versions_from family items)
+pub apart_from : (family : Family) (items : List Item) → AreInOrder (versions_from family (stored_items items)) → AreApart (versions_from family items)
 apart_from family items o =
-    apart_moved (versions_from family (stored items)) (versions_from family items) (IsPermutation-sym (versions_from family items) (versions_from family (stored items)) (versions_moved family items))
-    (stored_apart (versions_from family (stored items)) (in_order_stored (versions_from family (stored items)) o))
+    apart_moved (versions_from family (stored_items items)) (versions_from family items) (IsPermutation-sym (versions_from family items) (versions_from family (stored_items items)) (versions_moved family items))
+    (stored_apart (versions_from family (stored_items items)) (in_order_stored (versions_from family (stored_items items)) o))
 
 -- what is kept of the merged versions is what is kept of all
-pub collected_same : (family : Family) (items : List Item) (floor : Ts) (seqs : List Seq) (deeper : List KeySpan) → AreInOrder (versions_from family (stored items))
-    → collect (versions_from family (stored items)) floor seqs deeper ≡ collect (versions_from family items) floor seqs deeper
+pub collected_same : (family : Family) (items : List Item) (floor : Ts) (seqs : List Seq) (deeper : List KeySpan) → AreInOrder (versions_from family (stored_items items))
+    → collect (versions_from family (stored_items items)) floor seqs deeper ≡ collect (versions_from family items) floor seqs deeper
 collected_same family items floor seqs deeper o =
     let xs = versions_from family items in
-    let ys = versions_from family (stored items) in
+    let ys = versions_from family (stored_items items) in
     collect_is floor seqs deeper ys o
     ∙ sym (collect_by_order floor seqs deeper xs ys (apart_from family items o) (in_order_stored ys o) (same_from xs ys (versions_moved family items)))
 
@@ -159,17 +159,17 @@ fits_append : (form : Form) (xs ys : List Item) → Fits form xs → Fits form y
 fits_append form [] ys h k = k
 fits_append form (x ∷ xs) ys h k = (h.0, fits_append form xs ys h.1 k)
 
-fits_joined : (form : Form) (cuts : List (List Item)) → AllByRecursion (IsBlock form) cuts → Fits form (joined cuts)
+fits_joined : (form : Form) (cuts : List (List Item)) → AllByRecursion (IsBlock form) cuts → Fits form (joined_lists cuts)
 fits_joined form [] h = tt
-fits_joined form (c ∷ cs) h = fits_append form c (joined cs) h.0.items (fits_joined form cs h.1)
+fits_joined form (c ∷ cs) h = fits_append form c (joined_lists cs) h.0.items (fits_joined form cs h.1)
 
 table_fits : (t : Contents) (image : List ℕ) → IsTable t image → Fits t.form t.items
 table_fits t image h = subst (Fits t.form) (sym h.blocks.joins) (fits_joined t.form h.cuts h.blocks.each)
 
-tables_fit : (family : Family) (form : Form) (tables : List Live) → AllByRecursion (IsInput family form) tables → Fits form (joined (map items_of_table tables))
+tables_fit : (family : Family) (form : Form) (tables : List Live) → AllByRecursion (IsInput family form) tables → Fits form (joined_lists (map items_of_table tables))
 tables_fit family form [] h = tt
 tables_fit family form (t ∷ ts) h =
-    fits_append form t.table.contents.items (joined (map items_of_table ts)) (subst (λ z. Fits z t.table.contents.items) h.0.form_is (table_fits t.table.contents t.table.image h.0.table)) (tables_fit family form ts h.1)
+    fits_append form t.table.contents.items (joined_lists (map items_of_table ts)) (subst (λ z. Fits z t.table.contents.items) h.0.form_is (table_fits t.table.contents t.table.image h.0.table)) (tables_fit family form ts h.1)
 
 all_stamps : (family : Family) (form : Form) (vs : List Item) → Fits form vs → All (λ (v : Version). IsStamp form v.ts.0) (versions_from family vs)
 all_stamps family form [] h = All-nil (λ (v : Version). IsStamp form v.ts.0)
@@ -185,13 +185,13 @@ recursion_from P (x ∷ xs) h = (All-head P x xs h, recursion_from P xs (All-tai
 
 pub stamps_fit : (family : Family) (form : Form) (tables : List Live) → All (IsInput family form) tables → All (λ (v : Version). IsStamp form v.ts.0) (versions_from family (merged (map items_of_table tables)))
 stamps_fit family form tables h =
-    let items = joined (map items_of_table tables) in
-    All-permutation (λ (v : Version). IsStamp form v.ts.0) (versions_from family items) (versions_from family (stored items)) (versions_moved family items) (all_stamps family form items (tables_fit family form tables (recursion_from (IsInput family form) tables h)))
+    let items = joined_lists (map items_of_table tables) in
+    All-permutation (λ (v : Version). IsStamp form v.ts.0) (versions_from family items) (versions_from family (stored_items items)) (versions_moved family items) (all_stamps family form items (tables_fit family form tables (recursion_from (IsInput family form) tables h)))
 
 pub sequences_fit : (family : Family) (form : Form) (tables : List Live) → All (IsInput family form) tables → All (λ (v : Version). IsSequence v.seq.0) (versions_from family (merged (map items_of_table tables)))
 sequences_fit family form tables h =
-    let items = joined (map items_of_table tables) in
-    All-permutation (λ (v : Version). IsSequence v.seq.0) (versions_from family items) (versions_from family (stored items)) (versions_moved family items) (all_sequences family form items (tables_fit family form tables (recursion_from (IsInput family form) tables h)))
+    let items = joined_lists (map items_of_table tables) in
+    All-permutation (λ (v : Version). IsSequence v.seq.0) (versions_from family items) (versions_from family (stored_items items)) (versions_moved family items) (all_sequences family form items (tables_fit family form tables (recursion_from (IsInput family form) tables h)))
 
 -- ---- a feed of which nothing was taken
 
@@ -203,11 +203,11 @@ module _ (family : Family) (tables : List Live) (all coming : List Version) (sam
   feed_sequences form h = subst (λ vs. All (λ (v : Version). IsSequence v.seq.0) vs) (sym (same ∙ are)) (sequences_fit family form tables h)
 
   pub feed_apart : AreInOrder all → AreApart (versions_in_tables family tables)
-  feed_apart o = subst AreApart (sym (joined_is family tables)) (apart_from family (joined (map items_of_table tables)) (subst AreInOrder (same ∙ are) o))
+  feed_apart o = subst AreApart (sym (joined_is family tables)) (apart_from family (joined_lists (map items_of_table tables)) (subst AreInOrder (same ∙ are) o))
 
   pub feed_kept : (floor : Ts) (seqs : List Seq) (spans deeper : List KeySpan) (kept : List Version) → kept ≡ collect coming floor seqs spans → spans ≡ deeper → AreInOrder all → kept ≡ collect (versions_in_tables family tables) floor seqs deeper
   feed_kept floor seqs spans deeper kept k d o =
       k
       ∙ (λ i. collect (are i) floor seqs (d i))
-      ∙ collected_same family (joined (map items_of_table tables)) floor seqs deeper (subst AreInOrder (same ∙ are) o)
+      ∙ collected_same family (joined_lists (map items_of_table tables)) floor seqs deeper (subst AreInOrder (same ∙ are) o)
       ∙ ap (λ vs. collect vs floor seqs deeper) (sym (joined_is family tables))

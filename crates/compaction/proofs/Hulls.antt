@@ -15,7 +15,7 @@ use Rattle.udt_model.specs.declared.reply.KeySpan.{KeySpan}
 use Rattle.udt_model.specs.Orders.{hull_with, is_at_most, is_below, meets, span_of, span_of_both, span_of_key, lower_of, higher_of}
 use Rattle.block_table.specs.Contents.{first_key, last_user_key}
 use Rattle.super_version.specs.Contents.{version_of_item}
-use Rattle.compaction.specs.Plans.{hull_of}
+use Rattle.compaction.specs.Plans.{hull_if_any}
 use Rattle.floor_laws.proofs.Members.{In}
 use Rattle.floor_laws.proofs.Keys.{at_most_itself, at_most_trans, at_most_same, at_most_total, not_below, below_at_most, lower_left, lower_right, higher_left, higher_right}
 
@@ -25,11 +25,11 @@ hull_end : (a : KeySpan) (ss : List KeySpan) (s : KeySpan) → hull_with a (ss +
 hull_end a [] s = refl
 hull_end a (b ∷ bs) s = hull_end (span_of_both a b) bs s
 
-pub hull_first : (ss : List KeySpan) (s : KeySpan) → None ≡ hull_of ss → Some s ≡ hull_of (ss ++ s ∷ [])
+pub hull_first : (ss : List KeySpan) (s : KeySpan) → None ≡ hull_if_any ss → Some s ≡ hull_if_any (ss ++ s ∷ [])
 hull_first [] s e = refl
 hull_first (a ∷ bs) s e = cc
 
-pub hull_more : (ss : List KeySpan) (hull s : KeySpan) → Some hull ≡ hull_of ss → Some (span_of_both hull s) ≡ hull_of (ss ++ s ∷ [])
+pub hull_more : (ss : List KeySpan) (hull s : KeySpan) → Some hull ≡ hull_if_any ss → Some (span_of_both hull s) ≡ hull_if_any (ss ++ s ∷ [])
 hull_more [] hull s e = cc
 hull_more (a ∷ bs) hull s e = let h : hull ≡ hull_with a bs = cc in ap Some (ap (λ z. span_of_both z s) h ∙ sym (hull_end a bs s))
 
@@ -116,7 +116,7 @@ lies_in a [] s (inr i) = absurd i
 lies_in a (b ∷ bs) s (inr (inl e)) = subst (λ (z : KeySpan). Lies z (hull_with (span_of_both a b) bs)) e (lies_trans b (span_of_both a b) (hull_with (span_of_both a b) bs) (lies_right a b) (lies_hull (span_of_both a b) bs))
 lies_in a (b ∷ bs) s (inr (inr i)) = lies_in (span_of_both a b) bs s (inr i)
 
-pub lies_within : (ss : List KeySpan) (hull s : KeySpan) → hull_of ss ≡ Some hull → In s ss → Lies s hull
+pub lies_within : (ss : List KeySpan) (hull s : KeySpan) → hull_if_any ss ≡ Some hull → In s ss → Lies s hull
 lies_within [] hull s e i = absurd i
 lies_within (a ∷ bs) hull s e i = let h : hull_with a bs ≡ hull = cc in subst (λ (z : KeySpan). Lies s z) h (lies_in a bs s i)
 

@@ -20,7 +20,7 @@ use Rattle.collection_laws.proofs.Storing.{sorted_from_stored}
 use Rattle.block_table.specs.Contents.{Contents, first_key, last_user_key}
 use Rattle.block_table.specs.Pushed.{contents_of}
 use Rattle.floor_laws.proofs.Keys.{at_most_same}
-use Rattle.compaction.specs.Made.{before_last_key, LeavesRoom, IsPiece, EndsBefore, AreCutBefore}
+use Rattle.compaction.specs.Made.{before_last_key, LeavesRoom, IsPiece, TableEndsBefore, AreCutBefore}
 use Rattle.compaction.proofs.Hulls.{keys_upto}
 
 same_key : (a b : List ℕ) → bytes_eq a b ≡ true → a ≡ b
@@ -139,7 +139,7 @@ module _ (family : Family) (form : Form) (floor : Ts) where
 
 -- ---- cuts
 
-pub cut_snoc : (next : Option (List ℕ)) (ts : List Contents) (t : Contents) → AreCutBefore (Some (first_key t.items)) ts → IsPiece t → EndsBefore t next → AreCutBefore next (ts ++ t ∷ [])
+pub cut_snoc : (next : Option (List ℕ)) (ts : List Contents) (t : Contents) → AreCutBefore (Some (first_key t.items)) ts → IsPiece t → TableEndsBefore t next → AreCutBefore next (ts ++ t ∷ [])
 cut_snoc next [] t h p e = (p, e)
 cut_snoc next (x ∷ []) t h p e = (h.0, h.1, (p, e))
 cut_snoc next (x ∷ y ∷ ys) t h p e = (h.0, h.1, cut_snoc next (y ∷ ys) t h.2 p e)

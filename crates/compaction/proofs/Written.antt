@@ -13,7 +13,7 @@ use Rattle.block_table.specs.Writes.{WritesTable}
 use Rattle.block_table.specs.declared.fault.TableWriteFault.{TableWriteFault}
 use Rattle.block_table.specs.declared.fault.TableWriteFault.TheVariants.{DiskFault, NoMemory}
 use Rattle.super_version.specs.Jobs.{MayGive, MayRefuse, is_fault}
-use Rattle.compaction.specs.Made.{HoldsTable, job_cause}
+use Rattle.compaction.specs.Made.{HoldsOutput, job_cause}
 use Rattle.compaction.proofs.Drawn.{may_fail, none_more, rose_more}
 
 drop_none : {X : Type 0} (n : ℕ) → drop {A = X} n [] ≡ []
@@ -27,7 +27,7 @@ module _ {F : Type 0} (g : file.Ghosts F) where
   -- a file that was empty holds the table that was written to it
   pub holds_table : (t : Contents) (old new : F) (table : Held) (number count : ℕ) (is_told is_model : Bool) → WritesTable g t old new (Ok table)
       → (IsTrue (g.is_told old) → g.seen old ≡ []) → g.name old ≡ Table number → g.faults old ≡ 0 → g.is_told old ≡ is_told → g.keeps_model old ≡ is_model → count ≡ (properties_of table.contents).count
-      → HoldsTable g is_told is_model (record { number = number; file = new; table = table; kept = count })
+      → HoldsOutput g is_told is_model (record { number = number; file = new; table = table; kept = count })
   holds_table t old new table number count is_told is_model w empty name faults told model counted =
       let written = w.2 in
       record {

@@ -7,7 +7,7 @@ use Rattle.ts_key.specs.Items.{Item}
 use Rattle.ts_key.specs.declared.numbers.Family.{Family}
 use Rattle.ts_key.specs.declared.version.Version.{Version}
 use Rattle.merge_cursor.specs.Sides.{all, passed, sides}
-use Rattle.data_block.specs.Cursors.{versions_of, place_of}
+use Rattle.data_block.specs.Cursors.{cursor_items, place_of}
 use Rattle.data_block.specs.declared.cursor.BlockCursor.{BlockCursor}
 use Rattle.super_version.specs.Live.{Live}
 use Rattle.super_version.specs.Contents.{items_of_table, version_of_item}
@@ -21,19 +21,19 @@ abbrev pub versions_in_tables : Family → List Live → List Version
 versions_in_tables family tables = flat_map (λ t. versions_from family (items_of_table t)) tables
 
 -- what cursors walk over, in the stored order
-abbrev pub walked : List BlockCursor → List Item
-walked cs = all (sides versions_of place_of cs)
+abbrev pub walked_items : List BlockCursor → List Item
+walked_items cs = all (sides cursor_items place_of cs)
 
 -- how many of them are passed
 abbrev pub count_passed : List BlockCursor → ℕ
-count_passed cs = passed (sides versions_of place_of cs)
+count_passed cs = passed (sides cursor_items place_of cs)
 
 -- what a walk has passed, and what it hasn't
-abbrev pub passed_at : List BlockCursor → List Item
-passed_at cs = take (count_passed cs) (walked cs)
+abbrev pub passed_items : List BlockCursor → List Item
+passed_items cs = take (count_passed cs) (walked_items cs)
 
-abbrev pub left_at : List BlockCursor → List Item
-left_at cs = drop (count_passed cs) (walked cs)
+abbrev pub left_items : List BlockCursor → List Item
+left_items cs = drop (count_passed cs) (walked_items cs)
 
 -- the last of the versions has this sort key; there is none where there is none
 abbrev pub ends_at : Option SortKey → List Item → Bool

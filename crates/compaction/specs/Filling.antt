@@ -11,7 +11,7 @@ use Rattle.flush_job.specs.declared.feed.Feed.{Ghosts}
 use Rattle.flush_job.specs.declared.kept.Kept.{Kept}
 use Rattle.flush_job.specs.Keeping.{GivesOne}
 use Rattle.compaction.specs.declared.fill.Filled.{Filled}
-use Rattle.compaction.specs.Made.{EndsBefore, IsPiece}
+use Rattle.compaction.specs.Made.{TableEndsBefore, IsPiece}
 
 -- the key of a version, where there is one
 abbrev pub key_of : Option Version → Option (List ℕ)
@@ -25,5 +25,5 @@ pub record IsFilled {S : Type 0} (g : Ghosts S) (family : Family) (form : Form) 
   pub pushed : HasPushed f.writer (contents_of family form floor (items_of own))
   pub sorted : IsSorted (items_of own)
   pub piece : IsPiece (contents_of family form floor (items_of own))
-  pub ends : EndsBefore (contents_of family form floor (items_of own)) (key_of f.next)
+  pub ends : TableEndsBefore (contents_of family form floor (items_of own)) (key_of f.next)
   pub next : GivesOne g k (given ++ own) f.next

@@ -8,7 +8,7 @@ use Rattle.ts_key.specs.declared.numbers.Ts.{Ts}
 use Rattle.ts_key.specs.declared.version.Form.{Form}
 use Rattle.ts_key.specs.declared.version.Version.{Version}
 use Rattle.ts_key.specs.Items.{Item, items_of}
-use Rattle.ts_key.specs.Lists.{joined}
+use Rattle.ts_key.specs.Lists.{joined_lists}
 use Rattle.udt_disk.specs.declared.file.DiskFile.{Ghosts}
 use Rattle.udt_disk.specs.declared.name.FileName.TheVariants.{Table}
 use Rattle.udt_disk.specs.Crash.{Only}
@@ -64,15 +64,15 @@ pub record IsPiece (t : Contents) : Type 0 where
   pub room : LeavesRoom (record t { items = before_last_key t.items })
 
 -- it is full, and the key that comes next isn't its last
-abbrev pub EndsBefore : Contents → Option (List ℕ) → Type 0
-EndsBefore t None = ⊤
-EndsBefore t (Some key) = FillsTable t × (last_user_key t.items ≢ key)
+abbrev pub TableEndsBefore : Contents → Option (List ℕ) → Type 0
+TableEndsBefore t None = ⊤
+TableEndsBefore t (Some key) = FillsTable t × (last_user_key t.items ≢ key)
 
 -- Each ends with the first key that fills it, but where no key comes next it may end earlier. No key stands in two of them.
 abbrev pub AreCutBefore : Option (List ℕ) → List Contents → Type 0
 AreCutBefore next [] = ⊤
-AreCutBefore next (t ∷ []) = IsPiece t × EndsBefore t next
-AreCutBefore next (t ∷ u ∷ rest) = IsPiece t × EndsBefore t (Some (first_key u.items)) × AreCutBefore next (u ∷ rest)
+AreCutBefore next (t ∷ []) = IsPiece t × TableEndsBefore t next
+AreCutBefore next (t ∷ u ∷ rest) = IsPiece t × TableEndsBefore t (Some (first_key u.items)) × AreCutBefore next (u ∷ rest)
 
 abbrev pub AreCutRightly : List Contents → Type 0
 AreCutRightly ts = AreCutBefore None ts
@@ -83,7 +83,7 @@ contents_of_outputs outs = map (λ o. o.table.contents) outs
 -- ---- outputs
 
 -- The file bears the output's number, holds the bytes of its table and nothing else, also after a crash, and has never failed.
-pub record HoldsTable {F : Type 0} (g : Ghosts F) (is_told is_model : Bool) (o : Output F) : Type 0 where
+pub record HoldsOutput {F : Type 0} (g : Ghosts F) (is_told is_model : Bool) (o : Output F) : Type 0 where
   pub table : IsTable o.table.contents o.table.image
   pub kept : o.kept ≡ length o.table.contents.items
   pub name : g.name o.file ≡ Table o.number
@@ -98,11 +98,11 @@ pub record IsOutput {F : Type 0} (g : Ghosts F) (family : Family) (form : Form) 
   pub family_is : o.table.contents.family ≡ family.0
   pub form_is : o.table.contents.form ≡ form
   pub collected_by : o.table.contents.collected_by ≡ floor.0
-  pub held : HoldsTable g told model o
+  pub held : HoldsOutput g told model o
 
 -- the outputs hold together these versions
 pub record AreTablesOf {F : Type 0} (g : Ghosts F) (family : Family) (form : Form) (floor : Ts) (told model : Bool) (vs : List Version) (outs : List (Output F)) : Type 0 where
-  pub hold : joined (map (λ o. o.table.contents.items) outs) ≡ items_of vs
+  pub hold : joined_lists (map (λ o. o.table.contents.items) outs) ≡ items_of vs
   pub cut : AreCutRightly (contents_of_outputs outs)
   pub each : AllByRecursion (IsOutput g family form floor told model) outs
 

@@ -11,7 +11,7 @@ use Rattle.flush_job.specs.declared.feed.Feed.{Ghosts}
 use Rattle.flush_job.specs.declared.kept.Kept.{Kept}
 use Rattle.flush_job.specs.Keeping.{GivesOne, left_of}
 use Rattle.compaction.specs.Filling.{key_of}
-use Rattle.compaction.specs.Made.{EndsBefore, IsPiece}
+use Rattle.compaction.specs.Made.{TableEndsBefore, IsPiece}
 
 -- a table of the versions that were given behind these, from `v` on, and before the next
 pub record IsNext {S : Type 0} (g : Ghosts S) (family : Family) (form : Form) (floor : Ts) (k : Kept S) (given : List Version) (v : Version) (t : Contents) (next : Option Version) : Type 0 where
@@ -19,7 +19,7 @@ pub record IsNext {S : Type 0} (g : Ghosts S) (family : Family) (form : Form) (f
   pub first : (rest : List Version) × (own ≡ v ∷ rest)
   pub contents : t ≡ contents_of family form floor (items_of own)
   pub piece : IsPiece t
-  pub ends : EndsBefore t (key_of next)
+  pub ends : TableEndsBefore t (key_of next)
   pub gave : GivesOne g k (given ++ own) next
 
 -- fewer are left, where one comes next

@@ -4,7 +4,7 @@ use Rattle.ts_key.specs.declared.numbers.Family.{Family}
 use Rattle.udt_model.specs.declared.reply.KeySpan.{KeySpan}
 use Rattle.udt_model.specs.Orders.{meets, hull_with}
 use Rattle.super_version.specs.Live.{Live}
-use Rattle.super_version.specs.Levels.{properties}
+use Rattle.super_version.specs.Levels.{table_properties}
 use Rattle.super_version.specs.declared.family.FamilyState.{FamilyState}
 use Rattle.super_version.specs.declared.jobs.Plan.{Plan}
 use Rattle.compaction.specs.declared.plans.Choice.{Choice}
@@ -42,16 +42,16 @@ tables_in f = by_number (on_levels 0 f.levels)
 -- ---- their keys
 
 -- all keys from the first of a table to its last
-abbrev pub range_of : Leveled → KeySpan
-range_of t = record { low = (properties t.table).least; high = (properties t.table).greatest }
+abbrev pub table_span : Leveled → KeySpan
+table_span t = record { low = (table_properties t.table).least; high = (table_properties t.table).greatest }
 
 abbrev pub ranges_of : List Leveled → List KeySpan
-ranges_of tables = map range_of tables
+ranges_of tables = map table_span tables
 
 -- the hull of spans, where there are some
-abbrev pub hull_of : List KeySpan → Option KeySpan
-hull_of [] = None
-hull_of (s ∷ ss) = Some (hull_with s ss)
+abbrev pub hull_if_any : List KeySpan → Option KeySpan
+hull_if_any [] = None
+hull_if_any (s ∷ ss) = Some (hull_with s ss)
 
 abbrev pub meets_some : Option KeySpan → KeySpan → Bool
 meets_some None span = false
@@ -63,22 +63,22 @@ abbrev pub of_level : ℕ → List Leveled → List Leveled
 of_level level tables = filter (λ t. t.level == level) tables
 
 -- how many bytes their files have
-abbrev pub bytes_of : List Leveled → ℕ
-bytes_of [] = 0
-bytes_of (t ∷ ts) = length t.table.table.image + bytes_of ts
+abbrev pub file_bytes : List Leveled → ℕ
+file_bytes [] = 0
+file_bytes (t ∷ ts) = length t.table.table.image + file_bytes ts
 
 -- how many bytes a level from 1 on may have: ten times as many as the one before
 abbrev pub bytes_limit : ℕ → ℕ
 bytes_limit level = LEVEL1_BYTES * 10 ^ (level - 1)
 
 -- level 0 has that many tables, or another level more bytes than it may have
-abbrev pub is_due : List Leveled → ℕ → Bool
-is_due tables level = if level == 0 then nat_le LEVEL0_TABLES (length (of_level 0 tables)) else nat_lt (bytes_limit level) (bytes_of (of_level level tables))
+abbrev pub is_level_due : List Leveled → ℕ → Bool
+is_level_due tables level = if level == 0 then nat_le LEVEL0_TABLES (length (of_level 0 tables)) else nat_lt (bytes_limit level) (file_bytes (of_level level tables))
 
 -- the first of so many levels that is due, from one on
 abbrev pub due_from : ℕ → ℕ → List Leveled → Option ℕ
 due_from zero level tables = None
-due_from (suc n) level tables = if is_due tables level then Some level else due_from n (level + 1) tables
+due_from (suc n) level tables = if is_level_due tables level then Some level else due_from n (level + 1) tables
 
 -- the first level above the lowest that is due
 abbrev pub due_level : List Leveled → Option ℕ
@@ -103,12 +103,12 @@ abbrev pub choice_of : List Leveled → ℕ → Choice
 choice_of tables level = record {
   level = level;
   first = first_number (of_level level tables);
-  hull = hull_of (ranges_of (filter (is_taken level (first_number (of_level level tables))) tables));
+  hull = hull_if_any (ranges_of (filter (is_taken level (first_number (of_level level tables))) tables));
 }
 
 -- what is taken of the level, and the tables of the next whose keys meet the hull
 abbrev pub is_picked : Choice → Leveled → Bool
-is_picked c t = is_taken c.level c.first t || (t.level == c.level + 1 && meets_some c.hull (range_of t))
+is_picked c t = is_taken c.level c.first t || (t.level == c.level + 1 && meets_some c.hull (table_span t))
 
 -- ---- plans
 

@@ -1,6 +1,6 @@
 //! Which level is due for a compaction.
 ghost use Rattle.std.specs.Prelude.{◌≡◌, ◌<◌, ◌≤◌, ◌==◌, nat_lt, if◌then◌else◌, length, IfSome};
-ghost use Rattle.compaction.specs.Plans.{bytes_limit, bytes_of, due_level, is_due, of_level};
+ghost use Rattle.compaction.specs.Plans.{bytes_limit, file_bytes, due_level, is_level_due, of_level};
 
 use crate::leveled::LeveledTable;
 use crate::sizes::{LEVEL0_TABLES, LEVEL1_BYTES, LOWEST_LEVEL};
@@ -32,7 +32,7 @@ fn bytes_on(t: &LeveledTable, level: usize) -> u64
 
 /// Whether the tables of the level have more bytes than this together.
 fn has_more_bytes(tables: &[LeveledTable], level: usize, limit: u64) -> bool
-    ensures { result ≡ nat_lt limit (bytes_of (of_level level tables.now)) }
+    ensures { result ≡ nat_lt limit (file_bytes (of_level level tables.now)) }
 {
     let mut left = limit;
     for t in tables {
@@ -61,7 +61,7 @@ fn bytes_limit(level: usize) -> u64
 /// Whether the level is due.
 fn is_due(tables: &[LeveledTable], level: usize) -> bool
     requires { level < LOWEST_LEVEL }
-    ensures { result ≡ is_due tables.now level }
+    ensures { result ≡ is_level_due tables.now level }
 {
     if level == 0 {
         return LEVEL0_TABLES <= count_on(tables, 0);

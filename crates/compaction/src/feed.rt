@@ -3,11 +3,11 @@ ghost use Rattle.std.specs.Prelude.{◌≡◌, true, All, IfOk, Some, map};
 ghost use Rattle.ts_key.specs.Items.{shown};
 ghost use Rattle.ts_key.specs.Order.{sort_key_of};
 ghost use Rattle.merge_cursor.specs.Sides.{is_apart, key_lent};
-ghost use Rattle.data_block.specs.Cursors.{place_of, versions_of};
+ghost use Rattle.data_block.specs.Cursors.{place_of, cursor_items};
 ghost use Rattle.history_gc.specs.Pushed.{AreInOrder};
-ghost use Rattle.super_version.specs.Contents.{items_of_table, op_of, version_of_item};
+ghost use Rattle.super_version.specs.Contents.{items_of_table, op_of_kind, version_of_item};
 ghost use Rattle.flush_job.specs.Props.{in_order_prop};
-ghost use Rattle.compaction.specs.Feeding.{ends_at, passed_at, versions_from};
+ghost use Rattle.compaction.specs.Feeding.{ends_at, passed_items, versions_from};
 
 use crate::NoMemory;
 use block_table::TableCursor;
@@ -25,13 +25,13 @@ pub(crate) struct TableFeed<'a> {
     merge: MergeTree<TableCursor<'a>>,
     /// Where the version stands that was taken last.
     last: Option<KeyRef<'a>>,
-    ghost ends: { ends_at (key_lent last) (passed_at merge.cursors.items) ≡ true },
-    ghost in_order: { AreInOrder (versions_from family (passed_at merge.cursors.items)) } by { in_order_prop (versions_from family (passed_at merge.cursors.items)) },
+    ghost ends: { ends_at (key_lent last) (passed_items merge.cursors.items) ≡ true },
+    ghost in_order: { AreInOrder (versions_from family (passed_items merge.cursors.items)) } by { in_order_prop (versions_from family (passed_items merge.cursors.items)) },
 }
 
 /// A cursor at the first version of each table.
 fn cursors(alloc: Global, tables: &[LiveTable]) -> Result<Vec<TableCursor<'_>>, NoMemory>
-    ensures versions { IfOk result (λ cs. map versions_of cs.items ≡ map items_of_table tables.now) }
+    ensures versions { IfOk result (λ cs. map cursor_items cs.items ≡ map items_of_table tables.now) }
     ensures first { IfOk result (λ cs. All (λ c. place_of c ≡ 1) cs.items) }
 {
     let mut all = Vec::with_capacity(alloc, tables.len())?;
@@ -43,7 +43,7 @@ fn cursors(alloc: Global, tables: &[LiveTable]) -> Result<Vec<TableCursor<'_>>, 
 
 /// A copy of what a version does.
 fn op_at(alloc: Global, hit: &Hit<'_>) -> Result<Op, NoMemory>
-    ensures { IfOk result (λ op. op ≡ op_of hit.now.kind hit.now.value.now) }
+    ensures { IfOk result (λ op. op ≡ op_of_kind hit.now.kind hit.now.value.now) }
 {
     match hit.kind {
         Kind::Del => Ok(Op::Del),
@@ -92,7 +92,7 @@ impl<'a> TableFeed<'a> {
     ghost use Rattle.history_gc.specs.Pushed.{AreInOrder};
     ghost use Rattle.merge_cursor.specs.Sides.{key_lent};
     ghost use Rattle.super_version.specs.Contents.{items_of_table};
-    ghost use Rattle.compaction.specs.Feeding.{ends_at, left_at, passed_at, versions_from};
+    ghost use Rattle.compaction.specs.Feeding.{ends_at, left_items, passed_items, versions_from};
 
     /// Of the versions of these tables none was taken.
     pub(crate) fn new(
@@ -101,8 +101,8 @@ impl<'a> TableFeed<'a> {
         tables: &'a [LiveTable],
     ) -> Result<TableFeed<'a>, NoMemory>
         ensures family { IfOk result (λ f. f.family ≡ family) }
-        ensures taken { IfOk result (λ f. passed_at f.merge.cursors.items ≡ []) }
-        ensures coming { IfOk result (λ f. left_at f.merge.cursors.items ≡ merged (map items_of_table tables.now)) }
+        ensures taken { IfOk result (λ f. passed_items f.merge.cursors.items ≡ []) }
+        ensures coming { IfOk result (λ f. left_items f.merge.cursors.items ≡ merged (map items_of_table tables.now)) }
     {
         let merge = MergeTree::new(alloc, cursors(alloc, tables)?)?;
         Ok(TableFeed {
@@ -116,11 +116,11 @@ impl<'a> TableFeed<'a> {
 
 impl Feed for TableFeed<'_> {
     ghost use Rattle.history_gc.specs.Pushed.{AreInOrder};
-    ghost use Rattle.compaction.specs.Feeding.{left_at, passed_at, versions_from};
+    ghost use Rattle.compaction.specs.Feeding.{left_items, passed_items, versions_from};
 
-    ghost taken = { λ f. versions_from f.family (passed_at f.merge.cursors.items) };
+    ghost taken = { λ f. versions_from f.family (passed_items f.merge.cursors.items) };
 
-    ghost coming = { λ f. versions_from f.family (left_at f.merge.cursors.items) };
+    ghost coming = { λ f. versions_from f.family (left_items f.merge.cursors.items) };
 
     fn next(&mut self) -> Result<Option<Version>, NoMemory> {
         let Some((key, hit)) = self.merge.at() else {

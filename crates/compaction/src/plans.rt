@@ -1,6 +1,6 @@
 //! Plans: all tables of a family, or those of the first level that is due.
 ghost use Rattle.std.specs.Prelude.{◌≡◌, List, ◌<◌, ◌+◌, ◌++◌, ◌==◌, ◌&&◌, ◌∷◌, [], nat_lt, not, if◌then◌else◌, filter, map, slice_get, IfOk, OnOk, None, Some};
-ghost use Rattle.compaction.specs.Plans.{Leveled, choice_of, first_number, hull_of, is_number, is_picked, is_taken, of_level, picked_of, picked_plan, plan_of, range_of, ranges_of, whole_of, whole_plan};
+ghost use Rattle.compaction.specs.Plans.{Leveled, choice_of, first_number, hull_if_any, is_number, is_picked, is_taken, of_level, picked_of, picked_plan, plan_of, table_span, ranges_of, whole_of, whole_plan};
 
 use crate::NoMemory;
 use crate::due::due_level;
@@ -101,7 +101,7 @@ fn widened(
     t: &LeveledTable,
     taken: bool,
 ) -> Result<Option<KeySpan>, NoMemory>
-    ensures { (tables : List Leveled) → before ≡ hull_of (ranges_of tables) → IfOk result (λ hull. hull ≡ hull_of (ranges_of (if taken then tables ++ t.now ∷ [] else tables))) }
+    ensures { (tables : List Leveled) → before ≡ hull_if_any (ranges_of tables) → IfOk result (λ hull. hull ≡ hull_if_any (ranges_of (if taken then tables ++ t.now ∷ [] else tables))) }
 {
     if !taken {
         return Ok(before);
@@ -116,7 +116,7 @@ fn hull_of_taken(
     level: usize,
     first: Option<u64>,
 ) -> Result<Option<KeySpan>, NoMemory>
-    ensures { IfOk result (λ hull. hull ≡ hull_of (ranges_of (filter (is_taken level first) tables.now))) }
+    ensures { IfOk result (λ hull. hull ≡ hull_if_any (ranges_of (filter (is_taken level first) tables.now))) }
 {
     let mut hull = None;
     for t in tables {
@@ -188,7 +188,7 @@ fn is_deeper(choice: &Choice, t: &LeveledTable) -> bool
 
 /// Appends the range of the table where it is kept.
 fn push_range(out: &mut Vec<KeySpan>, t: &LeveledTable, keep: bool) -> Result<(), NoMemory>
-    ensures { OnOk result (out.new.items ≡ (if keep then out.old.items ++ range_of t.now ∷ [] else out.old.items)) }
+    ensures { OnOk result (out.new.items ≡ (if keep then out.old.items ++ table_span t.now ∷ [] else out.old.items)) }
 {
     if !keep {
         return Ok(());

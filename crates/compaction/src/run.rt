@@ -4,15 +4,15 @@ ghost use Rattle.ts_key.specs.StoredKeys.{IsSequence, IsStamp};
 ghost use Rattle.ts_key.specs.declared.version.Version.{Version as VersionOf};
 ghost use Rattle.udt_disk.specs.Causes.{IsCause};
 ghost use Rattle.block_table.specs.Contents.{Contents};
-ghost use Rattle.block_table.specs.Pushed.{IsWhole};
+ghost use Rattle.block_table.specs.Pushed.{IsWholeTable};
 ghost use Rattle.super_version.specs.Jobs.{MayRefuse, is_fault};
 ghost use Rattle.flush_job.specs.Keeping.{GivesOne, Keeps, all_of, kept_of};
 ghost use Rattle.collection_laws.specs.Places.{AreApart};
 ghost use Rattle.history_gc.specs.Pushed.{AreInOrder};
 ghost use Rattle.udt_model.specs.Collecting.{collect};
-ghost use Rattle.compaction.specs.Drawing.{AreHeld, AreNumbered, GoesOn};
+ghost use Rattle.compaction.specs.Drawing.{AreDrawn, AreHeld, AreOutputsNumbered, IsDrawn, StillGives};
 ghost use Rattle.compaction.specs.Making.{IsNearer, IsNext};
-ghost use Rattle.compaction.specs.Made.{AreTablesOf, HoldsTable, IsInput, kept_by, held_by, job_cause};
+ghost use Rattle.compaction.specs.Made.{AreTablesOf, HoldsOutput, IsInput, kept_by, held_by, job_cause};
 
 use crate::NoMemory;
 use crate::feed::TableFeed;
@@ -27,11 +27,11 @@ use udt_model::KeySpan;
 /// Gives the files of outputs back, the last first.
 fn give_back<J: JobFiles>(files: &mut J, outs: Vec<Output<J::File>>)
     requires held { AreHeld J.JobFiles J.File.DiskFile files.old outs.items }
-    requires numbered { (low : ℕ) × AreNumbered low (J.above files.old) outs.items }
+    requires numbered { (low : ℕ) × AreOutputsNumbered low (J.above files.old) outs.items }
     ensures faults { J.faults files.new ≡ J.faults files.old }
     ensures seen { (J.halted files.new ≡ J.halted files.old) × (J.next_number files.new ≡ J.next_number files.old) }
     ensures above { J.above files.new ≡ J.above files.old }
-    ensures others { (low n : ℕ) → AreNumbered low (J.above files.old) outs.items → n < low → IsTrue (J.gave files.old n) → IsTrue (J.gave files.new n) }
+    ensures others { (low n : ℕ) → AreOutputsNumbered low (J.above files.old) outs.items → n < low → IsTrue (J.gave files.old n) → IsTrue (J.gave files.new n) }
     ensures told { J.is_told files.new ≡ J.is_told files.old }
     ensures model { J.keeps_model files.new ≡ J.keeps_model files.old }
 {
@@ -64,15 +64,13 @@ fn write_output<J: JobFiles>(
     writer: TableWriter,
     files: &mut J,
 ) -> Result<Output<J::File>, JobCause>
-    requires { (t : Contents) × IsWhole writer t }
-    ensures contents { (t : Contents) → IsWhole writer t → IfOk result (λ o. o.table.contents ≡ t) }
-    ensures holds { IfOk result (HoldsTable J.File.DiskFile (J.is_told files.old) (J.keeps_model files.old)) }
-    ensures number { IfOk result (λ o. (J.above files.old ≤ o.number) × (o.number < J.above files.new)) }
-    ensures gave { IfOk result (λ o. IsTrue (J.gave files.new o.number)) }
+    requires { (t : Contents) × IsWholeTable writer t }
+    ensures contents { (t : Contents) → IsWholeTable writer t → IfOk result (λ o. o.table.contents ≡ t) }
+    ensures holds { IfOk result (HoldsOutput J.File.DiskFile (J.is_told files.old) (J.keeps_model files.old)) }
+    ensures drawn { IfOk result (λ o. IsDrawn J.JobFiles files.old files.new o.number) }
     ensures refused { IfErr result (MayRefuse (J.halted files.new) (J.next_number files.new)) }
     ensures cause { IfErr result (λ why. IsCause (is_fault why) (J.faults files.old) (J.faults files.new)) }
-    ensures kept { OnOk result (J.faults files.new ≡ J.faults files.old) }
-    ensures goes { GoesOn J.JobFiles files.old files.new }
+    ensures goes { StillGives J.JobFiles files.old files.new }
 {
     let (number, mut file) = files.next()?;
     match writer.finish(alloc, &mut file) {
@@ -109,13 +107,11 @@ fn make_output<S: Feed + Drop, J: JobFiles>(
     ensures all { all_of S.Feed kept.new ≡ all_of S.Feed kept.old }
     ensures collected { kept_of S.Feed kept.new ≡ kept_of S.Feed kept.old }
     ensures nearer { IfOk result (λ made. IsNearer S.Feed kept.old kept.new made.1) }
-    ensures holds { IfOk result (λ made. HoldsTable J.File.DiskFile (J.is_told files.old) (J.keeps_model files.old) made.0) }
-    ensures number { IfOk result (λ made. (J.above files.old ≤ made.0.number) × (made.0.number < J.above files.new)) }
-    ensures gave { IfOk result (λ made. IsTrue (J.gave files.new made.0.number)) }
+    ensures holds { IfOk result (λ made. HoldsOutput J.File.DiskFile (J.is_told files.old) (J.keeps_model files.old) made.0) }
+    ensures drawn { IfOk result (λ made. IsDrawn J.JobFiles files.old files.new made.0.number) }
     ensures refused { IfErr result (MayRefuse (J.halted files.new) (J.next_number files.new)) }
     ensures cause { IfErr result (λ why. IsCause (is_fault why) (J.faults files.old) (J.faults files.new)) }
-    ensures kept { OnOk result (J.faults files.new ≡ J.faults files.old) }
-    ensures goes { GoesOn J.JobFiles files.old files.new }
+    ensures goes { StillGives J.JobFiles files.old files.new }
 {
     let filled = match fill_table(alloc, kept, family, form, floor, first) {
         Ok(filled) => filled,
@@ -140,13 +136,13 @@ fn make_outputs<S: Feed + Drop, J: JobFiles>(
     requires sequences { All (λ v. IsSequence v.seq.0) (all_of S.Feed kept.old) }
     ensures made { IfOk result (λ outs. AreTablesOf J.File.DiskFile family form floor (J.is_told files.old) (J.keeps_model files.old) (kept_of S.Feed kept.old) outs.items) }
     ensures in_order { OnOk result (AreInOrder (all_of S.Feed kept.old)) }
-    ensures numbers { IfOk result (λ outs. AreNumbered (J.above files.old) (J.above files.new) outs.items) }
+    ensures numbers { IfOk result (λ outs. AreOutputsNumbered (J.above files.old) (J.above files.new) outs.items) }
     ensures held { IfOk result (λ outs. AreHeld J.JobFiles J.File.DiskFile files.new outs.items) }
-    ensures none { IfOk result (λ outs. outs.items ≡ [] → files.new ≡ files.old) }
+    ensures drawn { IfOk result (λ outs. AreDrawn J.JobFiles files.old files.new outs.items) }
     ensures refused { IfErr result (MayRefuse (J.halted files.new) (J.next_number files.new)) }
     ensures cause { IfErr result (λ why. IsCause (is_fault why) (J.faults files.old) (J.faults files.new)) }
     ensures kept { OnOk result (J.faults files.new ≡ J.faults files.old) }
-    ensures goes { GoesOn J.JobFiles files.old files.new }
+    ensures goes { StillGives J.JobFiles files.old files.new }
 {
     let mut outs = Vec::new(alloc);
     let mut next = first;
@@ -190,7 +186,7 @@ fn keep<'a, S: Feed + Drop>(
 /// Collects the inputs of a plan, by the floor and by the sequences of the registered snapshots, in any order, and writes what
 /// is kept into tables: each ends with the first key that brings its blocks to `TABLE_BYTES`, and no key stands in two. Beside
 /// what the tables hold it keeps the versions of one key. Each table is written, synced and kept before the next file is
-/// drawn, and none is drawn where nothing is kept.
+/// drawn, one is drawn for each table and no other, and so none where nothing is kept.
 ///
 /// `Fault` comes only where the count of faults of `files` rose, `Files` and `Halted` exactly where `next` answered so. `Memory`
 /// comes also where two inputs hold one version. Where it is refused, every file that was drawn was given back.
@@ -205,13 +201,13 @@ pub fn run_compaction<J: JobFiles>(
     requires { All (IsInput plan.now.family form) plan.now.inputs }
     ensures made { IfOk result (λ outs. AreTablesOf J.File.DiskFile plan.now.family form floor (J.is_told files.old) (J.keeps_model files.old) (kept_by plan.now floor seqs.now) outs.items) }
     ensures apart { OnOk result (AreApart (held_by plan.now)) }
-    ensures numbers { IfOk result (λ outs. AreNumbered (J.above files.old) (J.above files.new) outs.items) }
+    ensures numbers { IfOk result (λ outs. AreOutputsNumbered (J.above files.old) (J.above files.new) outs.items) }
     ensures held { IfOk result (λ outs. AreHeld J.JobFiles J.File.DiskFile files.new outs.items) }
-    ensures none { IfOk result (λ outs. outs.items ≡ [] → files.new ≡ files.old) }
+    ensures drawn { IfOk result (λ outs. AreDrawn J.JobFiles files.old files.new outs.items) }
     ensures refused { IfErr result (MayRefuse (J.halted files.new) (J.next_number files.new)) }
     ensures cause { IfErr result (λ why. IsCause (is_fault why) (J.faults files.old) (J.faults files.new)) }
     ensures kept { OnOk result (J.faults files.new ≡ J.faults files.old) }
-    ensures goes { GoesOn J.JobFiles files.old files.new }
+    ensures goes { StillGives J.JobFiles files.old files.new }
 {
     let Ok(feed) = TableFeed::new(alloc, plan.family, plan.inputs.as_slice()) else {
         return Err(JobCause::Memory);

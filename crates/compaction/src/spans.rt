@@ -2,7 +2,7 @@
 ghost use Rattle.std.specs.Prelude.{◌≡◌, ◌++◌, ◌∷◌, [], List, Some, IfOk};
 ghost use Rattle.udt_model.specs.Orders.{higher_of, lower_of, meets, span_of_both};
 ghost use Rattle.udt_model.specs.declared.reply.KeySpan.{KeySpan as SpanOf};
-ghost use Rattle.compaction.specs.Plans.{hull_of, meets_some, range_of};
+ghost use Rattle.compaction.specs.Plans.{hull_if_any, meets_some, table_span};
 
 use crate::NoMemory;
 use crate::leveled::LeveledTable;
@@ -43,7 +43,7 @@ fn span_over(a: KeySpan, b: KeySpan) -> KeySpan
 
 /// The hull of spans with one more.
 pub(crate) fn with_span(before: Option<KeySpan>, span: KeySpan) -> KeySpan
-    ensures { (spans : List SpanOf) → before ≡ hull_of spans → Some result ≡ hull_of (spans ++ span ∷ []) }
+    ensures { (spans : List SpanOf) → before ≡ hull_if_any spans → Some result ≡ hull_if_any (spans ++ span ∷ []) }
 {
     match before {
         None => span,
@@ -70,7 +70,7 @@ pub(crate) fn meets_some(hull: &Option<KeySpan>, span: &KeySpan) -> bool
 
 /// All keys from the first of a table to its last.
 pub(crate) fn range_of(t: &LeveledTable) -> Result<KeySpan, NoMemory>
-    ensures { IfOk result (λ span. span ≡ range_of t.now) }
+    ensures { IfOk result (λ span. span ≡ table_span t.now) }
 {
     let properties = t.table.table().properties();
     Ok(KeySpan {

@@ -13,8 +13,8 @@ use Rattle.ts_key.specs.declared.version.Kind.{Kind}
 use Rattle.ts_key.specs.declared.version.Kind.TheVariants.{Del, Put}
 use Rattle.data_block.specs.declared.fields.Fields.{Fields}
 use Rattle.ts_key.specs.Items.{Item, IsValue}
-use Rattle.data_block.specs.Grammar.{key_of, shared, entry, entry_of}
-use Rattle.data_block.specs.Fields.{fields, Fit, bytes_of, IsFit}
+use Rattle.data_block.specs.Grammar.{stored_key_of, shared, entry, entry_of}
+use Rattle.data_block.specs.Fields.{fields, Fit, bytes_of_fields, IsFit}
 use Rattle.data_block.specs.Reading.{IsNextEntry, joined_key, IsJoined}
 use Rattle.data_block.proofs.Fielded.{fields_once}
 
@@ -49,7 +49,7 @@ value_short Put value h = h
 
 -- what the parts spell
 pub is_next : (form : Form) (n : ℕ) (last : List ℕ) (f : Fields) (k : SortKey) (kind : Kind) → IsJoined n last f → joined_key last f ≡ stored_key form k kind → IsStored form k → IsValue kind f.value.now
-    → IsNextEntry form n last (bytes_of f) (record { sort_key = k; kind = kind; value = f.value.now }) f.rest.now
+    → IsNextEntry form n last (bytes_of_fields f) (record { sort_key = k; kind = kind; value = f.value.now }) f.rest.now
 is_next form n last f k kind j e h v =
     let s = f.shared in
     let key = stored_key form k kind in
@@ -62,12 +62,12 @@ is_next form n last f k kind j e h v =
 -- an entry at the front gives these parts
 pub record Gives (form : Form) (n : ℕ) (last : List ℕ) (f : Fields) (v : Item) : Type 0 where
   pub joined : IsJoined n last f
-  pub key : joined_key last f ≡ key_of form v
+  pub key : joined_key last f ≡ stored_key_of form v
   pub value : f.value.now ≡ v.value
 
-pub gives : (form : Form) (n : ℕ) (last : List ℕ) (f : Fields) (v : Item) (rest : List ℕ) → IsFit f → IsNextEntry form n last (bytes_of f) v rest → Gives form n last f v
+pub gives : (form : Form) (n : ℕ) (last : List ℕ) (f : Fields) (v : Item) (rest : List ℕ) → IsFit f → IsNextEntry form n last (bytes_of_fields f) v rest → Gives form n last f v
 gives form n last f v rest fit h =
-    let key = key_of form v in
+    let key = stored_key_of form v in
     let s = shared n last key in
     let sh = is_shared n last key in
     let short = stored_key_short form v.sort_key v.kind h.item.spelled in
@@ -99,11 +99,11 @@ middle n last u s r ne le e =
     let test : (n % 16 == 0) ≡ false = ne_eqb (n % 16) 0 ne in
     ap (λ (b : Bool). cond b 0 (common_prefix_len nat_eq last (take s last ++ u))) test ∙ common_skip s last u le ∙ ap (λ (m : ℕ). s + m) (sym e)
 
-pub unvalued : (form : Form) (n : ℕ) (last : List ℕ) (f : Fields) (k : SortKey) (kind : Kind) → IsFit f → IsStored form k → joined_key last f ≡ stored_key form k kind → (IsValue kind f.value.now → ⊥) → (v : Item) (rest : List ℕ) → IsNextEntry form n last (bytes_of f) v rest → ⊥
+pub unvalued : (form : Form) (n : ℕ) (last : List ℕ) (f : Fields) (k : SortKey) (kind : Kind) → IsFit f → IsStored form k → joined_key last f ≡ stored_key form k kind → (IsValue kind f.value.now → ⊥) → (v : Item) (rest : List ℕ) → IsNextEntry form n last (bytes_of_fields f) v rest → ⊥
 unvalued form n last f k kind fit hk e bad v rest h =
     let g = gives form n last f v rest fit h in
     let same = one_spelling form v.sort_key k v.kind kind h.item.spelled hk (sym g.key ∙ e) in
     bad (subst (λ (x : Kind). IsValue x f.value.now) same.1 (subst (IsValue v.kind) (sym g.value) h.item.value))
 
-pub unkeyed : (form : Form) (n : ℕ) (last : List ℕ) (f : Fields) → IsFit f → ((k : SortKey) (kind : Kind) → IsStored form k → joined_key last f ≡ stored_key form k kind → ⊥) → (v : Item) (rest : List ℕ) → IsNextEntry form n last (bytes_of f) v rest → ⊥
+pub unkeyed : (form : Form) (n : ℕ) (last : List ℕ) (f : Fields) → IsFit f → ((k : SortKey) (kind : Kind) → IsStored form k → joined_key last f ≡ stored_key form k kind → ⊥) → (v : Item) (rest : List ℕ) → IsNextEntry form n last (bytes_of_fields f) v rest → ⊥
 unkeyed form n last f fit bad v rest h = let g = gives form n last f v rest fit h in bad v.sort_key v.kind h.item.spelled g.key

@@ -11,7 +11,7 @@ use Rattle.ts_key.specs.StoredKeys.{IsItem}
 use Rattle.ts_key.specs.Lists.{IsSorted}
 use Rattle.ts_key.specs.declared.version.Form.{Form}
 use Rattle.data_block.specs.declared.index.Entry.{Entry}
-use Rattle.data_block.specs.Grammar.{key_of, shared, entry_of, entries, last_key}
+use Rattle.data_block.specs.Grammar.{stored_key_of, shared, entry_of, entries, last_key}
 use Rattle.data_block.specs.Fields.{fields, Fit}
 use Rattle.data_block.specs.Index.{item_at, items_at, key_at, value_at, IsWithin}
 use Rattle.data_block.specs.Reading.{IsNextEntry, EndsBefore}
@@ -54,9 +54,9 @@ run_more form region rest after vs v e h =
     e ∙ ap (λ (x : List ℕ). entries form 0 [] vs ++ x) h.parts ∙ sym (append_assoc (entries form 0 [] vs) (entry_of form (length vs) (last_key form [] vs) v) after) ∙ ap (λ (x : List ℕ). x ++ after) more
 
 -- ---- each region has one list of versions
-pub own_fit : (form : Form) (n : ℕ) (last : List ℕ) (v : Item) → IsItem form v → Fit (shared n last (key_of form v)) (drop (shared n last (key_of form v)) (key_of form v)) v.value
+pub own_fit : (form : Form) (n : ℕ) (last : List ℕ) (v : Item) → IsItem form v → Fit (shared n last (stored_key_of form v)) (drop (shared n last (stored_key_of form v)) (stored_key_of form v)) v.value
 own_fit form n last v h =
-    let key = key_of form v in
+    let key = stored_key_of form v in
     let s = shared n last key in
     let sh = is_shared n last key in
     let sk = sh.in_key in
@@ -66,8 +66,8 @@ own_fit form n last v h =
 
 pub next_once : (form : Form) (n : ℕ) (last bytes : List ℕ) (v w : Item) (r q : List ℕ) → IsNextEntry form n last bytes v r → IsNextEntry form n last bytes w q → (v ≡ w) × (r ≡ q)
 next_once form n last bytes v w r q a b =
-    let k = key_of form v in
-    let l = key_of form w in
+    let k = stored_key_of form v in
+    let l = stored_key_of form w in
     let s = shared n last k in
     let t = shared n last l in
     let x = is_shared n last k in
@@ -80,15 +80,15 @@ next_once form n last bytes v w r q a b =
     (λ i. record { sort_key = same.0 i; kind = same.1 i; value = o.2 i }, o.3)
 
 some_bytes : (form : Form) (n : ℕ) (last : List ℕ) (v : Item) (r : List ℕ) → [] ≡ entry_of form n last v ++ r → ⊥
-some_bytes form n last v r e = omega (arith, ap length e, length-append (entry_of form n last v) r, length-entry (shared n last (key_of form v)) (key_of form v) v.value)
+some_bytes form n last v r e = omega (arith, ap length e, length-append (entry_of form n last v) r, length-entry (shared n last (stored_key_of form v)) (stored_key_of form v) v.value)
 
 pub entries_once : (form : Form) (n : ℕ) (last : List ℕ) (vs ws : List Item) → AllByRecursion (IsItem form) vs → AllByRecursion (IsItem form) ws → entries form n last vs ≡ entries form n last ws → vs ≡ ws
 unfolding entries
 entries_once form n last [] [] a b e = refl
-entries_once form n last [] (w ∷ ws) a b e = absurd (some_bytes form n last w (entries form (n + 1) (key_of form w) ws) e)
-entries_once form n last (v ∷ vs) [] a b e = absurd (some_bytes form n last v (entries form (n + 1) (key_of form v) vs) (sym e))
+entries_once form n last [] (w ∷ ws) a b e = absurd (some_bytes form n last w (entries form (n + 1) (stored_key_of form w) ws) e)
+entries_once form n last (v ∷ vs) [] a b e = absurd (some_bytes form n last v (entries form (n + 1) (stored_key_of form v) vs) (sym e))
 entries_once form n last (v ∷ vs) (w ∷ ws) a b e =
     let bytes = entries form n last (v ∷ vs) in
-    let o = next_once form n last bytes v w (entries form (n + 1) (key_of form v) vs) (entries form (n + 1) (key_of form w) ws) (record { parts = refl; item = a.0 }) (record { parts = e; item = b.0 }) in
-    let rest : entries form (n + 1) (key_of form v) vs ≡ entries form (n + 1) (key_of form v) ws = o.1 ∙ ap (λ (x : Item). entries form (n + 1) (key_of form x) ws) (sym o.0) in
-    λ i. o.0 i ∷ entries_once form (n + 1) (key_of form v) vs ws a.1 b.1 rest i
+    let o = next_once form n last bytes v w (entries form (n + 1) (stored_key_of form v) vs) (entries form (n + 1) (stored_key_of form w) ws) (record { parts = refl; item = a.0 }) (record { parts = e; item = b.0 }) in
+    let rest : entries form (n + 1) (stored_key_of form v) vs ≡ entries form (n + 1) (stored_key_of form v) ws = o.1 ∙ ap (λ (x : Item). entries form (n + 1) (stored_key_of form x) ws) (sym o.0) in
+    λ i. o.0 i ∷ entries_once form (n + 1) (stored_key_of form v) vs ws a.1 b.1 rest i

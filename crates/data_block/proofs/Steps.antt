@@ -9,8 +9,8 @@ use Rattle.ts_key.specs.Numbers.{number_bytes}
 use Rattle.data_block.specs.declared.index.Index.{Index}
 use Rattle.data_block.specs.declared.index.Entry.{Entry}
 use Rattle.data_block.specs.declared.fields.Fields.{Fields}
-use Rattle.data_block.specs.Grammar.{key_of, shared, block_entries, restart, block_restarts, last_key}
-use Rattle.data_block.specs.Fields.{fields, Fit, bytes_of, IsFit}
+use Rattle.data_block.specs.Grammar.{stored_key_of, shared, block_entries, restart, block_restarts, last_key}
+use Rattle.data_block.specs.Fields.{fields, Fit, bytes_of_fields, IsFit}
 use Rattle.data_block.specs.Index.{IsWithin, items_at}
 use Rattle.data_block.specs.Reading.{IsNextEntry, IsJoined, EndsBefore}
 use Rattle.data_block.specs.Regions.{IsRun, HasRead, items_in}
@@ -22,19 +22,19 @@ use Rattle.data_block.proofs.Runs.{own_fit, next_once, sorted_snoc, run_more}
 -- no entry is at the front where no parts are
 pub no_parts : (form : Form) (n : ℕ) (last bytes : List ℕ) → ((s : ℕ) (k v rest : List ℕ) → Fit s k v → bytes ≡ fields s k v ++ rest → ⊥) → (v : Item) (after : List ℕ) → IsNextEntry form n last bytes v after → ⊥
 no_parts form n last bytes none v after h =
-    let key = key_of form v in
+    let key = stored_key_of form v in
     let s = shared n last key in
     none s (drop s key) v.value after (own_fit form n last v h.item) (h.parts ∙ ap (λ (x : List ℕ). x ++ after) (entry_fields s key v.value))
 
 -- no entry is at the front where its parts share the wrong number of bytes
-pub not_joined : (form : Form) (n : ℕ) (last bytes : List ℕ) (f : Fields) → IsFit f → bytes ≡ bytes_of f → (IsJoined n last f → ⊥) → (v : Item) (after : List ℕ) → IsNextEntry form n last bytes v after → ⊥
+pub not_joined : (form : Form) (n : ℕ) (last bytes : List ℕ) (f : Fields) → IsFit f → bytes ≡ bytes_of_fields f → (IsJoined n last f → ⊥) → (v : Item) (after : List ℕ) → IsNextEntry form n last bytes v after → ⊥
 not_joined form n last bytes f fit e bad v after h =
     bad (gives form n last f v after fit (subst (λ (x : List ℕ). IsNextEntry form n last x v after) e h)).joined
 
 -- an entry at the front is the one that was read there
-pub the_next : (form : Form) (n : ℕ) (last bytes : List ℕ) (f : Fields) (w : Item) → bytes ≡ bytes_of f → IsNextEntry form n last (bytes_of f) w f.rest.now → (vs : List Item) → (EndsBefore vs w.sort_key → ⊥) → (v : Item) (after : List ℕ) → IsNextEntry form n last bytes v after → EndsBefore vs v.sort_key → ⊥
+pub the_next : (form : Form) (n : ℕ) (last bytes : List ℕ) (f : Fields) (w : Item) → bytes ≡ bytes_of_fields f → IsNextEntry form n last (bytes_of_fields f) w f.rest.now → (vs : List Item) → (EndsBefore vs w.sort_key → ⊥) → (v : Item) (after : List ℕ) → IsNextEntry form n last bytes v after → EndsBefore vs v.sort_key → ⊥
 the_next form n last bytes f w e h vs bad v after g ends =
-    let same = next_once form n last (bytes_of f) w v f.rest.now after h (subst (λ (x : List ℕ). IsNextEntry form n last x v after) e g) in
+    let same = next_once form n last (bytes_of_fields f) w v f.rest.now after h (subst (λ (x : List ℕ). IsNextEntry form n last x v after) e g) in
     bad (subst (λ (x : Item). EndsBefore vs x.sort_key) (sym same.0) ends)
 
 pub length-items_at : (keys image : List ℕ) (es : List Entry) → length (items_at keys image es) ≡ length es
@@ -47,7 +47,7 @@ pub record PartsAt (region : List ℕ) (at : ℕ) (f : Fields) : Type 0 where
   pub value : slice_range region (at + 8 + length f.key.now) (at + 8 + length f.key.now + length f.value.now) ≡ f.value.now
   pub rest : drop (at + 8 + length f.key.now + length f.value.now) region ≡ f.rest.now
 
-pub parts_at : (region : List ℕ) (at : ℕ) (f : Fields) → at ≤ length region → drop at region ≡ bytes_of f → PartsAt region at f
+pub parts_at : (region : List ℕ) (at : ℕ) (f : Fields) → at ≤ length region → drop at region ≡ bytes_of_fields f → PartsAt region at f
 parts_at region at f le e =
     let k = f.key.now in
     let v = f.value.now in
@@ -75,7 +75,7 @@ snoc_front vs ws v w e =
 pub read_more : (form : Form) (region : List ℕ) (at end : ℕ) (old new : Index) (last next-last rest : List ℕ) (v : Item)
     → HasRead form region at old last → IsNextEntry form (length old.entries.items) last (drop at region) v rest → EndsBefore (items_in region old) v.sort_key
     → end ≤ length region → drop end region ≡ rest
-    → All (IsWithin new.keys.items region) new.entries.items → items_in region new ≡ items_in region old ++ v ∷ [] → new.restarts.items ≡ old.restarts.items ++ restart (length old.entries.items) at → next-last ≡ key_of form v → new.last_at ≡ at
+    → All (IsWithin new.keys.items region) new.entries.items → items_in region new ≡ items_in region old ++ v ∷ [] → new.restarts.items ≡ old.restarts.items ++ restart (length old.entries.items) at → next-last ≡ stored_key_of form v → new.last_at ≡ at
     → HasRead form region end new next-last
 read_more form region at end old new last next-last rest v h next ends fits rest-is within items-is restarts-is last-is begins-is =
     let vs = items_in region old in

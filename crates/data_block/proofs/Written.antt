@@ -12,18 +12,18 @@ use Rattle.ts_key.specs.declared.version.Op.TheVariants as ops
 use Rattle.ts_key.specs.StoredKeys.{IsItem}
 use Rattle.ts_key.specs.declared.version.Form.{Form}
 use Rattle.ts_key.specs.Lists.{IsSorted}
-use Rattle.data_block.specs.Grammar.{key_of, shared, entry, entry_of, entries, block_entries, restart, restarts, last_key, IsBlock}
+use Rattle.data_block.specs.Grammar.{stored_key_of, shared, entry, entry_of, entries, block_entries, restart, restarts, last_key, IsBlock}
 use Rattle.data_block.specs.Written.{Written, HasWritten}
 
-pub last_key_snoc : (form : Form) (last : List ℕ) (vs : List Item) (v : Item) → last_key form last (vs ++ v ∷ []) ≡ key_of form v
+pub last_key_snoc : (form : Form) (last : List ℕ) (vs : List Item) (v : Item) → last_key form last (vs ++ v ∷ []) ≡ stored_key_of form v
 last_key_snoc form last [] v = refl
-last_key_snoc form last (x ∷ vs) v = last_key_snoc form (key_of form x) vs v
+last_key_snoc form last (x ∷ vs) v = last_key_snoc form (stored_key_of form x) vs v
 
 pub entries_snoc : (form : Form) (n : ℕ) (last : List ℕ) (vs : List Item) (v : Item) → entries form n last (vs ++ v ∷ []) ≡ entries form n last vs ++ entry_of form (n + length vs) (last_key form last vs) v
 unfolding entries
 entries_snoc form n last [] v = append-nil (entry_of form n last v) ∙ ap (λ (m : ℕ). entry_of form m last v) (omega arith)
 entries_snoc form n last (x ∷ vs) v =
-    let key = key_of form x in
+    let key = stored_key_of form x in
     ap (λ (r : List ℕ). entry_of form n last x ++ r) (entries_snoc form (n + 1) key vs v ∙ ap (λ (m : ℕ). entries form (n + 1) key vs ++ entry_of form m (last_key form key vs) v) (omega arith))
     ∙ sym (append_assoc (entry_of form n last x) (entries form (n + 1) key vs) (entry_of form (n + length (x ∷ vs)) (last_key form key vs) v))
 
@@ -31,7 +31,7 @@ pub restarts_snoc : (form : Form) (n : ℕ) (last : List ℕ) (at : ℕ) (vs : L
 unfolding restarts entries
 restarts_snoc form n last at [] v = append-nil (restart n at) ∙ (λ i. restart (sym (add-zero n) i) (sym (add-zero at) i))
 restarts_snoc form n last at (x ∷ vs) v =
-    let key = key_of form x in
+    let key = stored_key_of form x in
     let e = entry_of form n last x in
     let ends : at + length e + length (entries form (n + 1) key vs) ≡ at + length (e ++ entries form (n + 1) key vs) = omega (arith, length-append e (entries form (n + 1) key vs)) in
     let index : n + 1 + length vs ≡ n + length (x ∷ vs) = omega arith in
@@ -47,7 +47,7 @@ unfolding entries restarts
 nothing_written w e r n l = record { entries = e; restarts = r; count = n; last = l; items = tt }
 
 pub written_more : (w next : Written) (vs : List Item) (v : Item) (key : List ℕ) (s : ℕ) → HasWritten w vs
-    → next.form ≡ w.form → key ≡ key_of w.form v → s ≡ shared w.count w.last key → IsItem w.form v
+    → next.form ≡ w.form → key ≡ stored_key_of w.form v → s ≡ shared w.count w.last key → IsItem w.form v
     → next.entries ≡ w.entries ++ entry s key v.value → next.restarts ≡ w.restarts ++ restart w.count (length w.entries) → next.count ≡ w.count + 1 → next.last ≡ key
     → HasWritten next (vs ++ v ∷ [])
 written_more w next vs v key s h form-is key-is s-is item out-is restarts-is count-is last-is =
@@ -83,8 +83,8 @@ unfolding entries restarts
 each_short form n last at [] h = All-from_recursion (λ (m : ℕ). m < 2 ^ 32) [] tt
 each_short form n last at (v ∷ vs) h =
     let e = entry_of form n last v in
-    let len = length-append e (entries form (n + 1) (key_of form v) vs) in
-    All-append (λ (m : ℕ). m < 2 ^ 32) (restart n at) (restarts form (n + 1) (key_of form v) (at + length e) vs) (short_restart n at (omega arith)) (each_short form (n + 1) (key_of form v) (at + length e) vs (omega (arith, len)))
+    let len = length-append e (entries form (n + 1) (stored_key_of form v) vs) in
+    All-append (λ (m : ℕ). m < 2 ^ 32) (restart n at) (restarts form (n + 1) (stored_key_of form v) (at + length e) vs) (short_restart n at (omega arith)) (each_short form (n + 1) (stored_key_of form v) (at + length e) vs (omega (arith, len)))
 
 -- what was written in order is a block
 pub is_block : (w : Written) (vs : List Item) → length w.entries < 2 ^ 17 → length w.restarts ≤ w.count → w.count ≤ length w.entries → HasWritten w vs → IsSorted vs → 0 < length vs → IsBlock w.form vs

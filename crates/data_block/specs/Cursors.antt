@@ -4,8 +4,8 @@ use Rattle.ts_key.specs.Items.{Item}
 use Rattle.data_block.specs.declared.cursor.BlockCursor.{BlockCursor}
 
 -- the versions that it walks over
-abbrev pub versions_of : BlockCursor → List Item
-versions_of c = c.block.now
+abbrev pub cursor_items : BlockCursor → List Item
+cursor_items c = c.block.now
 
 -- 0 before the first version, i + 1 at the version with index i, and one more after the last
 abbrev pub place_of : BlockCursor → ℕ

@@ -13,13 +13,13 @@ pub record Fit (s : ℕ) (k v : List ℕ) : Type 0 where
   pub key : length k < 2 ^ 16
   pub value : length v < 2 ^ 32
 
-abbrev pub bytes_of : Fields → List ℕ
-bytes_of f = fields f.shared f.key.now f.value.now ++ f.rest.now
+abbrev pub bytes_of_fields : Fields → List ℕ
+bytes_of_fields f = fields f.shared f.key.now f.value.now ++ f.rest.now
 
 abbrev pub IsFit : Fields → Type 0
 IsFit f = Fit f.shared f.key.now f.value.now
 
 -- these parts stand at the front; where none were found, none do
 abbrev pub ReadsFields : List ℕ → Option Fields → Type 0
-ReadsFields bytes (Some f) = IsFit f × (bytes ≡ bytes_of f)
+ReadsFields bytes (Some f) = IsFit f × (bytes ≡ bytes_of_fields f)
 ReadsFields bytes None = (s : ℕ) (k v rest : List ℕ) → Fit s k v → bytes ≡ fields s k v ++ rest → ⊥

@@ -17,8 +17,8 @@ abbrev pub block_target : ℕ
 block_target = 4096
 
 -- the stored key of a version
-abbrev pub key_of : Form → Item → List ℕ
-key_of form v = stored_key form v.sort_key v.kind
+abbrev pub stored_key_of : Form → Item → List ℕ
+stored_key_of form v = stored_key form v.sort_key v.kind
 
 -- how many bytes of the stored key before it the entry with index n leaves out
 abbrev pub shared : ℕ → List ℕ → List ℕ → ℕ
@@ -29,17 +29,17 @@ entry shared key value = number_bytes 2 shared ++ number_bytes 2 (length key - s
 
 -- the entry of a version with index n, behind the stored key `last`
 abbrev pub entry_of : Form → ℕ → List ℕ → Item → List ℕ
-entry_of form n last v = entry (shared n last (key_of form v)) (key_of form v) v.value
+entry_of form n last v = entry (shared n last (stored_key_of form v)) (stored_key_of form v) v.value
 
 -- the entries from index n on, behind the stored key `last`
 unfoldable pub entries : Form → ℕ → List ℕ → List Item → List ℕ
 entries form n last [] = []
-entries form n last (v ∷ vs) = entry_of form n last v ++ entries form (n + 1) (key_of form v) vs
+entries form n last (v ∷ vs) = entry_of form n last v ++ entries form (n + 1) (stored_key_of form v) vs
 
 -- the stored key of the last version, or the one before them all
 abbrev pub last_key : Form → List ℕ → List Item → List ℕ
 last_key form last [] = last
-last_key form last (v ∷ vs) = last_key form (key_of form v) vs
+last_key form last (v ∷ vs) = last_key form (stored_key_of form v) vs
 
 -- the offset of an entry, where its index is a multiple of `restart_interval`
 abbrev pub restart : ℕ → ℕ → List ℕ
@@ -47,7 +47,7 @@ restart n at = if n % restart_interval == 0 then at ∷ [] else []
 
 unfoldable pub restarts : Form → ℕ → List ℕ → ℕ → List Item → List ℕ
 restarts form n last at [] = []
-restarts form n last at (v ∷ vs) = restart n at ++ restarts form (n + 1) (key_of form v) (at + length (entry_of form n last v)) vs
+restarts form n last at (v ∷ vs) = restart n at ++ restarts form (n + 1) (stored_key_of form v) (at + length (entry_of form n last v)) vs
 
 -- the restarts and their count
 abbrev pub numbers : List ℕ → List ℕ

@@ -9,7 +9,7 @@ use Rattle.ts_key.specs.declared.version.Kind.{Kind}
 use Rattle.ts_key.specs.declared.lent.KeyRef.{KeyRef}
 use Rattle.data_block.specs.declared.fields.Fields.{Fields}
 use Rattle.data_block.specs.Grammar.{shared, entry_of}
-use Rattle.data_block.specs.Fields.{bytes_of}
+use Rattle.data_block.specs.Fields.{bytes_of_fields}
 
 -- the version with index n, behind the stored key `last`, stands at the front of the bytes
 pub record IsNextEntry (form : Form) (n : ℕ) (last bytes : List ℕ) (v : Item) (rest : List ℕ) : Type 0 where
@@ -30,8 +30,8 @@ item_from f found = record { sort_key = sort_key_of found.0; kind = found.1; val
 
 -- the parts are the entry of the version that was found; where none was, they are none
 abbrev pub ReadsNext : Form → ℕ → List ℕ → Fields → Option (KeyRef × Kind) → Type 0
-ReadsNext form n last f None = (v : Item) (rest : List ℕ) → IsNextEntry form n last (bytes_of f) v rest → ⊥
-ReadsNext form n last f (Some found) = IsNextEntry form n last (bytes_of f) (item_from f found) f.rest.now
+ReadsNext form n last f None = (v : Item) (rest : List ℕ) → IsNextEntry form n last (bytes_of_fields f) v rest → ⊥
+ReadsNext form n last f (Some found) = IsNextEntry form n last (bytes_of_fields f) (item_from f found) f.rest.now
 
 -- the last one, if there is one, stands before the sort key
 abbrev pub EndsBefore : List Item → SortKey → Type 0

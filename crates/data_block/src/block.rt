@@ -4,7 +4,7 @@ ghost use Rattle.std.specs.Prelude.{◌≡◌, ◌<◌, ◌≤◌, ◌^◌, [], 
 ghost use Rattle.ts_key.specs.Order.{sort_key_of};
 ghost use Rattle.ts_key.specs.Items.{Item, shown, found};
 ghost use Rattle.ts_key.specs.Lists.{below};
-ghost use Rattle.ts_key.specs.Visible.{visible};
+ghost use Rattle.ts_key.specs.Visible.{visible_item};
 ghost use Rattle.ts_key.specs.Lists.{IsSorted};
 ghost use Rattle.data_block.specs.Index.{items_at, IsWithin};
 ghost use Rattle.data_block.specs.Faults.{ReadsBlock, ReadsImage};
@@ -108,7 +108,7 @@ impl Block {
         }
     }
 
-    ghost use Rattle.data_block.specs.Cursors.{versions_of, place_of};
+    ghost use Rattle.data_block.specs.Cursors.{cursor_items, place_of};
 
     /// Reads an image, which the block shares. `Bad` comes exactly where it is the block of no list of versions.
     pub fn read(alloc: Global, image: Bytes, form: Form) -> Result<Block, BlockFault>
@@ -129,7 +129,7 @@ impl Block {
 
     /// The newest version of the key with a timestamp up to `t` and a sequence up to `s`.
     pub fn find(&self, key: &[u8], t: Ts, s: Seq) -> Option<Hit<'_>>
-        ensures { found key.now result ≡ visible self.now key.now t.0 s.0 }
+        ensures { found key.now result ≡ visible_item self.now key.now t.0 s.0 }
     {
         find_in(
             &self.keys,
@@ -144,7 +144,7 @@ impl Block {
     /// A cursor at the first version. Making it takes no memory.
     pub fn cursor(&self, _alloc: Global) -> Result<BlockCursor<'_>, NoMemory>
         ensures made { IsOk result }
-        ensures versions { IfOk result (λ c. versions_of c ≡ self.now) }
+        ensures versions { IfOk result (λ c. cursor_items c ≡ self.now) }
         ensures first { IfOk result (λ c. place_of c ≡ 1) }
     {
         let _entries = &self.entries;

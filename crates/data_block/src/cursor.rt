@@ -20,12 +20,12 @@ pub struct BlockCursor<'a> {
 }
 
 impl<'a> BlockCursor<'a> {
-    ghost use Rattle.data_block.specs.Cursors.{versions_of, place_of};
+    ghost use Rattle.data_block.specs.Cursors.{cursor_items, place_of};
 
     /// A cursor at the first version.
     pub(crate) fn new(block: &'a Block) -> BlockCursor<'a>
         requires { IsSorted block.now }
-        ensures versions { versions_of result ≡ block.now }
+        ensures versions { cursor_items result ≡ block.now }
         ensures place { place_of result ≡ 1 }
     {
         BlockCursor { block, place: 1 }

@@ -4,7 +4,7 @@ ghost use Rattle.std.specs.Prelude.{◌≡◌, ◌≤◌, ◌<◌, ℕ, All, len
 ghost use Rattle.ts_key.specs.Order.{sort_key_of, is_before};
 ghost use Rattle.ts_key.specs.Items.{found};
 ghost use Rattle.ts_key.specs.Lists.{IsSorted, below};
-ghost use Rattle.ts_key.specs.Visible.{is_seen, first_of, visible};
+ghost use Rattle.ts_key.specs.Visible.{is_item_seen, first_of, visible_item};
 ghost use Rattle.data_block.specs.Index.{items_at, sort_key_at, IsWithin};
 ghost use Rattle.data_block.specs.declared.index.Entry.{Entry as EntryOf};
 
@@ -45,7 +45,7 @@ fn first_seen<'a>(
     requires within { All (IsWithin keys.now image.now) entries.now }
     requires sorted { IsSorted (items_at keys.now image.now entries.now) }
     requires from { (k : ℕ) (d : EntryOf) → k < length entries.now → is_before (sort_key_at keys.now (slice_index_or entries.now k d)) (record { key = key.now; ts = t.0; seq = s.0 }) ≡ false }
-    ensures { found key.now result ≡ first_of (is_seen key.now t.0 s.0) (items_at keys.now image.now entries.now) }
+    ensures { found key.now result ≡ first_of (is_item_seen key.now t.0 s.0) (items_at keys.now image.now entries.now) }
 {
     for e in entries {
         if !e.is_of(keys, key) {
@@ -69,7 +69,7 @@ pub(crate) fn find_in<'a>(
 ) -> Option<Hit<'a>>
     requires within { All (IsWithin keys.now image.now) entries.now }
     requires sorted { IsSorted (items_at keys.now image.now entries.now) }
-    ensures { found key.now result ≡ visible (items_at keys.now image.now entries.now) key.now t.0 s.0 }
+    ensures { found key.now result ≡ visible_item (items_at keys.now image.now entries.now) key.now t.0 s.0 }
 {
     let to = KeyRef { key, ts: t, seq: s };
     let at = lower_bound(keys, image, entries, &to);

@@ -18,7 +18,7 @@ use Rattle.floor_laws.specs.Sound.{IsSoundCourse}
 use Rattle.floor_laws.proofs.Courses.{course_sound}
 use Rattle.floor_laws.proofs.Told.{sound_after}
 use Rattle.engine_laws.specs.Standing.{Says}
-use Rattle.engine_laws.specs.Engine.{AreSameKept, Holds, MayEdit, with_batches, with_edit}
+use Rattle.engine_laws.specs.Engine.{AreSameKept, HoldsState, MayEdit, with_batches, with_edit}
 use Rattle.engine_laws.specs.Installs.{roll_edit}
 use Rattle.engine_laws.proofs.Resting.{synced_low}
 use Rattle.engine_laws.proofs.Syncing.{sync_unasked}
@@ -27,8 +27,8 @@ use Rattle.engine_laws.proofs.Moving.{other_log}
 use Rattle.engine_laws.proofs.Installing.{roll_may}
 
 pub act_holds : (m : State) (c : Course) (s : Says) (waiting : List Numbered) (number : ℕ) (act : Act) (reply : Reply) (edit : Edit)
-    → Holds m c s waiting → IsReplyTo m act reply → IsTrue (syncs act reply) → ends_after c.ends act reply ≡ c.ends → MayEdit m (with_batches s waiting) edit (after m number act reply)
-    → Holds (after m number act reply) (course_after m number c act reply) (with_edit (with_batches s waiting) edit) []
+    → HoldsState m c s waiting → IsReplyTo m act reply → IsTrue (syncs act reply) → ends_after c.ends act reply ≡ c.ends → MayEdit m (with_batches s waiting) edit (after m number act reply)
+    → HoldsState (after m number act reply) (course_after m number c act reply) (with_edit (with_batches s waiting) edit) []
 act_holds m c s waiting number act reply edit h r is_sync ends may =
     let next = after m number act reply in
     let d = course_after m number c act reply in
@@ -40,7 +40,7 @@ act_holds m c s waiting number act reply edit h r is_sync ends may =
     edit_holds_on m c (with_batches s waiting) edit next k may d (edit_course m c (with_batches s waiting) edit next k may d ends low (course_sound m c number act reply h.sound h.course.sound r))
 
 module _ (m : State) (c : Course) (s : Says) (waiting : List Numbered) (number : ℕ) (family : Family) (log : ℕ)
-    (h : Holds m c s waiting) (r : IsReplyTo m (flush_start family) (OkAt m.last.0)) (new : s.fold.next_file ≤ log) (most : log + 1 ≤ FILE_NUMBER_LIMIT) (empty : s.logs log ≡ []) where
+    (h : HoldsState m c s waiting) (r : IsReplyTo m (flush_start family) (OkAt m.last.0)) (new : s.fold.next_file ≤ log) (most : log + 1 ≤ FILE_NUMBER_LIMIT) (empty : s.logs log ≡ []) where
   abbrev sealed : State
   sealed = after m number (flush_start family) (OkAt m.last.0)
 
@@ -50,16 +50,16 @@ module _ (m : State) (c : Course) (s : Says) (waiting : List Numbered) (number :
       let same : AreSameKept m sealed = record { families = refl; versions = refl; last = refl } in
       roll_may m sealed c (with_batches s waiting) log (sync_unasked m c s waiting h) new most none same (sound_after m number (flush_start family) (OkAt m.last.0) h.sound r)
 
-  seal_on : (d : Course) → d.ends ≡ c.ends → d.synced ≤ m.last.0 → IsSoundCourse sealed d → Holds sealed d (with_edit (with_batches s waiting) (roll_edit m.last log)) []
+  seal_on : (d : Course) → d.ends ≡ c.ends → d.synced ≤ m.last.0 → IsSoundCourse sealed d → HoldsState sealed d (with_edit (with_batches s waiting) (roll_edit m.last log)) []
   seal_on d ends low sound =
       let s1 = with_batches s waiting in
       let k = sync_unasked m c s waiting h in
       edit_holds_on m c s1 (roll_edit m.last log) sealed k seal_may d (edit_course m c s1 (roll_edit m.last log) sealed k seal_may d ends low sound)
 
-  pub seal_holds : Holds sealed (course_after m number c (flush_start family) (OkAt m.last.0)) (with_edit (with_batches s waiting) (roll_edit m.last log)) []
+  pub seal_holds : HoldsState sealed (course_after m number c (flush_start family) (OkAt m.last.0)) (with_edit (with_batches s waiting) (roll_edit m.last log)) []
   seal_holds = seal_on (course_after m number c (flush_start family) (OkAt m.last.0)) refl (synced_low m c s waiting h) (course_sound m c number (flush_start family) (OkAt m.last.0) h.sound h.course.sound r)
 
-  pub seal_synced : Holds sealed (record c { synced = m.last.0 }) (with_edit (with_batches s waiting) (roll_edit m.last log)) []
+  pub seal_synced : HoldsState sealed (record c { synced = m.last.0 }) (with_edit (with_batches s waiting) (roll_edit m.last log)) []
   seal_synced = seal_on (record c { synced = m.last.0 }) refl (omega arith) (record { synced = λ i f q. (h.sound.families i f q).tables.through; failing = h.course.sound.failing })
 
 -- ---- the disk fails

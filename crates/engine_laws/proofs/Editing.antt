@@ -21,10 +21,10 @@ use Rattle.manifest.specs.Folds.{sizes_of}
 use Rattle.floor_laws.specs.Sound.{IsSoundCourse}
 use Rattle.floor_laws.proofs.Members.{In, In-contains, In-right, contains_In, All-In, filter_none, filter_within}
 use Rattle.floor_laws.proofs.Kept.{same_number}
-use Rattle.engine_laws.specs.Logs.{above, is_above, versions_of, last_of, last_over, batches_of}
+use Rattle.engine_laws.specs.Logs.{above, is_above_through, versions_of, last_of, last_over, batches_of}
 use Rattle.engine_laws.specs.Manifests.{IsWell}
 use Rattle.engine_laws.specs.Standing.{Says, StandsFor, family_said, live_batches}
-use Rattle.engine_laws.specs.Engine.{durable_last, with_edit, Holds, IsOnCourse, MayEdit}
+use Rattle.engine_laws.specs.Engine.{durable_last, with_edit, HoldsState, IsOnCourse, MayEdit}
 use Rattle.engine_laws.proofs.Places.{get-map, map-get}
 use Rattle.engine_laws.proofs.Ascending.{newest_of, rising_sorted}
 use Rattle.engine_laws.proofs.Folding.{family_back, families_length, edit_well}
@@ -33,18 +33,18 @@ use Rattle.engine_laws.proofs.Resting.{front_logged, durable_is, whole_last, who
 
 -- ---- the versions above a higher sequence
 
-pub above_true : (i : Family) (n : ℕ) (v : Version) → is_above i n v ≡ true → (v.family ≡ i) × (n < v.seq.0)
+pub above_true : (i : Family) (n : ℕ) (v : Version) → is_above_through i n v ≡ true → (v.family ≡ i) × (n < v.seq.0)
 above_true i n v h = let p = and_parts (v.family.0 == i.0) (nat_lt n v.seq.0) h in (same_number v.family i (eqb-true v.family.0 i.0 p.0), ltb-true n v.seq.0 p.1)
 
-pub above_from : (i : Family) (n : ℕ) (v : Version) → v.family ≡ i → n < v.seq.0 → is_above i n v ≡ true
+pub above_from : (i : Family) (n : ℕ) (v : Version) → v.family ≡ i → n < v.seq.0 → is_above_through i n v ≡ true
 above_from i n v f l = and_from (v.family.0 == i.0) (nat_lt n v.seq.0) (eq-eqb v.family.0 i.0 (ap (λ (z : Family). z.0) f)) (lt-ltb n v.seq.0 l)
 
 pub above_higher : (i : Family) (n t : ℕ) (w : List Version) → n ≤ t → above i t (above i n w) ≡ above i t w
-above_higher i n t w le = filter_within (is_above i t) (is_above i n) w (λ x q. let r = above_true i t x q in let l = r.1 in above_from i n x r.0 (omega (arith, l, le)))
+above_higher i n t w le = filter_within (is_above_through i t) (is_above_through i n) w (λ x q. let r = above_true i t x q in let l = r.1 in above_from i n x r.0 (omega (arith, l, le)))
 
 -- ---- the edit
 
-module _ (m : State) (c : Course) (s : Says) (edit : Edit) (next : State) (h : Holds m c s []) (e : MayEdit m s edit next) where
+module _ (m : State) (c : Course) (s : Says) (edit : Edit) (next : State) (h : HoldsState m c s []) (e : MayEdit m s edit next) where
   abbrev dropped : List Numbered
   dropped = batches_of s.logs (take (length edit.drop_logs) s.fold.logs)
 
@@ -83,7 +83,7 @@ module _ (m : State) (c : Course) (s : Says) (edit : Edit) (next : State) (h : H
 
   -- the dropped logs have no version above the new `through`
   dropped_none : (i : Family) (f : FamilyState) → family_at next i ≡ Some f → above i f.through.0 (versions_of dropped) ≡ []
-  dropped_none i f q = filter_none (is_above i f.through.0) (versions_of dropped) (λ v j. false_from_ne_true (is_above i f.through.0 v) (λ y.
+  dropped_none i f q = filter_none (is_above_through i f.through.0) (versions_of dropped) (λ v j. false_from_ne_true (is_above_through i f.through.0 v) (λ y.
       let r = above_true i f.through.0 v y in
       let b = batches-In s.logs (take (length edit.drop_logs) s.fold.logs) v j in
       let n : In b.0 edit.drop_logs = subst (λ z. In b.0 z) (sym e.leads.accepted.logs.oldest) b.1 in
@@ -101,7 +101,7 @@ module _ (m : State) (c : Course) (s : Says) (edit : Edit) (next : State) (h : H
       ∙ above_higher i old.0.through.0 t (versions_of (live_batches s ++ [])) old.2
       ∙ ap (λ z. above i t (versions_of z)) (append-nil (live_batches s) ∙ all_is)
       ∙ ap (above i t) (versions_append dropped rest)
-      ∙ filter-append (is_above i t) (versions_of dropped) (versions_of rest)
+      ∙ filter-append (is_above_through i t) (versions_of dropped) (versions_of rest)
       ∙ ap (λ z. z ++ above i t (versions_of rest)) (dropped_none i f q)
       ∙ ap (λ z. above i t (versions_of z)) (sym (append-nil (live_batches (with_edit s edit)) ∙ rest_is))
 
@@ -117,7 +117,7 @@ module _ (m : State) (c : Course) (s : Says) (edit : Edit) (next : State) (h : H
   next_last = ap (λ (z : Seq). z.0) e.leads.same_last
 
   -- after the edit the engine holds the next state, on whatever course
-  pub edit_holds_on : (d : Course) → IsOnCourse next d m.last.0 → Holds next d (with_edit s edit) []
+  pub edit_holds_on : (d : Course) → IsOnCourse next d m.last.0 → HoldsState next d (with_edit s edit) []
   edit_holds_on d on = record {
     families = e.leads.families;
     unflushed = edit_unflushed;

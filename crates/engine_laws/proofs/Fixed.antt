@@ -22,9 +22,9 @@ use Rattle.manifest.specs.Folds.{IsManifest, family_fold, fold_of, sizes_of}
 use Rattle.manifest.proofs.Meanings.{fold_once}
 use Rattle.floor_laws.proofs.Members.{In, All-In, filter-In, filter_every, filter_within}
 use Rattle.floor_laws.proofs.Reopening.{written_fixed}
-use Rattle.engine_laws.specs.Logs.{above, is_above, last_over, versions_of}
+use Rattle.engine_laws.specs.Logs.{above, is_above_through, last_over, versions_of}
 use Rattle.engine_laws.specs.Manifests.{IsLive}
-use Rattle.engine_laws.specs.Standing.{Alike, FolderStands, Grammar, IsOneSaid, Reads, Says, TableReads, TableSays, live_batches}
+use Rattle.engine_laws.specs.Standing.{Alike, FolderStands, Grammar, IsOneSaid, FolderSays, Says, TableReads, TableSays, live_batches}
 use Rattle.engine_laws.specs.Engine.{AreSameKept, SameLive}
 use Rattle.engine_laws.proofs.Folding.{families_length}
 use Rattle.engine_laws.proofs.Calls.{same_settled}
@@ -58,7 +58,7 @@ table_once g None a b one p q = absurd p
 table_once g (Some bytes) a b one p q = one bytes a b p q
 
 -- a folder says one thing of what is live
-pub reads_once : (g : Grammar) (folder : Folder) (a b : Says) → IsOneSaid g → Reads g folder a → Reads g folder b → SameLive a b
+pub reads_once : (g : Grammar) (folder : Folder) (a b : Says) → IsOneSaid g → FolderSays g folder a → FolderSays g folder b → SameLive a b
 reads_once g folder a b one p q =
     let fold : a.fold ≡ b.fold = fold_once (folder (chosen folder)) a.fold b.fold p.means.1 q.means.1 in
     let few : length (sizes_of a.fold) ≤ 16 = let e : length (sizes_of a.fold) ≡ length a.fold.families = simp length-map in let l = fold_few (folder (chosen folder)) a.fold p.means.1 in omega (arith, e, l) in
@@ -91,8 +91,8 @@ states_alike g folder m n one p q =
 between_all : (i : Family) (low last : ℕ) (w : List Version) → ((v : Version) → In v w → v.seq.0 ≤ last) → between i low last w ≡ above i low w
 between_all i low last w bound =
     let p : Version → Bool = λ (v : Version). v.family.0 == i.0 && nat_lt low v.seq.0 && nat_le v.seq.0 last in
-    sym (filter_within p (is_above i low) w (λ v q. (and_parts (v.family.0 == i.0 && nat_lt low v.seq.0) (nat_le v.seq.0 last) q).0))
-    ∙ filter_every p (above i low w) (λ v j. let r = filter-In (is_above i low) v w j in and_from (v.family.0 == i.0 && nat_lt low v.seq.0) (nat_le v.seq.0 last) r.1 (le-leb v.seq.0 last (bound v r.0)))
+    sym (filter_within p (is_above_through i low) w (λ v q. (and_parts (v.family.0 == i.0 && nat_lt low v.seq.0) (nat_le v.seq.0 last) q).0))
+    ∙ filter_every p (above i low w) (λ v j. let r = filter-In (is_above_through i low) v w j in and_from (v.family.0 == i.0 && nat_lt low v.seq.0) (nat_le v.seq.0 last) r.1 (le-leb v.seq.0 last (bound v r.0)))
 
 get_there : {X : Type 0} (xs : List X) (n : ℕ) → n < length xs → (x : X) × (slice_get xs n ≡ Some x)
 get_there [] n l = absurd (omega (arith, l))

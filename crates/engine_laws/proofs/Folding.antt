@@ -14,13 +14,13 @@ use Rattle.manifest_edit.specs.LiveTables.{has_table_number, place_tables, witho
 use Rattle.manifest_fold.specs.declared.fold.FamilyFold.{FamilyFold}
 use Rattle.manifest_fold.specs.declared.fold.Folded.{Folded}
 use Rattle.manifest_fold.specs.declared.limits.TheConstants.{LOWEST_LEVEL}
-use Rattle.manifest_fold.specs.Folds.{IsAccepted, IsFree, IsFamilyEdit, IsPart, family_with, families_with, fold_with, is_live, newest_log, put_over}
+use Rattle.manifest_fold.specs.Folds.{IsAccepted, IsFreeNumber, IsFamilyEdit, IsPart, family_with, families_with, fold_with, is_live, newest_log, put_over}
 use Rattle.manifest_fold.specs.Bodies.{LeadAll}
 use Rattle.manifest.specs.Folds.{family_fold, fold_of}
 use Rattle.floor_laws.proofs.Members.{In, In-contains, contains_In, All-In, All-from, In-append, In-left, filter-In, any-In, In-any}
 use Rattle.floor_laws.proofs.Kept.{same_number}
 use Rattle.floor_laws.proofs.Tables.{Sorted}
-use Rattle.engine_laws.specs.Manifests.{IsLive, IsWell, number_of}
+use Rattle.engine_laws.specs.Manifests.{IsLive, IsWell, table_number}
 use Rattle.engine_laws.proofs.Places.{get-map, get-set, get-In, length-set}
 use Rattle.engine_laws.proofs.Ascending.{newest_of, rising_sorted, sorted_rising, sorted_append, sorted_drop, sorted_apart, drop-In}
 use Rattle.engine_laws.proofs.Placing.{placed-In, sorted_filter, sorted_placed}
@@ -87,14 +87,14 @@ module _ (fold : Folded) (edit : Edit) where
   ]
 
   -- the live tables of each family ascend, as they did
-  tables_sorted : (o : Option FamilyEdit) (i : Family) (new : FamilyFold) → IsPart fold.families edit o → IsWell fold → slice_get (families_with fold.families o) i.0 ≡ Some new → Sorted (map number_of new.tables)
-  tables_sorted None i new p w h = rising_sorted (map number_of new.tables) (w.ascending i new h)
+  tables_sorted : (o : Option FamilyEdit) (i : Family) (new : FamilyFold) → IsPart fold.families edit o → IsWell fold → slice_get (families_with fold.families o) i.0 ≡ Some new → Sorted (map table_number new.tables)
+  tables_sorted None i new p w h = rising_sorted (map table_number new.tables) (w.ascending i new h)
   tables_sorted (Some e) i new p w h =
       elim (family_from e p.0 i.0 new p.1 h) [
         | inl a ↦
-            subst (λ (z : FamilyFold). Sorted (map number_of z.tables)) a.1
-            (sorted_placed e.add (without_tables e.remove p.0.tables) (sorted_filter (λ (z : TableAt). not (list_any (λ n. z.number == n) e.remove)) p.0.tables (rising_sorted (map number_of p.0.tables) (w.ascending e.family p.0 p.1))))
-        | inr a ↦ rising_sorted (map number_of new.tables) (w.ascending i new a.1)
+            subst (λ (z : FamilyFold). Sorted (map table_number z.tables)) a.1
+            (sorted_placed e.add (without_tables e.remove p.0.tables) (sorted_filter (λ (z : TableAt). not (list_any (λ n. z.number == n) e.remove)) p.0.tables (rising_sorted (map table_number p.0.tables) (w.ascending e.family p.0 p.1))))
+        | inr a ↦ rising_sorted (map table_number new.tables) (w.ascending i new a.1)
       ]
 
   pub families_length : (o : Option FamilyEdit) → IsPart fold.families edit o → length (families_with fold.families o) ≡ length fold.families
@@ -115,7 +115,7 @@ module _ (fold : Folded) (edit : Edit) where
   stays_apart : (e : FamilyEdit) (old : FamilyFold) (p : IsFamilyEdit fold.families edit old e) → slice_get fold.families e.family.0 ≡ Some old → IsWell fold
       → (t u : TableAt) → In t e.add → (k : Family) (h : FamilyFold) → IsLive fold k h u → (k.0 ≡ e.family.0 → list_any (λ n. u.number == n) e.remove ≡ false) → t.number ≡ u.number → ⊥
   stays_apart e old p there w t u j k h l kept q =
-      let free : (list_any (λ m. m == t.number) e.remove || not (is_live fold.families t.number)) ≡ true = All-In (λ (z : TableAt). IsFree fold.families e.remove z.number) e.add t p.tables.free j in
+      let free : (list_any (λ m. m == t.number) e.remove || not (is_live fold.families t.number)) ≡ true = All-In (λ (z : TableAt). IsFreeNumber fold.families e.remove z.number) e.add t p.tables.free j in
       elim (or_cases (list_any (λ m. m == t.number) e.remove) (not (is_live fold.families t.number)) free) [
         | inl y ↦
             let r = In-any (λ m. m == t.number) e.remove y in
@@ -193,7 +193,7 @@ module _ (fold : Folded) (edit : Edit) where
     ];
     levels = λ i f t l. levels_with edit.family a.part w i f t l.family (live_In (fold_with fold edit) i f t l);
     through = λ i f q. through_with edit.family a.part w a.last i f q;
-    ascending = λ i f q. sorted_rising (map number_of f.tables) (tables_sorted edit.family i f a.part w q);
+    ascending = λ i f q. sorted_rising (map table_number f.tables) (tables_sorted edit.family i f a.part w q);
     apart = λ i k f h t u l n q. apart_with edit.family a.part w i k f h t u l.family (live_In (fold_with fold edit) i f t l) n.family (live_In (fold_with fold edit) k h u n) q;
   }
 
@@ -245,7 +245,7 @@ head_well families = record {
   tables = λ i f t l. absurd (head_dead families i f t l);
   levels = λ i f t l. absurd (head_dead families i f t l);
   through = λ i f q. let r = head_none families i.0 f q in let e : 0 ≡ f.through.0 = ap (λ (z : FamilyFold). z.through.0) r.1 in omega (arith, e);
-  ascending = λ i f q. let r = head_none families i.0 f q in subst (λ (z : FamilyFold). IsStrictlyIncreasing (map number_of z.tables)) r.1 (λ k l. absurd (omega (arith, l)));
+  ascending = λ i f q. let r = head_none families i.0 f q in subst (λ (z : FamilyFold). IsStrictlyIncreasing (map table_number z.tables)) r.1 (λ k l. absurd (omega (arith, l)));
   apart = λ i k f h t u l n q. absurd (head_dead families i f t l);
 }
 

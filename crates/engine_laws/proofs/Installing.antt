@@ -25,7 +25,7 @@ use Rattle.manifest_edit.specs.declared.edit.Edit.{Edit}
 use Rattle.manifest_edit.specs.LiveTables.{has_table_number, place_tables, without_tables}
 use Rattle.manifest_fold.specs.declared.fold.FamilyFold.{FamilyFold}
 use Rattle.manifest_fold.specs.declared.limits.TheConstants.{FILE_NUMBER_LIMIT, LOWEST_LEVEL}
-use Rattle.manifest_fold.specs.Folds.{IsFree, IsLogsEdit, IsPart, family_with, families_with, is_live, newest_log}
+use Rattle.manifest_fold.specs.Folds.{IsFreeNumber, IsLogsEdit, IsPart, family_with, families_with, is_live, newest_log}
 use Rattle.floor_laws.specs.Sound.{IsSoundState}
 use Rattle.floor_laws.proofs.Members.{In, In-contains, contains_In, All-In, All-from, In-left, In-right, In-filter, filter-In, filter_every, In-map, map-In, any-In}
 use Rattle.floor_laws.proofs.Kept.{same_number}
@@ -35,11 +35,11 @@ use Rattle.floor_laws.proofs.States.{CompactionHolds, compaction_of, some_same}
 use Rattle.floor_laws.proofs.Stepping.{floor_none, new_of}
 use Rattle.floor_laws.proofs.Told.{sound_after, told_of}
 use Rattle.floor_laws.proofs.Writing.{or_none, refuses_raise, told_other}
-use Rattle.engine_laws.specs.Logs.{above, is_above, versions_of}
-use Rattle.engine_laws.specs.Manifests.{IsLive, number_of}
+use Rattle.engine_laws.specs.Logs.{above, is_above_through, versions_of}
+use Rattle.engine_laws.specs.Manifests.{IsLive, table_number}
 use Rattle.engine_laws.specs.Standing.{Fits, Says, TableSays, TablesFit, family_said, head_of, live_batches, table_of}
-use Rattle.engine_laws.specs.Engine.{AreSameKept, DropsFlushed, Holds, MayEdit, with_edit}
-use Rattle.engine_laws.specs.Installs.{Covers, IsNextFile, MayDrop, compact_edit, flush_edit, raise_edit, roll_edit}
+use Rattle.engine_laws.specs.Engine.{AreSameKept, DropsFlushed, HoldsState, MayEdit, with_edit}
+use Rattle.engine_laws.specs.Installs.{CoversLogs, IsNextFile, MayDrop, compact_edit, flush_edit, raise_edit, roll_edit}
 use Rattle.engine_laws.proofs.Places.{In-get, get-map, map-get}
 use Rattle.engine_laws.proofs.Ascending.{newest_of, rising_sorted, sorted_rising}
 use Rattle.engine_laws.proofs.Placing.{map-placed, map-without}
@@ -55,7 +55,7 @@ said_changed tables [] n old new change there is = absurd (cc)
 said_changed tables (f ∷ fs) zero old new change there is = ap (λ z. z ∷ map (family_said tables) fs) (is ∙ ap (λ z. change (family_said tables z)) (sym (some_same f old there)))
 said_changed tables (f ∷ fs) (suc n) old new change there is = ap (λ z. family_said tables f ∷ z) (said_changed tables fs n old new change there is)
 
-module _ (m : State) (c : Course) (s : Says) (h : Holds m c s []) where
+module _ (m : State) (c : Course) (s : Says) (h : HoldsState m c s []) where
   -- a family of the manifest is one of the state
   pub family_is : (i : Family) (old : FamilyFold) → slice_get s.fold.families i.0 ≡ Some old → family_at m i ≡ Some (family_said s.tables old)
   family_is i old there = subst (λ z. slice_get z i.0 ≡ Some (family_said s.tables old)) (sym h.families) (map-get (family_said s.tables) s.fold.families i.0 old there)
@@ -111,7 +111,7 @@ module _ (m : State) (c : Course) (s : Says) (h : Holds m c s []) where
       let k = (h.sound.families i (family_said s.tables f) (family_is i f l.family)).tables.used in
       fresh (subst (λ z. In z m.used) q (contains_In m.used t.number (All-In (λ (x : LiveTable). Contains m.used x.number) (map (table_of s.tables) f.tables) (table_of s.tables t) k (In-map (table_of s.tables) t f.tables (contains_In f.tables t l.table)))))
 
-  fresh_free : (edit : Edit) (removed : List ℕ) (n : ℕ) → (In n m.used → ⊥) → IsFree s.fold.families removed n
+  fresh_free : (edit : Edit) (removed : List ℕ) (n : ℕ) → (In n m.used → ⊥) → IsFreeNumber s.fold.families removed n
   fresh_free edit removed n fresh =
       let dead : is_live s.fold.families n ≡ false = false_from_ne_true (is_live s.fold.families n) (λ y.
       let r = live_known s.fold edit s.fold.families n y in
@@ -128,7 +128,7 @@ raise_rises m i floor f told there =
     let fell = (or_none (unknown_family m i or_else halt m) (floor_fell floor (place_at m i)) r.0).1 in
     floor_none floor i f (subst (λ z. floor_fell floor (option_map (place_of_family i) z) ≡ None) there fell)
 
-pub raise_may : (m : State) (c : Course) (s : Says) (number : ℕ) (i : Family) (floor : Ts) (old : FamilyFold) (next : ℕ) → Holds m c s [] → IsReplyTo m (raise i floor) Done → slice_get s.fold.families i.0 ≡ Some old → IsNextFile m s next → MayEdit m s (raise_edit m.last next i old floor) (after m number (raise i floor) Done)
+pub raise_may : (m : State) (c : Course) (s : Says) (number : ℕ) (i : Family) (floor : Ts) (old : FamilyFold) (next : ℕ) → HoldsState m c s [] → IsReplyTo m (raise i floor) Done → slice_get s.fold.families i.0 ≡ Some old → IsNextFile m s next → MayEdit m s (raise_edit m.last next i old floor) (after m number (raise i floor) Done)
 raise_may m c s number i floor old next h r there file =
     let edit = raise_edit m.last next i old floor in
     let e : FamilyEdit = record { family = i; floor = floor; through = old.through; add = []; remove = [] } in
@@ -148,7 +148,7 @@ raise_may m c s number i floor old next h r there file =
           levels = All-nil (λ (t : TableAt). t.level ≤ LOWEST_LEVEL);
           below = All-nil (λ (t : TableAt). t.number < next);
           live = All-nil (λ n. IsTrue (has_table_number old.tables n));
-          free = All-nil (λ (t : TableAt). IsFree s.fold.families [] t.number);
+          free = All-nil (λ (t : TableAt). IsFreeNumber s.fold.families [] t.number);
         };
       },
     ) in
@@ -170,7 +170,7 @@ raise_may m c s number i floor old next h r there file =
 
 -- ---- a roll
 
-pub roll_may : (m next : State) (c : Course) (s : Says) (n : ℕ) → Holds m c s [] → s.fold.next_file ≤ n → n + 1 ≤ FILE_NUMBER_LIMIT → s.logs n ≡ [] → AreSameKept m next → IsSoundState next → MayEdit m s (roll_edit m.last n) next
+pub roll_may : (m next : State) (c : Course) (s : Says) (n : ℕ) → HoldsState m c s [] → s.fold.next_file ≤ n → n + 1 ≤ FILE_NUMBER_LIMIT → s.logs n ≡ [] → AreSameKept m next → IsSoundState next → MayEdit m s (roll_edit m.last n) next
 roll_may m next c s n h new most empty k sound =
     let edit = roll_edit m.last n in
     let top = newest_of s.fold.logs h.well.some (rising_sorted s.fold.logs h.well.sorted) in
@@ -205,7 +205,7 @@ roll_may m next c s n h new most empty k sound =
 
 -- ---- logs that are dropped
 
-module _ (m : State) (c : Course) (s : Says) (h : Holds m c s []) where
+module _ (m : State) (c : Course) (s : Says) (h : HoldsState m c s []) where
   -- the versions above a higher sequence than `through`
   unflushed_higher : (i : Family) (f : FamilyState) (t : ℕ) → family_at m i ≡ Some f → f.through.0 ≤ t → above i t m.versions ≡ above i t (versions_of (live_batches s))
   unflushed_higher i f t q le =
@@ -217,7 +217,7 @@ module _ (m : State) (c : Course) (s : Says) (h : Holds m c s []) where
   -- logs that the engine's rule lets go have no version above a `through` of the next state
   pub drops_flushed : (next : State) (edit : Edit) (upto : ℕ → ℕ) → next.versions ≡ m.versions
       → ((i : Family) (x : FamilyState) → family_at next i ≡ Some x → (o : FamilyState) × (family_at m i ≡ Some o) × (o.through.0 ≤ x.through.0))
-      → Covers s upto edit.drop_logs → MayDrop next upto edit.drop_logs → ((n : ℕ) → In n edit.drop_logs → In n s.fold.logs) → DropsFlushed s edit next
+      → CoversLogs s upto edit.drop_logs → MayDrop next upto edit.drop_logs → ((n : ℕ) → In n edit.drop_logs → In n s.fold.logs) → DropsFlushed s edit next
   drops_flushed next edit upto same back covers drops logs n v x j k p =
       let old = back v.family x p in
       elim (drops n v.family x j p) [
@@ -225,7 +225,7 @@ module _ (m : State) (c : Course) (s : Says) (h : Holds m c s []) where
         | inr a ↦ elim (cases_lt x.through.0 v.seq.0) [
           | inl l ↦
               let there : In v (versions_of (live_batches s)) = batches_from s.logs s.fold.logs n v (logs n (contains_In edit.drop_logs n j)) (contains_In (versions_of (s.logs n)) v k) in
-              let up : In v (above v.family x.through.0 (versions_of (live_batches s))) = In-filter (is_above v.family x.through.0) v (versions_of (live_batches s)) there (above_from v.family x.through.0 v refl l) in
+              let up : In v (above v.family x.through.0 (versions_of (live_batches s))) = In-filter (is_above_through v.family x.through.0) v (versions_of (live_batches s)) there (above_from v.family x.through.0 v refl l) in
               absurd (subst (λ z. In v z) (sym (unflushed_higher v.family old.0 x.through.0 old.1 old.2) ∙ ap (above v.family x.through.0) (sym same) ∙ a) up)
           | inr l ↦ l
         ]
@@ -233,7 +233,7 @@ module _ (m : State) (c : Course) (s : Says) (h : Holds m c s []) where
 
 -- ---- an installed flush
 
-module _ (m : State) (c : Course) (s : Says) (number start table kept next : ℕ) (floor : Ts) (job : Flush) (old : FamilyFold) (h : Holds m c s []) (runs : m.flush ≡ Some job) (r : IsReplyTo m (flush_end job.family start) (Table table kept floor))
+module _ (m : State) (c : Course) (s : Says) (number start table kept next : ℕ) (floor : Ts) (job : Flush) (old : FamilyFold) (h : HoldsState m c s []) (runs : m.flush ≡ Some job) (r : IsReplyTo m (flush_end job.family start) (Table table kept floor))
     (there : slice_get s.fold.families job.family.0 ≡ Some old) (says : (s.tables table).versions ≡ flush_kept m job) (fits : Fits job.family (record old { floor = floor }) (s.tables table)) (file : IsNextFile m s next) (below : table < next) where
   abbrev pub flushed_next : State
   flushed_next = after m number (flush_end job.family start) (Table table kept floor)
@@ -271,7 +271,7 @@ module _ (m : State) (c : Course) (s : Says) (number start table kept next : ℕ
 
   flush_apart : (u t : TableAt) → In u flush_part.add → In t old.tables → u.number ≡ t.number → ⊥
   flush_apart u t i j e = elim i [
-    | inl q ↦ fresh_dead m c s h table flush_fresh job.family old t (record { family = there; table = In-contains old.tables t j }) (sym (ap number_of q ∙ e))
+    | inl q ↦ fresh_dead m c s h table flush_fresh job.family old t (record { family = there; table = In-contains old.tables t j }) (sym (ap table_number q ∙ e))
     | inr b ↦ absurd b
   ]
 
@@ -290,7 +290,7 @@ module _ (m : State) (c : Course) (s : Says) (number start table kept next : ℕ
   flush_versions : flushed_next.versions ≡ m.versions
   flush_versions = ap (λ z. (with_flush m z table floor).versions) runs
 
-  pub flush_may : (gone rest : List ℕ) (upto : ℕ → ℕ) → s.fold.logs ≡ gone ++ rest → 1 ≤ length rest → Covers s upto gone → MayDrop flushed_next upto gone
+  pub flush_may : (gone rest : List ℕ) (upto : ℕ → ℕ) → s.fold.logs ≡ gone ++ rest → 1 ≤ length rest → CoversLogs s upto gone → MayDrop flushed_next upto gone
       → MayEdit m s (flush_edit m.last next gone job.family floor job.through table) flushed_next
   flush_may gone rest upto logs some covers drops =
       let edit = flush_edit m.last next gone job.family floor job.through table in
@@ -307,9 +307,9 @@ module _ (m : State) (c : Course) (s : Says) (number start table kept next : ℕ
             added = λ k l. absurd (omega (arith, l));
             removed = λ k l. absurd (omega (arith, l));
             levels = All-from (λ (t : TableAt). t.level ≤ LOWEST_LEVEL) e.add (λ t i. elim i [ inl q ↦ let l : 0 ≡ t.level = ap (λ (z : TableAt). z.level) q in omega (arith, l) | inr b ↦ absurd b ]);
-            below = All-from (λ (t : TableAt). t.number < next) e.add (λ t i. elim i [ inl q ↦ let l : table ≡ t.number = ap number_of q in omega (arith, l, below) | inr b ↦ absurd b ]);
+            below = All-from (λ (t : TableAt). t.number < next) e.add (λ t i. elim i [ inl q ↦ let l : table ≡ t.number = ap table_number q in omega (arith, l, below) | inr b ↦ absurd b ]);
             live = All-nil (λ n. IsTrue (has_table_number old.tables n));
-            free = All-from (λ (t : TableAt). IsFree s.fold.families [] t.number) e.add (λ t i. elim i [ inl q ↦ subst (IsFree s.fold.families []) (ap number_of q) (fresh_free m c s h edit [] table flush_fresh) | inr b ↦ absurd b ]);
+            free = All-from (λ (t : TableAt). IsFreeNumber s.fold.families [] t.number) e.add (λ t i. elim i [ inl q ↦ subst (IsFreeNumber s.fold.families []) (ap table_number q) (fresh_free m c s h edit [] table flush_fresh) | inr b ↦ absurd b ]);
           };
         },
       ) in
@@ -356,9 +356,9 @@ from_numbers : (level : ℕ) (vs : List Version) (ps : List Piece) → numbers_o
 from_numbers level vs [] = refl
 from_numbers level vs (p ∷ ps) = ap (λ z. p.table ∷ z) (from_numbers level (drop p.count vs) ps)
 
-module _ (m : State) (c : Course) (s : Says) (number start kept next : ℕ) (pieces : List Piece) (job : Compaction) (old : FamilyFold) (add : List TableAt) (h : Holds m c s []) (runs : m.compaction ≡ Some job) (r : IsReplyTo m (compact_end job.family start) (Kept kept pieces))
+module _ (m : State) (c : Course) (s : Says) (number start kept next : ℕ) (pieces : List Piece) (job : Compaction) (old : FamilyFold) (add : List TableAt) (h : HoldsState m c s []) (runs : m.compaction ≡ Some job) (r : IsReplyTo m (compact_end job.family start) (Kept kept pieces))
     (there : slice_get s.fold.families job.family.0 ≡ Some old) (says : map (table_of s.tables) add ≡ tables_from job.level (compaction_kept m job) pieces) (fits : All (λ (t : TableAt). Fits job.family old (s.tables t.number)) add)
-    (ascends : IsStrictlyIncreasing (map number_of add)) (file : IsNextFile m s next) (below : All (λ (t : TableAt). t.number < next) add) where
+    (ascends : IsStrictlyIncreasing (map table_number add)) (file : IsNextFile m s next) (below : All (λ (t : TableAt). t.number < next) add) where
   abbrev pub compacted_next : State
   compacted_next = after m number (compact_end job.family start) (Kept kept pieces)
 
@@ -391,7 +391,7 @@ module _ (m : State) (c : Course) (s : Says) (number start kept next : ℕ) (pie
   compact_family : family_said s.tables (family_with old compact_part) ≡ compacted job.inputs (tables_from job.level (compaction_kept m job) pieces) (family_said s.tables old)
   compact_family =
       ap (λ ts. let f : FamilyState = record { head = head_of old; through = old.through; tables = ts } in f)
-      (map-placed s.tables add (without_tables job.inputs old.tables) (rising_sorted (map number_of add) ascends) compact_apart
+      (map-placed s.tables add (without_tables job.inputs old.tables) (rising_sorted (map table_number add) ascends) compact_apart
       ∙ ap (λ z. with_tables z (map (table_of s.tables) (without_tables job.inputs old.tables))) says
       ∙ ap (with_tables (tables_from job.level (compaction_kept m job) pieces)) (map-without s.tables job.inputs old.tables))
 
@@ -419,7 +419,7 @@ module _ (m : State) (c : Course) (s : Says) (number start kept next : ℕ) (pie
                 let x = numbers-In n (map (table_of s.tables) old.tables) (k.live n i) in
                 let y = map-In (table_of s.tables) x.0 old.tables x.1 in
                 any-In (λ (t : TableAt). t.number == n) y.0 old.tables y.1 (eq-eqb y.0.number n (ap (λ (z : LiveTable). z.number) y.2 ∙ x.2)));
-            free = All-from (λ (t : TableAt). IsFree s.fold.families job.inputs t.number) add (λ t i. fresh_free m c s h edit job.inputs t.number (compact_fresh t i));
+            free = All-from (λ (t : TableAt). IsFreeNumber s.fold.families job.inputs t.number) add (λ t i. fresh_free m c s h edit job.inputs t.number (compact_fresh t i));
           };
         },
       ) in

@@ -28,9 +28,9 @@ use Rattle.manifest.specs.Files.{HasFold}
 use Rattle.manifest.specs.Folders.{IsManifestName}
 use Rattle.manifest.specs.Folds.{sizes_of}
 use Rattle.engine_laws.specs.Manifests.{IsWell}
-use Rattle.engine_laws.specs.Standing.{Grammar, Reads, Says, StandsForSome}
-use Rattle.engine_laws.specs.Engine.{Holds, IsOutcomeOr, MayEdit, newest_of, next_batch, with_batches, with_edit}
-use Rattle.engine_laws.specs.Moves.{Appending, AreDead, AreImages, Images, IsReady, Rests, Syncing}
+use Rattle.engine_laws.specs.Standing.{Grammar, FolderSays, Says, StandsForSome}
+use Rattle.engine_laws.specs.Engine.{HoldsState, IsOutcomeOr, MayEdit, newest_log_of, next_batch, with_batches, with_edit}
+use Rattle.engine_laws.specs.Moves.{Appending, AreDead, AreImages, Images, IsEditReady, Rests, Syncing}
 use Rattle.engine_laws.specs.Joints.{IsNowLast, OneRan}
 use Rattle.engine_laws.proofs.Editing.{newest_live}
 use Rattle.engine_laws.proofs.Moving.{appended_rests, newest_log_is, not_live, rest_reads, rest_safe, synced_rests}
@@ -85,9 +85,9 @@ module _ {D F : Type 0} (d : disk.Ghosts D F) (f : file.Ghosts F) (now_last : Is
 
   -- ---- the newest log
 
-  module _ (g : Grammar) (manifest : FileName) (is : IsManifestName manifest) (s : Says) (waiting : List Numbered) (x : D) (before after : List F) (wal ran : F) (one : OneRan f before after wal ran) (log : f.name wal ≡ Log (newest_of s)) (newest : (c : Image) → MayLeave d f (holding x before) (Log (newest_of s)) c → ReadsAs (sizes_of s.fold) (s.logs (newest_of s)) c) where
+  module _ (g : Grammar) (manifest : FileName) (is : IsManifestName manifest) (s : Says) (waiting : List Numbered) (x : D) (before after : List F) (wal ran : F) (one : OneRan f before after wal ran) (log : f.name wal ≡ Log (newest_log_of s)) (newest : (c : Image) → MayLeave d f (holding x before) (Log (newest_log_of s)) c → ReadsAs (sizes_of s.fold) (s.logs (newest_log_of s)) c) where
     abbrev SyncImage : Image → Type 0
-    SyncImage = IsBeforeOrAfter (sizes_of s.fold) (s.logs (newest_of s)) waiting
+    SyncImage = IsBeforeOrAfter (sizes_of s.fold) (s.logs (newest_log_of s)) waiting
 
     sync_start : (c : Image) → MayLeave d f (holding x before) (f.name wal) c → SyncImage c
     sync_start c left = inl (newest c (subst (λ z. MayLeave d f (holding x before) z c) log left))
@@ -95,34 +95,34 @@ module _ {D F : Type 0} (d : disk.Ghosts D F) (f : file.Ghosts F) (now_last : Is
     syncing : Syncing s waiting (MayLeave d f (holding x before)) (While (f.name wal) SyncImage (MayLeave d f (holding x before)))
     syncing = record { touches = λ n ne c w. w.1 (λ e. ne (e ∙ log)); either = λ c w. w.0 (sym log) }
 
-    pub sync_rests : Rests g (MayLeave d f (holding x before)) manifest s → ((c : Image) → f.may_leave ran c → ReadsAs (sizes_of s.fold) (s.logs (newest_of s) ++ waiting) c) → Rests g (MayLeave d f (holding x after)) manifest (with_batches s waiting)
+    pub sync_rests : Rests g (MayLeave d f (holding x before)) manifest s → ((c : Image) → f.may_leave ran c → ReadsAs (sizes_of s.fold) (s.logs (newest_log_of s) ++ waiting) c) → Rests g (MayLeave d f (holding x after)) manifest (with_batches s waiting)
     sync_rests r done =
-        let read : (c : Image) → MayLeave d f (holding x after) (Log (newest_of s)) c → ReadsAs (sizes_of s.fold) (s.logs (newest_of s) ++ waiting) c = λ c left. done c (one_only x before after wal ran SyncImage one c (subst (λ z. MayLeave d f (holding x after) z c) (sym log) left)) in
+        let read : (c : Image) → MayLeave d f (holding x after) (Log (newest_log_of s)) c → ReadsAs (sizes_of s.fold) (s.logs (newest_log_of s) ++ waiting) c = λ c left. done c (one_only x before after wal ran SyncImage one c (subst (λ z. MayLeave d f (holding x after) z c) (sym log) left)) in
         let y : Syncing s waiting (MayLeave d f (holding x before)) (MayLeave d f (holding x after)) = record { touches = λ n ne c left. one_touches x before after wal ran SyncImage one n c (λ e. ne (e ∙ log)) left; either = λ c left. inr (read c left) } in
         synced_rests g (MayLeave d f (holding x before)) (MayLeave d f (holding x after)) manifest is s waiting r y (λ c left. subst (λ z. ReadsAs (sizes_of s.fold) z c) (sym (newest_log_is s waiting)) (read c left))
 
     -- a sync: at each moment each folder that a crash may leave stands for an outcome
-    pub ran_sync : (m : State) (c : Course) → Holds m c s waiting → Rests g (MayLeave d f (holding x before)) manifest s → Leaves f wal ran SyncImage → Ran d f (λ folder. StandsForSome g folder (IsOutcome m c)) (holding x before) (holding x after)
+    pub ran_sync : (m : State) (c : Course) → HoldsState m c s waiting → Rests g (MayLeave d f (holding x before)) manifest s → Leaves f wal ran SyncImage → Ran d f (λ folder. StandsForSome g folder (IsOutcome m c)) (holding x before) (holding x after)
     ran_sync m c h r run =
         one_ran x before after wal ran SyncImage one (λ folder. StandsForSome g folder (IsOutcome m c)) run sync_start
         (sync_safe g (MayLeave d f (holding x before)) (While (f.name wal) SyncImage (MayLeave d f (holding x before))) manifest is m c s r waiting h syncing)
 
   -- the same under a write
   pub ran_write : (g : Grammar) (manifest : FileName) (is : IsManifestName manifest) (m : State) (c : Course) (s : Says) (waiting : List Numbered) (number : ℕ) (ops : List WriteOp) (sync : Bool) (x : D) (before after : List F) (wal ran : F)
-      → Holds m c s waiting → IsReplyTo m (write ops sync) (OkAt (m.last.0 + length ops)) → IsLoggedBatch (length s.fold.families) (next_batch m ops) → Rests g (MayLeave d f (holding x before)) manifest s
-      → OneRan f before after wal ran → f.name wal ≡ Log (newest_of s) → ((i : Image) → MayLeave d f (holding x before) (Log (newest_of s)) i → ReadsAs (sizes_of s.fold) (s.logs (newest_of s)) i)
-      → Leaves f wal ran (IsBeforeOrAfter (sizes_of s.fold) (s.logs (newest_of s)) (waiting ++ next_batch m ops ∷ []))
+      → HoldsState m c s waiting → IsReplyTo m (write ops sync) (OkAt (m.last.0 + length ops)) → IsLoggedBatch (length s.fold.families) (next_batch m ops) → Rests g (MayLeave d f (holding x before)) manifest s
+      → OneRan f before after wal ran → f.name wal ≡ Log (newest_log_of s) → ((i : Image) → MayLeave d f (holding x before) (Log (newest_log_of s)) i → ReadsAs (sizes_of s.fold) (s.logs (newest_log_of s)) i)
+      → Leaves f wal ran (IsBeforeOrAfter (sizes_of s.fold) (s.logs (newest_log_of s)) (waiting ++ next_batch m ops ∷ []))
       → Ran d f (λ folder. StandsForSome g folder (IsOutcomeUnder m c number (write ops sync))) (holding x before) (holding x after)
   ran_write g manifest is m c s waiting number ops sync x before after wal ran h told fits r one log newest run =
       let more = waiting ++ next_batch m ops ∷ [] in
-      let P = IsBeforeOrAfter (sizes_of s.fold) (s.logs (newest_of s)) more in
+      let P = IsBeforeOrAfter (sizes_of s.fold) (s.logs (newest_log_of s)) more in
       one_ran x before after wal ran P one (λ folder. StandsForSome g folder (IsOutcomeUnder m c number (write ops sync))) run (sync_start g manifest is s more x before after wal ran one log newest)
       (write_safe g (MayLeave d f (holding x before)) (While (f.name wal) P (MayLeave d f (holding x before))) manifest is m c s r waiting number ops sync h told fits (syncing g manifest is s more x before after wal ran one log newest))
 
   -- ---- the manifest
 
   module _ (g : Grammar) (manifest : FileName) (is : IsManifestName manifest) (m next : State) (c : Course) (s : Says) (edit : Edit) (x : D) (before after : List F) (file ran : F) (one : OneRan f before after file ran) (named : f.name file ≡ manifest) (may : MayEdit m s edit next)
-      (r : Rests g (MayLeave d f (holding x before)) manifest s) (ready : IsReady g (MayLeave d f (holding x before)) s edit) where
+      (r : Rests g (MayLeave d f (holding x before)) manifest s) (ready : IsEditReady g (MayLeave d f (holding x before)) s edit) where
     abbrev EditImage : Image → Type 0
     EditImage i = HasFold i s.fold ⊎ HasFold i (fold_with s.fold edit)
 
@@ -133,7 +133,7 @@ module _ {D F : Type 0} (d : disk.Ghosts D F) (f : file.Ghosts F) (now_last : Is
         appended_rests g (MayLeave d f (holding x before)) (MayLeave d f (holding x after)) manifest is s edit may.leads.accepted r ready a read
 
     -- an append of an edit
-    pub ran_edit : Holds m c s [] → Leaves f file ran EditImage → Ran d f (λ folder. StandsForSome g folder (IsOutcomeOr m c next)) (holding x before) (holding x after)
+    pub ran_edit : HoldsState m c s [] → Leaves f file ran EditImage → Ran d f (λ folder. StandsForSome g folder (IsOutcomeOr m c next)) (holding x before) (holding x after)
     ran_edit h run =
         let now = MayLeave d f (holding x before) in
         let a : Appending manifest s edit now (While (f.name file) EditImage now) = record { touches = λ n ne i w. w.1 (λ e. ne (e ∙ named)); either = λ i w. w.0 (sym named) } in
@@ -143,9 +143,9 @@ module _ {D F : Type 0} (d : disk.Ghosts D F) (f : file.Ghosts F) (now_last : Is
 
   -- ---- calls on names that aren't live, whatever files are held
 
-  pub dead_reads : (g : Grammar) (manifest : FileName) (is : IsManifestName manifest) (s : Says) (T : FileName → Type 0) (old new : Joint D F) → Rests g (MayLeave d f old) manifest s → AreDead manifest s.fold T → Ran d f (AsAtBut d f T old) old new → Ran d f (λ folder. Reads g folder s) old new
+  pub dead_reads : (g : Grammar) (manifest : FileName) (is : IsManifestName manifest) (s : Says) (T : FileName → Type 0) (old new : Joint D F) → Rests g (MayLeave d f old) manifest s → AreDead manifest s.fold T → Ran d f (AsAtBut d f T old) old new → Ran d f (λ folder. FolderSays g folder s) old new
   dead_reads g manifest is s T old new r dead run =
-      ran_more d f (AsAtBut d f T old) (λ folder. Reads g folder s)
+      ran_more d f (AsAtBut d f T old) (λ folder. FolderSays g folder s)
       (λ folder each. let images : Images = λ n c. ¬ T n → MayLeave d f old n c in rest_reads g images manifest s folder (not_live g (MayLeave d f old) images manifest T s is dead (λ n ne c left. left ne) r) each)
       old new run
 
@@ -154,12 +154,12 @@ module _ {D F : Type 0} (d : disk.Ghosts D F) (f : file.Ghosts F) (now_last : Is
   dead_rests g manifest is s T old new r dead no_more = not_live g (MayLeave d f old) (MayLeave d f new) manifest T s is dead (λ n ne c left. no_more n c ne left) r
 
   -- between two calls
-  pub now_leaves : (g : Grammar) (manifest : FileName) (m : State) (c : Course) (s : Says) (waiting : List Numbered) (j : Joint D F) → Holds m c s waiting → Rests g (MayLeave d f j) manifest s → LeavesNow d f (λ folder. StandsForSome g folder (IsOutcome m c)) j
+  pub now_leaves : (g : Grammar) (manifest : FileName) (m : State) (c : Course) (s : Says) (waiting : List Numbered) (j : Joint D F) → HoldsState m c s waiting → Rests g (MayLeave d f j) manifest s → LeavesNow d f (λ folder. StandsForSome g folder (IsOutcome m c)) j
   now_leaves g manifest m c s waiting j h r folder image = rest_safe g (MayLeave d f j) manifest m c s waiting h r folder (image_leaves d f j folder image)
 
   -- what rests of the newest log
-  pub newest_rests : (g : Grammar) (manifest : FileName) (s : Says) (j : Joint D F) → IsWell s.fold → Rests g (MayLeave d f j) manifest s → (c : Image) → MayLeave d f j (Log (newest_of s)) c → ReadsAs (sizes_of s.fold) (s.logs (newest_of s)) c
-  newest_rests g manifest s j w r c left = r.logs (newest_of s) (newest_live s.fold w) c left
+  pub newest_rests : (g : Grammar) (manifest : FileName) (s : Says) (j : Joint D F) → IsWell s.fold → Rests g (MayLeave d f j) manifest s → (c : Image) → MayLeave d f j (Log (newest_log_of s)) c → ReadsAs (sizes_of s.fold) (s.logs (newest_log_of s)) c
+  newest_rests g manifest s j w r c left = r.logs (newest_log_of s) (newest_live s.fold w) c left
 
   -- a roll leaves nothing new but under the name of the new log
   pub roll_leaves : (x y : D) (files : List F) (old new : F) (number : ℕ) → f.name new ≡ Log number → IsFree d f (holding x files) (f.name old) → Touches d (λ n. (n ≡ Log number) ⊎ (n ≡ f.name old)) x y → NoMore (f.may_leave old) (d.may_leave y (f.name old))

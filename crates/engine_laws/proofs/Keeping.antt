@@ -17,12 +17,12 @@ use Rattle.floor_laws.proofs.Members.{In-contains}
 use Rattle.engine_laws.specs.Logs.{above, last_of, last_over, versions_of}
 use Rattle.engine_laws.specs.Manifests.{IsLive, IsWell}
 use Rattle.engine_laws.specs.Standing.{Fits, Says, TableSays, families_said, family_said, head_of, live_batches, table_of}
-use Rattle.engine_laws.specs.Engine.{AreSameKept, Holds, IsOnCourse, SameLive, durable_last, with_log, with_table}
+use Rattle.engine_laws.specs.Engine.{AreSameKept, HoldsState, IsOnCourse, SameLive, durable_last, with_new_log, with_new_table}
 use Rattle.engine_laws.proofs.Places.{In-get, map_same}
 use Rattle.engine_laws.proofs.Batches.{batches_same}
 
 -- an act that changes nothing that is kept
-pub keeps_holds : (m n : State) (c d : Course) (s : Says) (waiting : List Numbered) → AreSameKept m n → IsSoundState n → IsSoundCourse n d → d.ends ≡ c.ends → d.synced ≡ c.synced → Holds m c s waiting → Holds n d s waiting
+pub keeps_holds : (m n : State) (c d : Course) (s : Says) (waiting : List Numbered) → AreSameKept m n → IsSoundState n → IsSoundCourse n d → d.ends ≡ c.ends → d.synced ≡ c.synced → HoldsState m c s waiting → HoldsState n d s waiting
 keeps_holds m n c d s waiting k sound course ends synced h =
     let last : n.last.0 ≡ m.last.0 = ap (λ (z : Seq). z.0) k.last in
     record {
@@ -61,7 +61,7 @@ same_families a b h =
 pub same_last : (s o : Says) → SameLive s o → durable_last o ≡ durable_last s
 same_last s o k = ap (λ (z : Folded). last_over z.last.0 (live_batches o)) k.fold ∙ ap (last_over s.fold.last.0) (same_batches s o k)
 
-pub same_holds : (m : State) (c : Course) (s o : Says) (waiting : List Numbered) → SameLive s o → Holds m c s waiting → Holds m c o waiting
+pub same_holds : (m : State) (c : Course) (s o : Says) (waiting : List Numbered) → SameLive s o → HoldsState m c s waiting → HoldsState m c o waiting
 same_holds m c s o waiting k h =
     let b : live_batches s ≡ live_batches o = sym (same_batches s o k) in
     let f : s.fold ≡ o.fold = sym k.fold in
@@ -83,7 +83,7 @@ same_holds m c s o waiting k h =
     }
 
 -- what a table that isn't live yet says may be set: the account agrees on all that is live
-pub fixed_table : (s : Says) (n : ℕ) (says : TableSays) → ((i : Family) (x : FamilyFold) (t : TableAt) → IsLive s.fold i x t → t.number ≡ n → ⊥) → SameLive s (with_table s n says)
+pub fixed_table : (s : Says) (n : ℕ) (says : TableSays) → ((i : Family) (x : FamilyFold) (t : TableAt) → IsLive s.fold i x t → t.number ≡ n → ⊥) → SameLive s (with_new_table s n says)
 fixed_table s n says dead = record {
   fold = refl;
   logs = λ k i. refl;
@@ -91,7 +91,7 @@ fixed_table s n says dead = record {
 }
 
 -- and what a log that isn't live yet says
-pub fixed_log : (s : Says) (n : ℕ) (batches : List Numbered) → (Contains s.fold.logs n → ⊥) → SameLive s (with_log s n batches)
+pub fixed_log : (s : Says) (n : ℕ) (batches : List Numbered) → (Contains s.fold.logs n → ⊥) → SameLive s (with_new_log s n batches)
 fixed_log s n batches dead = record {
   fold = refl;
   logs = λ k i. let e : (k == n) ≡ false = false_from_ne_true (k == n) (λ y. dead (subst (Contains s.fold.logs) (eqb-true k n y) i)) in rw e refl;

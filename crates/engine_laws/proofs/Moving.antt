@@ -23,9 +23,9 @@ use Rattle.manifest.specs.Folders.{Means, IsManifestName, chosen, chosen_by}
 use Rattle.manifest.specs.Folds.{sizes_of}
 use Rattle.floor_laws.proofs.Members.{In, In-contains, contains_In}
 use Rattle.engine_laws.specs.Manifests.{IsLive}
-use Rattle.engine_laws.specs.Standing.{FolderStands, Grammar, Reads, Says, TableReads}
-use Rattle.engine_laws.specs.Engine.{Holds, SameLive, newest_of, with_batches, with_edit}
-use Rattle.engine_laws.specs.Moves.{Appending, AreDead, AreImages, Chosen, Images, IsLiveName, IsReady, IsSafe, LogRests, ManifestRests, Rests, TableRests, Syncing, TouchesOne, TouchesOnly, added_tables}
+use Rattle.engine_laws.specs.Standing.{FolderStands, Grammar, FolderSays, Says, TableReads}
+use Rattle.engine_laws.specs.Engine.{HoldsState, SameLive, newest_log_of, with_batches, with_edit}
+use Rattle.engine_laws.specs.Moves.{Appending, AreDead, AreImages, Chosen, Images, IsLiveName, IsEditReady, IsSafe, LogRests, ManifestRests, Rests, TableRests, Syncing, TouchesOne, TouchesOnly, added_tables}
 use Rattle.engine_laws.proofs.Folding.{In_live, logs_In, table_from}
 use Rattle.engine_laws.proofs.Editing.{sizes_stay}
 use Rattle.engine_laws.proofs.Resting.{stands_rest}
@@ -60,7 +60,7 @@ means_of images manifest folder fold h left has = (
   subst (λ z. HasFold (folder z) fold) (sym (chosen_is images manifest folder h left)) has,
 )
 
-pub rest_reads : (g : Grammar) (images : Images) (manifest : FileName) (s : Says) (folder : Folder) → Rests g images manifest s → AreImages images folder → Reads g folder s
+pub rest_reads : (g : Grammar) (images : Images) (manifest : FileName) (s : Says) (folder : Folder) → Rests g images manifest s → AreImages images folder → FolderSays g folder s
 rest_reads g images manifest s folder h left = record {
   means = means_of images manifest folder s.fold h.chosen left (h.manifests (folder manifest) (left manifest));
   logs = λ n i. h.logs n i (folder (Log n)) (left (Log n));
@@ -68,7 +68,7 @@ rest_reads g images manifest s folder h left = record {
 }
 
 -- between two calls
-pub rest_safe : (g : Grammar) (images : Images) (manifest : FileName) (m : State) (c : Course) (s : Says) (waiting : List Numbered) → Holds m c s waiting → Rests g images manifest s → IsSafe g images (IsOutcome m c)
+pub rest_safe : (g : Grammar) (images : Images) (manifest : FileName) (m : State) (c : Course) (s : Says) (waiting : List Numbered) → HoldsState m c s waiting → Rests g images manifest s → IsSafe g images (IsOutcome m c)
 rest_safe g images manifest m c s waiting h r folder left = stands_rest g folder m c s waiting h (rest_reads g images manifest s folder r left)
 
 -- ---- a file that isn't live
@@ -87,15 +87,15 @@ not_live g old new manifest T s is dead t r = record {
 
 -- ---- a sync of the newest log
 
-pub other_log : (s : Says) (waiting : List Numbered) (k : ℕ) → (k ≡ newest_of s → ⊥) → (with_batches s waiting).logs k ≡ s.logs k
-other_log s waiting k ne = let e : (k == newest_of s) ≡ false = false_from_ne_true (k == newest_of s) (λ y. ne (eqb-true k (newest_of s) y)) in rw e refl
+pub other_log : (s : Says) (waiting : List Numbered) (k : ℕ) → (k ≡ newest_log_of s → ⊥) → (with_batches s waiting).logs k ≡ s.logs k
+other_log s waiting k ne = let e : (k == newest_log_of s) ≡ false = false_from_ne_true (k == newest_log_of s) (λ y. ne (eqb-true k (newest_log_of s) y)) in rw e refl
 
-pub newest_log_is : (s : Says) (waiting : List Numbered) → (with_batches s waiting).logs (newest_of s) ≡ s.logs (newest_of s) ++ waiting
-newest_log_is s waiting = let e : (newest_of s == newest_of s) ≡ true = eq-eqb (newest_of s) (newest_of s) refl in rw e refl
+pub newest_log_is : (s : Says) (waiting : List Numbered) → (with_batches s waiting).logs (newest_log_of s) ≡ s.logs (newest_log_of s) ++ waiting
+newest_log_is s waiting = let e : (newest_log_of s == newest_log_of s) ≡ true = eq-eqb (newest_log_of s) (newest_log_of s) refl in rw e refl
 
 module _ (g : Grammar) (old new : Images) (manifest : FileName) (is : IsManifestName manifest) (s : Says) (waiting : List Numbered) (r : Rests g old manifest s) where
   abbrev newest : ℕ
-  newest = newest_of s
+  newest = newest_log_of s
 
   chosen_stays : (name : FileName) → TouchesOne name old new → Made ≢ name → Current ≢ name → Chosen new manifest
   chosen_stays name t a b = record { made = λ c u. r.chosen.made c (t Made a c u); chooses = λ c u. r.chosen.chooses c (t Current b c u) }
@@ -104,7 +104,7 @@ module _ (g : Grammar) (old new : Images) (manifest : FileName) (is : IsManifest
   syncing_logs y k c u i ne = r.logs k i c (y.touches (Log k) (λ q. ne (log_same k newest q)) c u)
 
   -- at each moment of it the files say what they said, or that all that waited is on the disk
-  pub syncing_reads : Syncing s waiting old new → (folder : Folder) → AreImages new folder → Reads g folder s ⊎ Reads g folder (with_batches s waiting)
+  pub syncing_reads : Syncing s waiting old new → (folder : Folder) → AreImages new folder → FolderSays g folder s ⊎ FolderSays g folder (with_batches s waiting)
   syncing_reads y folder left =
       let ch = chosen_stays (Log newest) y.touches (λ q. cc) (λ q. cc) in
       let means : Means folder (store s.fold) = means_of new manifest folder s.fold ch left (r.manifests (folder manifest) (y.touches manifest (λ q. not_log manifest newest is (sym q)) (folder manifest) (left manifest))) in
@@ -155,7 +155,7 @@ module _ (g : Grammar) (old new : Images) (manifest : FileName) (is : IsManifest
   sizes = sizes_stay s.fold edit accepted
 
   -- at each moment of it the files say what they said, or that the edit is there
-  pub appending_reads : IsReady g old s edit → Appending manifest s edit old new → (folder : Folder) → AreImages new folder → Reads g folder s ⊎ Reads g folder (with_edit s edit)
+  pub appending_reads : IsEditReady g old s edit → Appending manifest s edit old new → (folder : Folder) → AreImages new folder → FolderSays g folder s ⊎ FolderSays g folder (with_edit s edit)
   appending_reads ready a folder left =
       let ch = stays_chosen a.touches in
       elim (a.either (folder manifest) (left manifest)) [
@@ -172,7 +172,7 @@ module _ (g : Grammar) (old new : Images) (manifest : FileName) (is : IsManifest
       ]
 
   -- after Ok only the latter
-  pub appended_rests : IsReady g old s edit → Appending manifest s edit old new → ManifestRests new manifest (fold_with s.fold edit) → Rests g new manifest (with_edit s edit)
+  pub appended_rests : IsEditReady g old s edit → Appending manifest s edit old new → ManifestRests new manifest (fold_with s.fold edit) → Rests g new manifest (with_edit s edit)
   appended_rests ready a done = record {
     chosen = stays_chosen a.touches;
     manifests = done;
@@ -201,7 +201,7 @@ chosen-own None fold = refl
 chosen-own (Some []) fold = refl
 chosen-own (Some (byte ∷ bytes)) fold = elim (cases_Bool (byte == 165)) [ inl y ↦ rw y refl | inr y ↦ rw y refl ]
 
-pub other_reads : (g : Grammar) (folder other : Folder) (s : Says) → ((n : FileName) → IsLiveName (chosen folder) s.fold n → other n ≡ folder n) → Reads g folder s → Reads g other s
+pub other_reads : (g : Grammar) (folder other : Folder) (s : Says) → ((n : FileName) → IsLiveName (chosen folder) s.fold n → other n ≡ folder n) → FolderSays g folder s → FolderSays g other s
 other_reads g folder other s same r =
     let current : chosen other ≡ chosen folder = ap chosen_by (same Current tt) in
     record {
@@ -224,7 +224,7 @@ edit_tables fold edit None i f t p q j = inl (f, In_live fold i f t q j)
 edit_tables fold edit (Some e) i f t p q j = elim (table_from fold edit e p.0 i f t p.1 q j) [ inl x ↦ inl (x.0, x.1) | inr x ↦ inr x.1 ]
 
 pub edit_ready : (g : Grammar) (images : Images) (manifest : FileName) (s : Says) (edit : Edit) → IsAccepted s.fold edit → Rests g images manifest s
-    → ((n : ℕ) → Contains edit.add_logs n → LogRests images s n) → ((t : TableAt) → Contains (added_tables edit.family) t → TableRests g images s t.number) → IsReady g images s edit
+    → ((n : ℕ) → Contains edit.add_logs n → LogRests images s n) → ((t : TableAt) → Contains (added_tables edit.family) t → TableRests g images s t.number) → IsEditReady g images s edit
 edit_ready g images manifest s edit a r logs tables = record {
   logs = λ n i. elim (logs_In s.fold edit n (contains_In (fold_with s.fold edit).logs n i)) [
     | inl j ↦ r.logs n (In-contains s.fold.logs n j)

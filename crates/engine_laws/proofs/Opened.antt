@@ -25,8 +25,8 @@ use Rattle.floor_laws.proofs.Courses.{course_begins}
 use Rattle.floor_laws.proofs.Reopening.{sound_fresh}
 use Rattle.engine_laws.specs.Logs.{above, batches_of, last_of, last_over, versions_of}
 use Rattle.engine_laws.specs.Manifests.{IsWell}
-use Rattle.engine_laws.specs.Standing.{FolderStands, Grammar, Reads, Says, StandsFor, TableSays, family_said, fresh_says, live_batches, new_state}
-use Rattle.engine_laws.specs.Engine.{Holds}
+use Rattle.engine_laws.specs.Standing.{FolderStands, Grammar, FolderSays, Says, StandsFor, TableSays, family_said, fresh_says, live_batches, new_state}
+use Rattle.engine_laws.specs.Engine.{HoldsState}
 use Rattle.engine_laws.proofs.Batches.{last_over_is}
 use Rattle.engine_laws.proofs.Folding.{all_well, head_dead, head_well}
 
@@ -61,7 +61,7 @@ last_within k fl (b ∷ bs) low h =
     last_within k (b.first.0 + length b.batch - 1) bs (omega (arith, a, c)) (All-tail (IsLoggedBatch k) b bs h)
 
 -- what reading a folder tells of its fold and its batches
-module _ (g : Grammar) (folder : Folder) (s : Says) (r : Reads g folder s) where
+module _ (g : Grammar) (folder : Folder) (s : Says) (r : FolderSays g folder s) where
   pub reads_well : IsWell s.fold
   reads_well = fold_well (folder (chosen folder)) s.fold r.means.1
 
@@ -73,7 +73,7 @@ module _ (g : Grammar) (folder : Folder) (s : Says) (r : Reads g folder s) where
 -- ---- opening
 
 -- files that stand for a state, of a fold that a manifest may have, give an engine that holds it
-pub stands_holds : (m : State) (s : Says) → IsWell s.fold → All (IsLoggedBatch (length s.fold.families)) (live_batches s) → StandsFor s m → Holds m (course_start m) s []
+pub stands_holds : (m : State) (s : Says) → IsWell s.fold → All (IsLoggedBatch (length s.fold.families)) (live_batches s) → StandsFor s m → HoldsState m (course_start m) s []
 stands_holds m s w logged h =
     let all = append-nil (live_batches s) in
     record {
@@ -97,7 +97,7 @@ stands_holds m s w logged h =
     }
 
 -- the engine of a folder that was opened holds what the folder stands for
-pub opened_holds : (g : Grammar) (folder : Folder) (m : State) (h : FolderStands g folder m) → Holds m (course_start m) h.says []
+pub opened_holds : (g : Grammar) (folder : Folder) (m : State) (h : FolderStands g folder m) → HoldsState m (course_start m) h.says []
 opened_holds g folder m h = stands_holds m h.says (reads_well g folder h.says h.reads) (reads_logged g folder h.says h.reads) h.stands
 
 -- ---- a new store

@@ -10,7 +10,7 @@ use Rattle.manifest_edit.specs.LiveTables.{place_table, place_tables, without_ta
 use Rattle.std.proofs.lemmas.List.Elements.{filter_agree}
 use Rattle.floor_laws.proofs.Members.{In, In-map, map-In, filter-In}
 use Rattle.floor_laws.proofs.Tables.{Sorted}
-use Rattle.engine_laws.specs.Manifests.{number_of}
+use Rattle.engine_laws.specs.Manifests.{table_number}
 use Rattle.engine_laws.specs.Standing.{TableSays, table_of}
 use Rattle.engine_laws.proofs.Places.{filter-map}
 
@@ -38,12 +38,12 @@ placed-In v (u ∷ us) ts h = elim (placed-In v us (place_table u ts) h) [
 
 -- ---- ascending
 
-pub sorted_filter : (p : TableAt → Bool) (ys : List TableAt) → Sorted (map number_of ys) → Sorted (map number_of (filter p ys))
+pub sorted_filter : (p : TableAt → Bool) (ys : List TableAt) → Sorted (map table_number ys) → Sorted (map table_number (filter p ys))
 sorted_filter p [] h = tt
 sorted_filter p (y ∷ ys) h =
     let r = sorted_filter p ys h.1 in
     elim (cases_Bool (p y)) [
-      | inl a ↦ rw a ((λ m i. let x = map-In number_of m (filter p ys) i in h.0 m (subst (λ z. In z (map number_of ys)) x.2 (In-map number_of x.0 ys (filter-In p x.0 ys x.1).0))), r)
+      | inl a ↦ rw a ((λ m i. let x = map-In table_number m (filter p ys) i in h.0 m (subst (λ z. In z (map table_number ys)) x.2 (In-map table_number x.0 ys (filter-In p x.0 ys x.1).0))), r)
       | inr a ↦ rw a r
     ]
 
@@ -54,7 +54,7 @@ behind_of a b l e = elim (cases_lt a b) [
   | inr k ↦ elim (cases_lt b a) [ inl j ↦ j | inr j ↦ absurd (false≢true (sym e ∙ eq-eqb a b (omega (arith, k, j)))) ]
 ]
 
-pub sorted_place : (t : TableAt) (us : List TableAt) → Sorted (map number_of us) → Sorted (map number_of (place_table t us))
+pub sorted_place : (t : TableAt) (us : List TableAt) → Sorted (map table_number us) → Sorted (map table_number (place_table t us))
 sorted_place t [] h = ((λ m i. absurd i), tt)
 sorted_place t (u ∷ us) h =
     elim (cases_Bool (nat_lt t.number u.number)) [
@@ -66,18 +66,18 @@ sorted_place t (u ∷ us) h =
             let r = sorted_place t us h.1 in
             rw (a, b) (
               (λ m i.
-                  let w = map-In number_of m (place_table t us) i in
+                  let w = map-In table_number m (place_table t us) i in
                   let e = w.2 in
                   elim (place-In t w.0 us w.1) [
-                    | inl q ↦ let d : t.number ≡ w.0.number = ap number_of q in omega (arith, l, d, e)
-                    | inr j ↦ let k = h.0 w.0.number (In-map number_of w.0 us j) in omega (arith, k, e)
+                    | inl q ↦ let d : t.number ≡ w.0.number = ap table_number q in omega (arith, l, d, e)
+                    | inr j ↦ let k = h.0 w.0.number (In-map table_number w.0 us j) in omega (arith, k, e)
                   ]),
               r,
             )
       ]
     ]
 
-pub sorted_placed : (us ts : List TableAt) → Sorted (map number_of ts) → Sorted (map number_of (place_tables us ts))
+pub sorted_placed : (us ts : List TableAt) → Sorted (map table_number ts) → Sorted (map table_number (place_tables us ts))
 sorted_placed [] ts h = h
 sorted_placed (u ∷ us) ts h = sorted_placed us (place_table u ts) (sorted_place u ts h)
 
@@ -171,11 +171,11 @@ module _ (tables : ℕ → TableSays) where
       ]
 
   -- new tables, of numbers that ascend and that none has, stand in a state where they stand in a manifest
-  pub map-placed : (us ts : List TableAt) → Sorted (map number_of us) → ((u t : TableAt) → In u us → In t ts → u.number ≡ t.number → ⊥) → map (table_of tables) (place_tables us ts) ≡ with_tables (map (table_of tables) us) (map (table_of tables) ts)
+  pub map-placed : (us ts : List TableAt) → Sorted (map table_number us) → ((u t : TableAt) → In u us → In t ts → u.number ≡ t.number → ⊥) → map (table_of tables) (place_tables us ts) ≡ with_tables (map (table_of tables) us) (map (table_of tables) ts)
   map-placed [] ts up ne = refl
   map-placed (u ∷ us) ts up ne =
-      let apart : (v : TableAt) → In v us → u.number ≡ v.number → ⊥ = λ v i e. let l = up.0 v.number (In-map number_of v us i) in omega (arith, l, e) in
-      map-placed us (place_table u ts) up.1 (λ v t i j e. elim (place-In u t ts j) [ inl q ↦ apart v i (ap number_of q ∙ sym e) | inr k ↦ ne v t (inr i) k e ])
+      let apart : (v : TableAt) → In v us → u.number ≡ v.number → ⊥ = λ v i e. let l = up.0 v.number (In-map table_number v us i) in omega (arith, l, e) in
+      map-placed us (place_table u ts) up.1 (λ v t i j e. elim (place-In u t ts j) [ inl q ↦ apart v i (ap table_number q ∙ sym e) | inr k ↦ ne v t (inr i) k e ])
       ∙ ap (with_tables (map (table_of tables) us)) (map-place u ts (λ t j. ne u t (inl refl) j))
       ∙ sym (tables_swap (table_of tables u) (map (table_of tables) us) (map (table_of tables) ts) (λ b i e. let r = map-In (table_of tables) b us i in apart r.0 r.1 (e ∙ sym (ap (λ (z : LiveTable). z.number) r.2))))
 

@@ -19,10 +19,10 @@ use Rattle.manifest_fold.specs.Folds.{fold_with}
 use Rattle.manifest.specs.Folds.{sizes_of}
 use Rattle.floor_laws.proofs.Members.{In, contains_In, All-In, In-append, In-left, In-right, In-filter, filter-In}
 use Rattle.floor_laws.proofs.States.{some_same, written_of}
-use Rattle.engine_laws.specs.Logs.{batches_of, is_above, last_of, versions_of}
+use Rattle.engine_laws.specs.Logs.{batches_of, is_above_through, last_of, versions_of}
 use Rattle.engine_laws.specs.Manifests.{IsLive}
-use Rattle.engine_laws.specs.Standing.{Grammar, Reads, Says, StandsFor, TableReads, families_said, family_said, live_batches}
-use Rattle.engine_laws.specs.Engine.{Holds, IsEditTo, IsOutcomeOr, durable_last, with_edit}
+use Rattle.engine_laws.specs.Standing.{Grammar, FolderSays, Says, StandsFor, TableReads, families_said, family_said, live_batches}
+use Rattle.engine_laws.specs.Engine.{HoldsState, IsEditTo, IsOutcomeOr, durable_last, with_edit}
 use Rattle.engine_laws.proofs.Places.{get-map, map-get}
 use Rattle.engine_laws.proofs.Batches.{Above, batches-In, batches_append, batches_from, versions-In, versions_append, versions_upto}
 use Rattle.engine_laws.proofs.Folding.{family_back}
@@ -38,14 +38,14 @@ above_parts e (b ∷ bs) ws h = let r = above_parts (b.first.0 + length b.batch 
 -- each version that the live logs have above its family's `through`, whatever the floor is
 pub logged_is_kept : (s : Says) (m : State) (v : Version) (f : FamilyState) → StandsFor s m → In v (versions_of (live_batches s)) → family_at m v.family ≡ Some f → f.through.0 < v.seq.0 → In v m.versions
 logged_is_kept s m v f h i q lt =
-    let a = In-filter (is_above v.family f.through.0) v (versions_of (live_batches s)) i (above_from v.family f.through.0 v refl lt) in
-    (filter-In (is_above v.family f.through.0) v m.versions (subst (λ z. In v z) (sym (h.unflushed v.family f q)) a)).0
+    let a = In-filter (is_above_through v.family f.through.0) v (versions_of (live_batches s)) i (above_from v.family f.through.0 v refl lt) in
+    (filter-In (is_above_through v.family f.through.0) v m.versions (subst (λ z. In v z) (sym (h.unflushed v.family f q)) a)).0
 
 -- and has no other above it
 pub kept_is_logged : (s : Says) (m : State) (v : Version) (f : FamilyState) → StandsFor s m → In v m.versions → family_at m v.family ≡ Some f → f.through.0 < v.seq.0 → In v (versions_of (live_batches s))
 kept_is_logged s m v f h i q lt =
-    let a = In-filter (is_above v.family f.through.0) v m.versions i (above_from v.family f.through.0 v refl lt) in
-    (filter-In (is_above v.family f.through.0) v (versions_of (live_batches s)) (subst (λ z. In v z) (h.unflushed v.family f q) a)).0
+    let a = In-filter (is_above_through v.family f.through.0) v m.versions i (above_from v.family f.through.0 v refl lt) in
+    (filter-In (is_above_through v.family f.through.0) v (versions_of (live_batches s)) (subst (λ z. In v z) (h.unflushed v.family f q) a)).0
 
 none_failed : (o : Option Failing) (left : State) → o ≡ None → IsFailed o left → ⊥
 none_failed None left e h = h
@@ -63,7 +63,7 @@ family_differs s m left c i f h none q r ne stands (inr o) = none_failed c.faili
 
 -- ---- an edit that is made too early
 
-module _ (m : State) (c : Course) (s : Says) (waiting : List Numbered) (edit : Edit) (next : State) (h : Holds m c s waiting) (none : c.failing ≡ None) (e : IsEditTo m s edit next) where
+module _ (m : State) (c : Course) (s : Says) (waiting : List Numbered) (edit : Edit) (next : State) (h : HoldsState m c s waiting) (none : c.failing ≡ None) (e : IsEditTo m s edit next) where
   family_before : (i : Family) (f : FamilyState) → family_at next i ≡ Some f → (old : FamilyState) × (family_at m i ≡ Some old) × (old.through.0 ≤ f.through.0)
   family_before i f q =
       let a = get-map (family_said s.tables) (fold_with s.fold edit).families i.0 f (subst (λ z. slice_get z i.0 ≡ Some f) e.families q) in
@@ -79,8 +79,8 @@ module _ (m : State) (c : Course) (s : Says) (waiting : List Numbered) (edit : E
   left_has v f left i q lt stands o =
       let old = family_before v.family f q in
       let le = old.2 in
-      let a = In-filter (is_above v.family old.0.through.0) v (versions_of (live_batches s ++ waiting)) i (above_from v.family old.0.through.0 v refl (omega (arith, le, lt))) in
-      let w : In v m.versions = (filter-In (is_above v.family old.0.through.0) v m.versions (subst (λ z. In v z) (sym (h.unflushed v.family old.0 old.1)) a)).0 in
+      let a = In-filter (is_above_through v.family old.0.through.0) v (versions_of (live_batches s ++ waiting)) i (above_from v.family old.0.through.0 v refl (omega (arith, le, lt))) in
+      let w : In v m.versions = (filter-In (is_above_through v.family old.0.through.0) v m.versions (subst (λ z. In v z) (sym (h.unflushed v.family old.0 old.1)) a)).0 in
       let there : In v left.versions = elim o [
         | inl x ↦ elim x [
           | inl y ↦
@@ -138,8 +138,8 @@ module _ (m : State) (c : Course) (s : Says) (waiting : List Numbered) (edit : E
 
 -- ---- a live file that isn't there
 
-pub missing_log : (g : Grammar) (folder : Folder) (s : Says) (n : ℕ) → Contains s.fold.logs n → folder (Log n) ≡ None → Reads g folder s → ⊥
+pub missing_log : (g : Grammar) (folder : Folder) (s : Says) (n : ℕ) → Contains s.fold.logs n → folder (Log n) ≡ None → FolderSays g folder s → ⊥
 missing_log g folder s n i e r = subst (λ z. ReadsAs (sizes_of s.fold) (s.logs n) z) e (r.logs n i)
 
-pub missing_table : (g : Grammar) (folder : Folder) (s : Says) (i : Family) (f : FamilyFold) (t : TableAt) → IsLive s.fold i f t → folder (Table t.number) ≡ None → Reads g folder s → ⊥
+pub missing_table : (g : Grammar) (folder : Folder) (s : Says) (i : Family) (f : FamilyFold) (t : TableAt) → IsLive s.fold i f t → folder (Table t.number) ≡ None → FolderSays g folder s → ⊥
 missing_table g folder s i f t l e r = subst (λ z. TableReads g z (s.tables t.number)) e (r.tables i f t l)

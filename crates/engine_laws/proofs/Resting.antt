@@ -13,9 +13,9 @@ use Rattle.udt_model.specs.Crashes.{Course, IsOutcome, cut_at, settled}
 use Rattle.udt_disk.specs.Joint.{Folder}
 use Rattle.floor_laws.proofs.Members.{filter_every, filter_none}
 use Rattle.floor_laws.proofs.Reopening.{sound_cut, cut_whole}
-use Rattle.engine_laws.specs.Logs.{above, is_above, versions_of, last_of, last_over}
-use Rattle.engine_laws.specs.Standing.{Grammar, Says, Reads, StandsFor, StandsForSome, live_batches}
-use Rattle.engine_laws.specs.Engine.{durable_last, Holds}
+use Rattle.engine_laws.specs.Logs.{above, is_above_through, versions_of, last_of, last_over}
+use Rattle.engine_laws.specs.Standing.{Grammar, Says, FolderSays, StandsFor, StandsForSome, live_batches}
+use Rattle.engine_laws.specs.Engine.{durable_last, HoldsState}
 use Rattle.engine_laws.proofs.Places.{filter_swap}
 use Rattle.engine_laws.proofs.Batches.{Above, last_over_is, last_append, last_up, above_goes, above_sequence, versions_append, versions-In, versions_upto, all_left, all_right}
 
@@ -28,7 +28,7 @@ kept k fl end bs ws is one two =
     ∙ ap (λ z. versions_of bs ++ z) (filter_none (λ (v : Version). nat_le v.seq.0 end) (versions_of ws) (λ v i. let r = versions-In end ws v two i in lt-leb v.seq.0 end r.0))
     ∙ append-nil (versions_of bs)
 
-module _ (m : State) (c : Course) (s : Says) (waiting : List Numbered) (h : Holds m c s waiting) where
+module _ (m : State) (c : Course) (s : Says) (waiting : List Numbered) (h : HoldsState m c s waiting) where
   pub front_logged : All (IsLoggedBatch (length s.fold.families)) (live_batches s)
   front_logged = all_left (length s.fold.families) (live_batches s) waiting h.logged
 
@@ -76,9 +76,9 @@ module _ (m : State) (c : Course) (s : Says) (waiting : List Numbered) (h : Hold
       record {
         families = h.families;
         unflushed = λ i f e.
-            filter_swap (is_above i f.through.0) (λ (v : Version). nat_le v.seq.0 end) m.versions
+            filter_swap (is_above_through i f.through.0) (λ (v : Version). nat_le v.seq.0 end) m.versions
             ∙ ap (up_to end) (h.unflushed i f e)
-            ∙ filter_swap (λ (v : Version). nat_le v.seq.0 end) (is_above i f.through.0) (versions_of (live_batches s ++ waiting))
+            ∙ filter_swap (λ (v : Version). nat_le v.seq.0 end) (is_above_through i f.through.0) (versions_of (live_batches s ++ waiting))
             ∙ ap (above i f.through.0) (kept (length s.fold.families) s.fold.last.0 end (live_batches s) waiting durable_is front_above waiting_above);
         last = refl;
         behind = h.behind;
@@ -97,14 +97,14 @@ module _ (m : State) (c : Course) (s : Says) (waiting : List Numbered) (h : Hold
   whole_outcome = inl (m.last.0, h.course.all, synced_low, sym (cut_whole m h.sound))
 
 -- the files rest
-pub stands_rest : (g : Grammar) (folder : Folder) (m : State) (c : Course) (s : Says) (waiting : List Numbered) → Holds m c s waiting → Reads g folder s → StandsForSome g folder (IsOutcome m c)
+pub stands_rest : (g : Grammar) (folder : Folder) (m : State) (c : Course) (s : Says) (waiting : List Numbered) → HoldsState m c s waiting → FolderSays g folder s → StandsForSome g folder (IsOutcome m c)
 stands_rest g folder m c s waiting h r = (cut_at m (durable_last s), record { says = s; reads = r; stands = rest_stands m c s waiting h }, rest_outcome m c s waiting h)
 
 -- where nothing waits the files say all of the state
-pub whole_last : (m : State) (c : Course) (s : Says) → Holds m c s [] → durable_last s ≡ m.last.0
+pub whole_last : (m : State) (c : Course) (s : Says) → HoldsState m c s [] → durable_last s ≡ m.last.0
 whole_last m c s h = ap (last_over s.fold.last.0) (sym (append-nil (live_batches s))) ∙ sym h.last
 
-pub whole_stands : (m : State) (c : Course) (s : Says) → Holds m c s [] → StandsFor s (settled m)
+pub whole_stands : (m : State) (c : Course) (s : Says) → HoldsState m c s [] → StandsFor s (settled m)
 whole_stands m c s h =
     let e : cut_at m (durable_last s) ≡ settled m = ap (cut_at m) (whole_last m c s h) ∙ cut_whole m h.sound in
     subst (StandsFor s) e (rest_stands m c s [] h)

@@ -24,7 +24,7 @@ use Rattle.manifest.specs.Folds.{family_fold}
 use Rattle.floor_laws.proofs.Members.{In-contains, contains_In, All-from}
 use Rattle.engine_laws.specs.Logs.{versions_of}
 use Rattle.engine_laws.specs.Standing.{Says, StandsFor, TableSays, family_said, fresh_says, new_state}
-use Rattle.engine_laws.specs.Engine.{Holds, MayEdit, next_batch, with_batches, with_edit}
+use Rattle.engine_laws.specs.Engine.{HoldsState, MayEdit, next_batch, with_batches, with_edit}
 use Rattle.engine_laws.specs.Installs.{EndsFlush, LogsMayGo, flush_edit, roll_edit}
 use Rattle.engine_laws.proofs.Acting.{act_holds, seal_holds}
 use Rattle.engine_laws.proofs.Folding.{head_well}
@@ -61,7 +61,7 @@ m0 = new_state heads
 abbrev s0 : Says
 s0 = fresh_says heads (λ n. says_e)
 
-pub held0 : Holds m0 (course_start m0) s0 []
+pub held0 : HoldsState m0 (course_start m0) s0 []
 held0 = stands_holds m0 s0 (head_well heads) (All-nil (IsLoggedBatch 2)) (new_stands heads (λ n. says_e))
 
 -- ---- the write waits
@@ -87,7 +87,7 @@ c1 = course_after m0 1 (course_start m0) (write ops false) (OkAt 2)
 abbrev batch : Numbered
 batch = next_batch m0 ops
 
-pub held1 : Holds m1 c1 s0 (batch ∷ [])
+pub held1 : HoldsState m1 c1 s0 (batch ∷ [])
 held1 = write_waits m0 (course_start m0) s0 [] 1 ops 2 held0 (record { running = refl; is = inl refl }) logged refl
 
 -- ---- the seal of e: the write is on the disk, and log 2 is live
@@ -101,7 +101,7 @@ c2 = course_after m1 2 c1 (flush_start e) (OkAt 2)
 abbrev s2 : Says
 s2 = with_edit (with_batches s0 (batch ∷ [])) (roll_edit m1.last 2)
 
-pub held2 : Holds m2 c2 s2 []
+pub held2 : HoldsState m2 c2 s2 []
 held2 = seal_holds m1 c1 s0 (batch ∷ []) 2 e 2 held1 (record { running = refl; is = inl refl }) (omega arith) (omega arith) refl
 
 pub logs2 : s2.fold.logs ≡ 1 ∷ 2 ∷ []
@@ -118,7 +118,7 @@ m3 = after m2 3 (flush_end e 2) (Table 3 1 (record { 0 = 0 }))
 abbrev s2b : Says
 s2b = with_batches s2 []
 
-held2b : Holds m2 c2 s2b []
+held2b : HoldsState m2 c2 s2b []
 held2b = sync_unasked m2 c2 s2 [] held2
 
 ends : EndsFlush m2 s2b job 2 3 1 (record { 0 = 0 }) (family_fold (head (codes "e"))) 4
@@ -144,7 +144,7 @@ flush_may_be_made =
 abbrev s3 : Says
 s3 = with_edit s2b flushing
 
-pub held3 : Holds m3 (course_after m2 3 c2 (flush_end e 2) (Table 3 1 (record { 0 = 0 }))) s3 []
+pub held3 : HoldsState m3 (course_after m2 3 c2 (flush_end e 2) (Table 3 1 (record { 0 = 0 }))) s3 []
 held3 = act_holds m2 c2 s2 [] 3 (flush_end e 2) (Table 3 1 (record { 0 = 0 })) flushing held2 ends.told refl refl flush_may_be_made
 
 -- e has table 3, and both logs are live

@@ -18,9 +18,9 @@ use Rattle.udt_model.specs.Crashes.{Course, course_after, cut_at, settled}
 use Rattle.floor_laws.proofs.Members.{In, filter_none}
 use Rattle.floor_laws.proofs.Told.{sound_after}
 use Rattle.floor_laws.proofs.Courses.{course_sound}
-use Rattle.engine_laws.specs.Logs.{above, is_above, versions_of, last_of, last_over, batches_of}
+use Rattle.engine_laws.specs.Logs.{above, is_above_through, versions_of, last_of, last_over, batches_of}
 use Rattle.engine_laws.specs.Standing.{Says, StandsFor, live_batches}
-use Rattle.engine_laws.specs.Engine.{durable_last, newest_of, with_batches, next_batch, Holds, IsOnCourse}
+use Rattle.engine_laws.specs.Engine.{durable_last, newest_log_of, with_batches, next_batch, HoldsState, IsOnCourse}
 use Rattle.engine_laws.proofs.Batches.{last_over_is, last_append, logged-In, versions_append, goes_more, sequence_more, batches_append, batches_same, all_right}
 use Rattle.engine_laws.proofs.Ascending.{Newest, newest_of as newest_in, rising_sorted}
 use Rattle.engine_laws.proofs.Resting.{front_logged, durable_is, all_behind, whole_is, waiting_last, last_low, synced_low, whole_stands}
@@ -41,7 +41,7 @@ batches_behind logs older newest ws low =
     ∙ sym (append_assoc (batches_of logs older) (batches_of logs (newest ∷ [])) ws)
     ∙ ap (λ z. z ++ ws) (sym (batches_append logs older (newest ∷ [])))
 
-module _ (m : State) (c : Course) (s : Says) (waiting : List Numbered) (h : Holds m c s waiting) where
+module _ (m : State) (c : Course) (s : Says) (waiting : List Numbered) (h : HoldsState m c s waiting) where
   abbrev pub synced_says : Says
   synced_says = with_batches s waiting
 
@@ -52,7 +52,7 @@ module _ (m : State) (c : Course) (s : Says) (waiting : List Numbered) (h : Hold
   sync_batches =
       let n = newest_log_is in
       ap (batches_of synced_says.logs) n.is
-      ∙ batches_behind s.logs n.older (newest_of s) waiting n.above
+      ∙ batches_behind s.logs n.older (newest_log_of s) waiting n.above
       ∙ ap (λ z. batches_of s.logs z ++ waiting) (sym n.is)
 
   pub sync_all_batches : live_batches synced_says ++ [] ≡ live_batches s ++ waiting
@@ -62,7 +62,7 @@ module _ (m : State) (c : Course) (s : Says) (waiting : List Numbered) (h : Hold
   sync_last = ap (last_over s.fold.last.0) sync_batches ∙ sym h.last
 
   -- after a sync all that was written is on the disk, on whatever course
-  pub sync_holds_on : (d : Course) → IsOnCourse m d m.last.0 → Holds m d synced_says []
+  pub sync_holds_on : (d : Course) → IsOnCourse m d m.last.0 → HoldsState m d synced_says []
   sync_holds_on d on = record {
     families = h.families;
     unflushed = λ i f e. h.unflushed i f e ∙ ap (λ z. above i f.through.0 (versions_of z)) (sym sync_all_batches);
@@ -79,7 +79,7 @@ module _ (m : State) (c : Course) (s : Says) (waiting : List Numbered) (h : Hold
   }
 
   -- a sync that nobody asked for leaves the course as it is
-  pub sync_unasked : Holds m c synced_says []
+  pub sync_unasked : HoldsState m c synced_says []
   sync_unasked = sync_holds_on c (record {
     here = h.course.all;
     all = h.course.all;
@@ -88,7 +88,7 @@ module _ (m : State) (c : Course) (s : Says) (waiting : List Numbered) (h : Hold
   })
 
   -- and one that was asked for brings it forward
-  pub sync_holds : (number : ℕ) → IsReplyTo m sync_all Done → Holds (after m number sync_all Done) (course_after m number c sync_all Done) synced_says []
+  pub sync_holds : (number : ℕ) → IsReplyTo m sync_all Done → HoldsState (after m number sync_all Done) (course_after m number c sync_all Done) synced_says []
   sync_holds number r = sync_holds_on (course_after m number c sync_all Done) (record {
     here = h.course.all;
     all = h.course.all;
@@ -102,7 +102,7 @@ module _ (m : State) (c : Course) (s : Says) (waiting : List Numbered) (h : Hold
 
 -- ---- a write
 
-module _ (m : State) (c : Course) (s : Says) (waiting : List Numbered) (h : Holds m c s waiting) (number : ℕ) (ops : List WriteOp) (sync : Bool) (last : ℕ) (told : IsReplyTo m (write ops sync) (OkAt last)) (fits : IsLoggedBatch (length s.fold.families) (next_batch m ops)) (up : last ≡ m.last.0 + length ops) where
+module _ (m : State) (c : Course) (s : Says) (waiting : List Numbered) (h : HoldsState m c s waiting) (number : ℕ) (ops : List WriteOp) (sync : Bool) (last : ℕ) (told : IsReplyTo m (write ops sync) (OkAt last)) (fits : IsLoggedBatch (length s.fold.families) (next_batch m ops)) (up : last ≡ m.last.0 + length ops) where
   abbrev pub next : State
   next = after m number (write ops sync) (OkAt last)
 
@@ -132,13 +132,13 @@ module _ (m : State) (c : Course) (s : Says) (waiting : List Numbered) (h : Hold
       last_over_is s.fold.last.0 (live_batches s ++ behind_waiting) (omega (arith, a, k, e, up)) ∙ e
 
   -- the write waits, on a course that is synced no further
-  pub write_holds_on : (d : Course) → IsOnCourse next d (durable_last s) → Holds next d s behind_waiting
+  pub write_holds_on : (d : Course) → IsOnCourse next d (durable_last s) → HoldsState next d s behind_waiting
   write_holds_on d on = record {
     families = h.families;
     unflushed = λ i f e.
-        filter-append (is_above i f.through.0) m.versions (made m.last.0 ops)
+        filter-append (is_above_through i f.through.0) m.versions (made m.last.0 ops)
         ∙ ap (λ z. z ++ above i f.through.0 (made m.last.0 ops)) (h.unflushed i f e)
-        ∙ sym (filter-append (is_above i f.through.0) (versions_of (live_batches s ++ waiting)) (made m.last.0 ops))
+        ∙ sym (filter-append (is_above_through i f.through.0) (versions_of (live_batches s ++ waiting)) (made m.last.0 ops))
         ∙ ap (above i f.through.0) (ap (λ z. versions_of (live_batches s ++ waiting) ++ z) (sym (append-nil (made m.last.0 ops))) ∙ sym (versions_append (live_batches s ++ waiting) (next_batch m ops ∷ [])) ∙ ap versions_of (sym all_more));
     last = sym last_more;
     within = let a = fits.last in omega (arith, a, up);
@@ -166,8 +166,8 @@ module _ (m : State) (c : Course) (s : Says) (waiting : List Numbered) (h : Hold
       ∙ append-nil (up_to end m.versions))
 
 -- an unsynced write waits
-pub write_waits : (m : State) (c : Course) (s : Says) (waiting : List Numbered) (number : ℕ) (ops : List WriteOp) (last : ℕ) → Holds m c s waiting → IsReplyTo m (write ops false) (OkAt last) → IsLoggedBatch (length s.fold.families) (next_batch m ops) → last ≡ m.last.0 + length ops
-    → Holds (after m number (write ops false) (OkAt last)) (course_after m number c (write ops false) (OkAt last)) s (waiting ++ next_batch m ops ∷ [])
+pub write_waits : (m : State) (c : Course) (s : Says) (waiting : List Numbered) (number : ℕ) (ops : List WriteOp) (last : ℕ) → HoldsState m c s waiting → IsReplyTo m (write ops false) (OkAt last) → IsLoggedBatch (length s.fold.families) (next_batch m ops) → last ≡ m.last.0 + length ops
+    → HoldsState (after m number (write ops false) (OkAt last)) (course_after m number c (write ops false) (OkAt last)) s (waiting ++ next_batch m ops ∷ [])
 write_waits m c s waiting number ops last h told fits up =
     write_holds_on m c s waiting h number ops false last told fits up (course_after m number c (write ops false) (OkAt last)) (record {
       here = Contains-append_left c.ends (last ∷ []) (durable_last s) h.course.here;
@@ -177,8 +177,8 @@ write_waits m c s waiting number ops last h told fits up =
     })
 
 -- a synced one is on the disk with all that waited
-pub write_synced : (m : State) (c : Course) (s : Says) (waiting : List Numbered) (number : ℕ) (ops : List WriteOp) (last : ℕ) → Holds m c s waiting → IsReplyTo m (write ops true) (OkAt last) → IsLoggedBatch (length s.fold.families) (next_batch m ops) → last ≡ m.last.0 + length ops
-    → Holds (after m number (write ops true) (OkAt last)) (course_after m number c (write ops true) (OkAt last)) (with_batches s (waiting ++ next_batch m ops ∷ [])) []
+pub write_synced : (m : State) (c : Course) (s : Says) (waiting : List Numbered) (number : ℕ) (ops : List WriteOp) (last : ℕ) → HoldsState m c s waiting → IsReplyTo m (write ops true) (OkAt last) → IsLoggedBatch (length s.fold.families) (next_batch m ops) → last ≡ m.last.0 + length ops
+    → HoldsState (after m number (write ops true) (OkAt last)) (course_after m number c (write ops true) (OkAt last)) (with_batches s (waiting ++ next_batch m ops ∷ [])) []
 write_synced m c s waiting number ops last h told fits up =
     let next = after m number (write ops true) (OkAt last) in
     -- the course as it was, with one end more
@@ -189,7 +189,7 @@ write_synced m c s waiting number ops last h told fits up =
       synced = h.course.synced;
       sound = record { synced = h.course.sound.synced; failing = h.course.sound.failing };
     } in
-    let k : Holds next c0 s (waiting ++ next_batch m ops ∷ []) = write_holds_on m c s waiting h number ops true last told fits up c0 on0 in
+    let k : HoldsState next c0 s (waiting ++ next_batch m ops ∷ []) = write_holds_on m c s waiting h number ops true last told fits up c0 on0 in
     sync_holds_on next c0 s (waiting ++ next_batch m ops ∷ []) k (course_after m number c (write ops true) (OkAt last)) (record {
       here = Contains-push c.ends last;
       all = Contains-push c.ends last;

@@ -23,8 +23,8 @@ abbrev pub durable_last : Says → ℕ
 durable_last s = last_over s.fold.last.0 (live_batches s)
 
 -- the log to which batches are added
-abbrev pub newest_of : Says → ℕ
-newest_of s = newest_log s.fold.logs
+abbrev pub newest_log_of : Says → ℕ
+newest_log_of s = newest_log s.fold.logs
 
 -- The course of a state that is on the disk up to a sequence: this one and the state's last are ends of batches, all that is synced is
 -- on the disk, and all that is in tables was synced.
@@ -35,7 +35,7 @@ pub record IsOnCourse (m : State) (c : Course) (durable : ℕ) : Type 0 where
   pub sound : IsSoundCourse m c
 
 -- The engine and its `now` hold a state on its course: the files say s, and these batches wait for the next sync of the newest log.
-pub record Holds (m : State) (c : Course) (s : Says) (waiting : List Numbered) : Type 0 where
+pub record HoldsState (m : State) (c : Course) (s : Says) (waiting : List Numbered) : Type 0 where
   -- the families, floors, `through` and live tables are those of the manifest and the table files
   pub families : m.families ≡ families_said s.tables s.fold
   -- the versions above each `through` are those of the live logs and of what waits
@@ -58,14 +58,14 @@ pub record Holds (m : State) (c : Course) (s : Says) (waiting : List Numbered) :
 
 -- the same, and these batches behind those of the newest log
 abbrev pub with_batches : Says → List Numbered → Says
-with_batches s batches = record s { logs = λ n. if n == newest_of s then s.logs n ++ batches else s.logs n }
+with_batches s batches = record s { logs = λ n. if n == newest_log_of s then s.logs n ++ batches else s.logs n }
 
 -- the same, but that the table or the log of this number, which isn't live yet, says this
-abbrev pub with_table : Says → ℕ → TableSays → Says
-with_table s number says = record s { tables = λ n. if n == number then says else s.tables n }
+abbrev pub with_new_table : Says → ℕ → TableSays → Says
+with_new_table s number says = record s { tables = λ n. if n == number then says else s.tables n }
 
-abbrev pub with_log : Says → ℕ → List Numbered → Says
-with_log s number batches = record s { logs = λ n. if n == number then batches else s.logs n }
+abbrev pub with_new_log : Says → ℕ → List Numbered → Says
+with_new_log s number batches = record s { logs = λ n. if n == number then batches else s.logs n }
 
 -- the same, and the manifest with an edit more
 abbrev pub with_edit : Says → Edit → Says

@@ -16,7 +16,7 @@ use Rattle.manifest_edit.specs.declared.edit.Edit.{Edit}
 use Rattle.manifest_fold.specs.declared.fold.FamilyFold.{FamilyFold}
 use Rattle.manifest_fold.specs.declared.limits.TheConstants.{FILE_NUMBER_LIMIT}
 use Rattle.engine_laws.specs.Logs.{above, versions_of}
-use Rattle.engine_laws.specs.Manifests.{number_of}
+use Rattle.engine_laws.specs.Manifests.{table_number}
 use Rattle.engine_laws.specs.Standing.{Fits, Says, table_of}
 
 -- a family gets a floor; `next` is the engine's next file number
@@ -62,8 +62,8 @@ pub record IsNextFile (m : State) (s : Says) (next : ℕ) : Type 0 where
 -- ---- which logs may be dropped
 
 -- what the engine knows of its older logs: up to which sequence each may have versions
-abbrev pub Covers : Says → (ℕ → ℕ) → List ℕ → Type 0
-Covers s upto ns = (n : ℕ) (v : Version) → Contains ns n → Contains (versions_of (s.logs n)) v → v.seq.0 ≤ upto n
+abbrev pub CoversLogs : Says → (ℕ → ℕ) → List ℕ → Type 0
+CoversLogs s upto ns = (n : ℕ) (v : Version) → Contains ns n → Contains (versions_of (s.logs n)) v → v.seq.0 ≤ upto n
 
 -- a family keeps a log from being dropped unless all that it may have there is flushed, or nothing of it is unflushed at all
 abbrev pub LetsGo : State → ℕ → Family → FamilyState → Type 0
@@ -79,7 +79,7 @@ pub record LogsMayGo (s : Says) (next : State) (gone : List ℕ) : Type 0 where
   pub oldest : s.fold.logs ≡ gone ++ kept
   pub some : 1 ≤ length kept
   pub upto : ℕ → ℕ
-  pub covers : Covers s upto gone
+  pub covers : CoversLogs s upto gone
   pub drops : MayDrop next upto gone
 
 -- ---- what a job's end brings
@@ -103,6 +103,6 @@ pub record EndsCompaction (m : State) (s : Says) (job : Compaction) (start kept 
   pub there : slice_get s.fold.families job.family.0 ≡ Some old
   pub holds : map (table_of s.tables) add ≡ tables_from job.level (compaction_kept m job) pieces
   pub fits : All (λ (t : TableAt). Fits job.family old (s.tables t.number)) add
-  pub ascending : IsStrictlyIncreasing (map number_of add)
+  pub ascending : IsStrictlyIncreasing (map table_number add)
   pub file : IsNextFile m s next
   pub below : All (λ (t : TableAt). t.number < next) add

@@ -24,15 +24,15 @@ use Rattle.manifest_fold.specs.Folds.{IsAccepted, fold_with}
 use Rattle.manifest.specs.Files.{HasFold, IsEditImage}
 use Rattle.manifest.specs.Folders.{IsManifestName}
 use Rattle.manifest.specs.Folds.{sizes_of}
-use Rattle.engine_laws.specs.Standing.{Grammar, Reads, Says, StandsForSome}
-use Rattle.engine_laws.specs.Engine.{Holds, IsOutcomeOr, MayEdit, SameLive, newest_of, next_batch, with_batches, with_edit}
-use Rattle.engine_laws.specs.Moves.{AreDead, IsReady, LogRests, Rests, TableRests, added_tables}
+use Rattle.engine_laws.specs.Standing.{Grammar, FolderSays, Says, StandsForSome}
+use Rattle.engine_laws.specs.Engine.{HoldsState, IsOutcomeOr, MayEdit, SameLive, newest_log_of, next_batch, with_batches, with_edit}
+use Rattle.engine_laws.specs.Moves.{AreDead, IsEditReady, LogRests, Rests, TableRests, added_tables}
 use Rattle.engine_laws.specs.Joints.{OneRan}
 use Rattle.engine_laws.specs.Laws.{IsNextWrite}
 
 -- what a sync leaves of the newest log: what was there, or all that waited behind it
 abbrev pub IsSyncImage : Says → List Numbered → Image → Type 0
-IsSyncImage s waiting = IsBeforeOrAfter (sizes_of s.fold) (s.logs (newest_of s)) waiting
+IsSyncImage s waiting = IsBeforeOrAfter (sizes_of s.fold) (s.logs (newest_log_of s)) waiting
 
 module _ {D F : Type 0} (d : disk.Ghosts D F) (f : file.Ghosts F) where
   -- what the engine's files say rests on the disk and in the files that are held
@@ -42,7 +42,7 @@ module _ {D F : Type 0} (d : disk.Ghosts D F) (f : file.Ghosts F) where
   -- the held file of the newest log ran on
   pub record LogRan (s : Says) (before after : List F) (wal ran : F) : Type 0 where
     pub one : OneRan f before after wal ran
-    pub name : f.name wal ≡ Log (newest_of s)
+    pub name : f.name wal ≡ Log (newest_log_of s)
 
   -- the held file of the manifest ran on
   pub record ManifestRan (manifest : FileName) (before after : List F) (old ran : F) : Type 0 where
@@ -54,33 +54,33 @@ module _ {D F : Type 0} (d : disk.Ghosts D F) (f : file.Ghosts F) where
   -- while it is synced a crash leaves only folders that stand for outcomes
   abbrev pub SyncRunLeavesOutcomes : Grammar → Type 0
   SyncRunLeavesOutcomes g = (manifest : FileName) (m : State) (c : Course) (s : Says) (waiting : List Numbered) (x : D) (before after : List F) (wal ran : F)
-      → IsManifestName manifest → Holds m c s waiting → RestIn g (holding x before) manifest s → LogRan s before after wal ran → Leaves f wal ran (IsSyncImage s waiting)
+      → IsManifestName manifest → HoldsState m c s waiting → RestIn g (holding x before) manifest s → LogRan s before after wal ran → Leaves f wal ran (IsSyncImage s waiting)
       → Ran d f (λ folder. StandsForSome g folder (IsOutcome m c)) (holding x before) (holding x after)
 
   -- and while it is synced under a write
   abbrev pub WriteRunLeavesOutcomes : Grammar → Type 0
   WriteRunLeavesOutcomes g = (manifest : FileName) (m : State) (c : Course) (s : Says) (waiting : List Numbered) (number : ℕ) (ops : List WriteOp) (sync : Bool) (x : D) (before after : List F) (wal ran : F)
-      → IsManifestName manifest → Holds m c s waiting → IsNextWrite m s ops sync → RestIn g (holding x before) manifest s → LogRan s before after wal ran → Leaves f wal ran (IsSyncImage s (waiting ++ next_batch m ops ∷ []))
+      → IsManifestName manifest → HoldsState m c s waiting → IsNextWrite m s ops sync → RestIn g (holding x before) manifest s → LogRan s before after wal ran → Leaves f wal ran (IsSyncImage s (waiting ++ next_batch m ops ∷ []))
       → Ran d f (λ folder. StandsForSome g folder (IsOutcomeUnder m c number (write ops sync))) (holding x before) (holding x after)
 
   -- where afterwards it may leave only a log with all that waited, all rests
   abbrev pub RestsSynced : Grammar → Type 0
   RestsSynced g = (manifest : FileName) (m : State) (c : Course) (s : Says) (waiting : List Numbered) (x : D) (before after : List F) (wal ran : F)
-      → IsManifestName manifest → Holds m c s waiting → RestIn g (holding x before) manifest s → LogRan s before after wal ran
-      → ((image : Image) → f.may_leave ran image → ReadsAs (sizes_of s.fold) (s.logs (newest_of s) ++ waiting) image) → RestIn g (holding x after) manifest (with_batches s waiting)
+      → IsManifestName manifest → HoldsState m c s waiting → RestIn g (holding x before) manifest s → LogRan s before after wal ran
+      → ((image : Image) → f.may_leave ran image → ReadsAs (sizes_of s.fold) (s.logs (newest_log_of s) ++ waiting) image) → RestIn g (holding x after) manifest (with_batches s waiting)
 
   -- ---- the manifest
 
   -- while an edit is appended a crash leaves only folders that stand for outcomes, or for the next state
   abbrev pub EditRunLeavesOutcomes : Grammar → Type 0
   EditRunLeavesOutcomes g = (manifest : FileName) (m next : State) (c : Course) (s : Says) (edit : Edit) (x : D) (before after : List F) (old ran : F)
-      → IsManifestName manifest → Holds m c s [] → MayEdit m s edit next → RestIn g (holding x before) manifest s → IsReady g (MayLeave d f (holding x before)) s edit
+      → IsManifestName manifest → HoldsState m c s [] → MayEdit m s edit next → RestIn g (holding x before) manifest s → IsEditReady g (MayLeave d f (holding x before)) s edit
       → ManifestRan manifest before after old ran → Leaves f old ran (IsEditImage s.fold edit) → Ran d f (λ folder. StandsForSome g folder (IsOutcomeOr m c next)) (holding x before) (holding x after)
 
   -- where afterwards it may leave only the fold with the edit, all rests
   abbrev pub RestsEdited : Grammar → Type 0
   RestsEdited g = (manifest : FileName) (m next : State) (s : Says) (edit : Edit) (x : D) (before after : List F) (old ran : F)
-      → IsManifestName manifest → MayEdit m s edit next → RestIn g (holding x before) manifest s → IsReady g (MayLeave d f (holding x before)) s edit
+      → IsManifestName manifest → MayEdit m s edit next → RestIn g (holding x before) manifest s → IsEditReady g (MayLeave d f (holding x before)) s edit
       → ManifestRan manifest before after old ran → ((image : Image) → f.may_leave ran image → HasFold image (fold_with s.fold edit)) → RestIn g (holding x after) manifest (with_edit s edit)
 
   -- ---- names that aren't live
@@ -88,7 +88,7 @@ module _ {D F : Type 0} (d : disk.Ghosts D F) (f : file.Ghosts F) where
   -- at each moment of calls that touch only names that aren't live, whatever files are held, a crash leaves only folders that say the same
   abbrev pub DeadRunSaysTheSame : Grammar → Type 0
   DeadRunSaysTheSame g = (manifest : FileName) (s : Says) (names : List FileName) (old new : Joint D F)
-      → IsManifestName manifest → RestIn g old manifest s → AreDead manifest s.fold (Contains names) → Ran d f (AsAtBut d f (Contains names) old) old new → Ran d f (λ folder. Reads g folder s) old new
+      → IsManifestName manifest → RestIn g old manifest s → AreDead manifest s.fold (Contains names) → Ran d f (AsAtBut d f (Contains names) old) old new → Ran d f (λ folder. FolderSays g folder s) old new
 
   -- and where under every other name it leaves nothing new, all rests afterwards
   abbrev pub RestsBesideDead : Grammar → Type 0
@@ -98,12 +98,12 @@ module _ {D F : Type 0} (d : disk.Ghosts D F) (f : file.Ghosts F) where
   -- between two calls
   abbrev pub LeavesOutcomesNow : Grammar → Type 0
   LeavesOutcomesNow g = (manifest : FileName) (m : State) (c : Course) (s : Says) (waiting : List Numbered) (j : Joint D F)
-      → Holds m c s waiting → RestIn g j manifest s → LeavesNow d f (λ folder. StandsForSome g folder (IsOutcome m c)) j
+      → HoldsState m c s waiting → RestIn g j manifest s → LeavesNow d f (λ folder. StandsForSome g folder (IsOutcome m c)) j
 
   -- so it is with calls that only read, and with a file that is given back as it is, of whatever name
   abbrev pub ReadsRest : Grammar → Type 0
   ReadsRest g = (manifest : FileName) (s : Says) (old new : Joint D F)
-      → IsManifestName manifest → RestIn g old manifest s → OnlyReads d f old new → Ran d f (λ folder. Reads g folder s) old new × RestIn g new manifest s
+      → IsManifestName manifest → RestIn g old manifest s → OnlyReads d f old new → Ran d f (λ folder. FolderSays g folder s) old new × RestIn g new manifest s
 
   -- and with a roll, which makes a log of a new number and gives the old one's file back
   abbrev pub RollLeavesNoMore : Type 0
@@ -120,7 +120,7 @@ module _ {D F : Type 0} (d : disk.Ghosts D F) (f : file.Ghosts F) where
   -- all that is live with an edit rests where all that was live does, and the logs and tables that the edit adds
   abbrev pub EditIsReady : Grammar → Type 0
   EditIsReady g = (manifest : FileName) (s : Says) (edit : Edit) (j : Joint D F) → IsAccepted s.fold edit → RestIn g j manifest s
-      → ((n : ℕ) → Contains edit.add_logs n → LogRests (MayLeave d f j) s n) → ((t : TableAt) → Contains (added_tables edit.family) t → TableRests g (MayLeave d f j) s t.number) → IsReady g (MayLeave d f j) s edit
+      → ((n : ℕ) → Contains edit.add_logs n → LogRests (MayLeave d f j) s n) → ((t : TableAt) → Contains (added_tables edit.family) t → TableRests g (MayLeave d f j) s t.number) → IsEditReady g (MayLeave d f j) s edit
 
   -- ---- whole calls
 
@@ -131,11 +131,11 @@ module _ {D F : Type 0} (d : disk.Ghosts D F) (f : file.Ghosts F) where
     pub wal_after : F
     pub log : LogRan s start synced wal wal_after
     pub syncs : Leaves f wal wal_after (IsSyncImage s waiting)
-    pub all_synced : (image : Image) → f.may_leave wal_after image → ReadsAs (sizes_of s.fold) (s.logs (newest_of s) ++ waiting) image
+    pub all_synced : (image : Image) → f.may_leave wal_after image → ReadsAs (sizes_of s.fold) (s.logs (newest_log_of s) ++ waiting) image
     pub new : List FileName
     pub new_dead : AreDead manifest s.fold (Contains new)
     pub makes : OnlyTouches d f (Contains new) (holding x synced) (holding y made)
-    pub ready : IsReady g (MayLeave d f (holding y made)) (with_batches s waiting) edit
+    pub ready : IsEditReady g (MayLeave d f (holding y made)) (with_batches s waiting) edit
     pub old : F
     pub old_after : F
     pub file : ManifestRan manifest made appended old old_after
@@ -148,6 +148,6 @@ module _ {D F : Type 0} (d : disk.Ghosts D F) (f : file.Ghosts F) where
   -- at each moment of it a crash leaves only folders that stand for outcomes under the act, and all rests behind it
   abbrev pub CallLeavesOutcomes : Grammar → Type 0
   CallLeavesOutcomes g = (manifest : FileName) (m : State) (c : Course) (s : Says) (waiting : List Numbered) (number : ℕ) (act : Act) (reply : Reply) (edit : Edit) (x y z : D) (start synced made appended done : List F)
-      → IsManifestName manifest → Holds m c s waiting → RestIn g (holding x start) manifest s → IsTold m act reply → IsTrue (is_change act reply) → IsTrue (is_running m act)
+      → IsManifestName manifest → HoldsState m c s waiting → RestIn g (holding x start) manifest s → IsTold m act reply → IsTrue (is_change act reply) → IsTrue (is_running m act)
       → MayEdit m (with_batches s waiting) edit (after m number act reply) → EditCall g manifest s waiting edit x y z start synced made appended done
       → Ran d f (λ folder. StandsForSome g folder (IsOutcomeUnder m c number act)) (holding x start) (holding z done) × RestIn g (holding z done) manifest (with_edit (with_batches s waiting) edit)

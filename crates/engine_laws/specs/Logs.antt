@@ -25,8 +25,8 @@ batches_of logs [] = []
 batches_of logs (n ∷ ns) = logs n ++ batches_of logs ns
 
 -- it is a version of the family, with a sequence above this one
-abbrev pub is_above : Family → ℕ → Version → Bool
-is_above family through v = v.family.0 == family.0 && nat_lt through v.seq.0
+abbrev pub is_above_through : Family → ℕ → Version → Bool
+is_above_through family through v = v.family.0 == family.0 && nat_lt through v.seq.0
 
 abbrev pub above : Family → ℕ → List Version → List Version
-above family through w = filter (is_above family through) w
+above family through w = filter (is_above_through family through) w

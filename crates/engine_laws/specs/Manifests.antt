@@ -8,8 +8,8 @@ use Rattle.manifest_fold.specs.declared.limits.TheConstants.{FILE_NUMBER_LIMIT, 
 use Rattle.manifest_fold.specs.declared.fold.FamilyFold.{FamilyFold}
 use Rattle.manifest_fold.specs.declared.fold.Folded.{Folded}
 
-abbrev pub number_of : TableAt → ℕ
-number_of t = t.number
+abbrev pub table_number : TableAt → ℕ
+table_number t = t.number
 
 -- the table is live in the family of this number
 pub record IsLive (fold : Folded) (i : Family) (f : FamilyFold) (t : TableAt) : Type 0 where
@@ -28,5 +28,5 @@ pub record IsWell (fold : Folded) : Type 0 where
   pub tables : (family : Family) (f : FamilyFold) (t : TableAt) → IsLive fold family f t → t.number < fold.next_file
   pub levels : (family : Family) (f : FamilyFold) (t : TableAt) → IsLive fold family f t → t.level ≤ LOWEST_LEVEL
   pub through : (family : Family) (f : FamilyFold) → slice_get fold.families family.0 ≡ Some f → f.through.0 ≤ fold.last.0
-  pub ascending : (family : Family) (f : FamilyFold) → slice_get fold.families family.0 ≡ Some f → IsStrictlyIncreasing (map number_of f.tables)
+  pub ascending : (family : Family) (f : FamilyFold) → slice_get fold.families family.0 ≡ Some f → IsStrictlyIncreasing (map table_number f.tables)
   pub apart : (i k : Family) (f h : FamilyFold) (t u : TableAt) → IsLive fold i f t → IsLive fold k h u → t.number ≡ u.number → i ≡ k

@@ -19,7 +19,7 @@ use Rattle.manifest.specs.Folders.{chosen_by}
 use Rattle.manifest.specs.Folds.{sizes_of}
 use Rattle.engine_laws.specs.Manifests.{IsLive}
 use Rattle.engine_laws.specs.Standing.{Grammar, Says, StandsForSome, TableReads}
-use Rattle.engine_laws.specs.Engine.{newest_of}
+use Rattle.engine_laws.specs.Engine.{newest_log_of}
 
 -- what a crash may leave under each name
 abbrev pub Images : Type 1
@@ -87,8 +87,8 @@ AreDead manifest fold IsTouched = (n : FileName) → IsTouched n → ¬ IsLiveNa
 
 -- while the newest log is synced: what was there, or all that waited behind it
 pub record Syncing (s : Says) (waiting : List Numbered) (old new : Images) : Type 0 where
-  pub touches : TouchesOne (Log (newest_of s)) old new
-  pub either : (c : Image) → new (Log (newest_of s)) c → IsBeforeOrAfter (sizes_of s.fold) (s.logs (newest_of s)) waiting c
+  pub touches : TouchesOne (Log (newest_log_of s)) old new
+  pub either : (c : Image) → new (Log (newest_log_of s)) c → IsBeforeOrAfter (sizes_of s.fold) (s.logs (newest_log_of s)) waiting c
 
 -- while an edit is appended: the fold before it, or with it
 pub record Appending (manifest : FileName) (s : Says) (edit : Edit) (old new : Images) : Type 0 where
@@ -101,6 +101,6 @@ added_tables None = []
 added_tables (Some e) = e.add
 
 -- all that is live with the edit rests already
-pub record IsReady (g : Grammar) (images : Images) (s : Says) (edit : Edit) : Type 0 where
+pub record IsEditReady (g : Grammar) (images : Images) (s : Says) (edit : Edit) : Type 0 where
   pub logs : (n : ℕ) → Contains (fold_with s.fold edit).logs n → LogRests images s n
   pub tables : (family : Family) (f : FamilyFold) (t : TableAt) → IsLive (fold_with s.fold edit) family f t → TableRests g images s t.number

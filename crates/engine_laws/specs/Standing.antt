@@ -51,7 +51,7 @@ abbrev pub live_batches : Says → List Numbered
 live_batches s = batches_of s.logs s.fold.logs
 
 -- the folder says this
-pub record Reads (g : Grammar) (folder : Folder) (s : Says) : Type 0 where
+pub record FolderSays (g : Grammar) (folder : Folder) (s : Says) : Type 0 where
   pub means : Means folder (store s.fold)
   pub logs : (n : ℕ) → Contains s.fold.logs n → ReadsAs (sizes_of s.fold) (s.logs n) (folder (Log n))
   pub tables : (family : Family) (f : FamilyFold) (t : TableAt) → IsLive s.fold family f t → TableReads g (folder (Table t.number)) (s.tables t.number)
@@ -107,7 +107,7 @@ pub record StandsFor (s : Says) (m : State) : Type 0 where
 -- the folder stands for the state
 pub record FolderStands (g : Grammar) (folder : Folder) (m : State) : Type 0 where
   pub says : Says
-  pub reads : Reads g folder says
+  pub reads : FolderSays g folder says
   pub stands : StandsFor says m
 
 -- bytes say one thing as a table

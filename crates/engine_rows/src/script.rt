@@ -4,10 +4,11 @@ ghost use Rattle.std.specs.Prelude.{IfOk, OnOk};
 ghost use Rattle.std.specs.Arc.{arc_value};
 ghost use Rattle.store_engine.specs.Engines.{IsCurrent, IsRunning};
 
+use crate::flushes::{Flush, flushed};
 use recovery::{OpenFault, Parts, open_store};
 use std::alloc::{AllocError, Global};
 use std::sync::Arc;
-use store_engine::{Engine, EngineFault};
+use store_engine::{Engine, EngineFault, Sealed};
 use super_version::SuperVersion;
 use ts_key::{Batch, Family, Key, Op, Ts, Value, WriteOp};
 use udt_disk::{Disk, MemDisk};
@@ -27,6 +28,13 @@ pub enum Step {
         floor: u64,
     },
     Sync,
+    Seal {
+        family: u32,
+    },
+    /// Makes a file for a job, and gives it back.
+    JobFile,
+    /// Makes a file for a flush, and installs its table.
+    Flush(Flush),
 }
 
 /// The puts of a step.
@@ -64,7 +72,7 @@ fn opened(alloc: Global, disk: MemDisk) -> Result<(Engine<MemDisk>, Arc<SuperVer
         wal,
         version,
     } = parts;
-    let engine = Engine::from_parts(disk, manifest, wal);
+    let engine = Engine::from_parts(alloc, disk, manifest, wal, &version);
     match Arc::new(alloc, version) {
         Ok(now) => Ok((engine, now)),
         Err(_) => {
@@ -89,6 +97,51 @@ fn synced(
     };
     match engine.sync() {
         Ok(()) => Ok(same),
+        Err(fault) => Err(fault),
+    }
+}
+
+/// Seals a family. Where nothing is sealed the super version stays.
+fn sealed(
+    alloc: Global,
+    engine: &mut Engine<MemDisk>,
+    now: &Arc<SuperVersion>,
+    family: Family,
+) -> Result<Arc<SuperVersion>, EngineFault>
+    requires running { IsRunning engine.old }
+    requires current { IsCurrent engine.old (arc_value now.now) }
+    ensures running { OnOk result (IsRunning engine.new) }
+    ensures current { IfOk result (λ next. IsCurrent engine.new (arc_value next)) }
+{
+    let Ok(same) = Arc::try_clone(now) else {
+        return Err(EngineFault::NoMemory);
+    };
+    match engine.seal(alloc, now.as_ref(), family) {
+        Ok(Sealed::Nothing) => Ok(same),
+        Ok(Sealed::Waiting) => Ok(same),
+        Ok(Sealed::Rolled { version, mems: _ }) => Ok(version),
+        Err(fault) => Err(fault),
+    }
+}
+
+/// Makes a file for a job, and gives it back. The super version stays.
+fn with_job_file(
+    engine: &mut Engine<MemDisk>,
+    now: &Arc<SuperVersion>,
+) -> Result<Arc<SuperVersion>, EngineFault>
+    requires running { IsRunning engine.old }
+    requires current { IsCurrent engine.old (arc_value now.now) }
+    ensures running { OnOk result (IsRunning engine.new) }
+    ensures current { IfOk result (λ next. IsCurrent engine.new (arc_value next)) }
+{
+    let Ok(same) = Arc::try_clone(now) else {
+        return Err(EngineFault::NoMemory);
+    };
+    match engine.new_job_file() {
+        Ok((_number, file)) => {
+            engine.discard(file);
+            Ok(same)
+        }
         Err(fault) => Err(fault),
     }
 }
@@ -121,6 +174,9 @@ fn stepped(
             engine.raise(alloc, now.as_ref(), Family(family), Ts(floor))
         }
         Step::Sync => synced(engine, now),
+        Step::Seal { family } => sealed(alloc, engine, now, Family(family)),
+        Step::JobFile => with_job_file(engine, now),
+        Step::Flush(flush) => flushed(alloc, engine, now, flush),
     }
 }
 

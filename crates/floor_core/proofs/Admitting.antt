@@ -8,7 +8,7 @@ use Rattle.udt_model.specs.declared.reply.Reply.TheVariants.{Unknown}
 use Rattle.udt_model.specs.State.{State, FamilyState, family_at, place_at, place_of_family}
 use Rattle.udt_model.specs.Versions.{made, version_of}
 use Rattle.udt_model.specs.Refusals.{op_refusal, refused, unknown, unknown_place, ◌or_else◌}
-use Rattle.floor_core.specs.Steps.{admitted}
+use Rattle.floor_core.specs.Steps.{admitted_versions}
 
 none_from : {X : Type 0} (o : Option X) → false ≡ is_some o → o ≡ None
 none_from None e = refl
@@ -88,7 +88,7 @@ admitting_more m last ops i o v w new lt at ok made_is new_is a =
 
 -- one is refused
 pub admitting_stops : (m : State) (last : ℕ) (ops : List WriteOp) (i : ℕ) (o : WriteOp) (w : List Version) → i < length ops → o ≡ get_or ops i o
-    → ((k : ℕ) → true ≡ is_some (op_refusal w k (place_at m o.family) o)) → Admitting m last ops i w → None ≡ admitted m ops
+    → ((k : ℕ) → true ≡ is_some (op_refusal w k (place_at m o.family) o)) → Admitting m last ops i w → None ≡ admitted_versions m ops
 admitting_stops m last ops i o w lt at below a =
     let rest = drop (i + 1) ops in
     let here : drop i ops ≡ o ∷ rest = at_drop_more (λ (z : List WriteOp). z) ops i o lt ∙ ap (λ (z : WriteOp). z ∷ rest) (sym at) in
@@ -98,7 +98,7 @@ admitting_stops m last ops i o w lt at below a =
     sym (ap (λ z. if is_none z then Some (m.versions ++ made m.last.0 ops) else None) all)
 
 -- none is
-pub admitting_all : (m : State) (last : ℕ) (ops : List WriteOp) (i : ℕ) (w : List Version) → length ops ≤ i → Admitting m last ops i w → Some w ≡ admitted m ops
+pub admitting_all : (m : State) (last : ℕ) (ops : List WriteOp) (i : ℕ) (w : List Version) → length ops ≤ i → Admitting m last ops i w → Some w ≡ admitted_versions m ops
 admitting_all m last ops i w le a =
     let here : drop i ops ≡ [] = at_drop_all (λ (z : List WriteOp). z) ops i le in
     let none : refused m m.versions m.last.0 1 ops ≡ None = ap (λ n. refused m m.versions n 1 ops) (sym a.last_is) ∙ sym a.rest ∙ ap (refused m w (last + i) (i + 1)) here in

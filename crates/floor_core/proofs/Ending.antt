@@ -10,7 +10,7 @@ use Rattle.floor_core.specs.declared.event.CoreEvent.TheVariants.{CompactEnd}
 use Rattle.floor_core.specs.declared.event.CoreReply.TheVariants as replies
 use Rattle.floor_core.specs.Cores.{CoreState, with_live_numbers}
 use Rattle.floor_core.specs.Machine.{changed_by, effect, is_accepted, parts_it, told}
-use Rattle.floor_core.specs.Steps.{holding, tables_behind}
+use Rattle.floor_core.specs.Steps.{holding_tables, tables_behind}
 
 -- ---- tables put in
 
@@ -26,7 +26,7 @@ halt_is (Some n) = refl
 
 -- the family at a place is changed alike by what makes the same of it
 changed_alike : (fs : List FamilyState) (n : ℕ) (inputs : List ℕ) (new : List LiveTable)
-    → changed_at n (holding (with_tables new (filter (λ t. not (is_input inputs t)) (tables_of_family (slice_get fs n))))) fs ≡ changed_at n (compacted inputs new) fs
+    → changed_at n (holding_tables (with_tables new (filter (λ t. not (is_input inputs t)) (tables_of_family (slice_get fs n))))) fs ≡ changed_at n (compacted inputs new) fs
 changed_alike [] n inputs new = refl
 changed_alike (f ∷ fs) zero inputs new = refl
 changed_alike (f ∷ fs) (suc n) inputs new = ap (λ (z : List FamilyState). f ∷ z) (changed_alike fs n inputs new)
@@ -90,17 +90,17 @@ pub end_told : (c : CoreState) (job : Compaction) (pieces : List Piece) (tables 
 end_told c job pieces tables h e some = sym (ap (λ b. if b then replies.Done else replies.Refused) (end_accepted c job pieces tables h e some))
 
 pub end_left : (c : CoreState) (job : Compaction) (pieces : List Piece) (tables : List LiveTable) → false ≡ is_some c.store.halted → Some job ≡ c.store.compaction → Some tables ≡ tables_behind c.store job pieces
-    → record c { store = with_live_numbers (record c.store { families = changed_at job.family.0 (holding tables) c.store.families; compaction = None }) } ≡ changed_by c (CompactEnd pieces)
+    → record c { store = with_live_numbers (record c.store { families = changed_at job.family.0 (holding_tables tables) c.store.families; compaction = None }) } ≡ changed_by c (CompactEnd pieces)
 end_left c job pieces tables h e some =
     let new = tables_from job.level (compaction_kept c.store job) pieces in
-    let same : changed_at job.family.0 (holding tables) c.store.families ≡ changed_at job.family.0 (compacted job.inputs new) c.store.families =
-    ap (λ z. changed_at job.family.0 (holding z) c.store.families) (some_behind c job pieces tables some).1 ∙ changed_alike c.store.families job.family.0 job.inputs new in
+    let same : changed_at job.family.0 (holding_tables tables) c.store.families ≡ changed_at job.family.0 (compacted job.inputs new) c.store.families =
+    ap (λ z. changed_at job.family.0 (holding_tables z) c.store.families) (some_behind c job pieces tables some).1 ∙ changed_alike c.store.families job.family.0 job.inputs new in
     ap (λ z. record c { store = with_live_numbers (record c.store { families = z; compaction = None }) }) same
     ∙ ap (λ o. record c { store = with_live_numbers (with_compaction c.store o pieces) }) e
     ∙ sym (ap (λ b. record c { store = if b then with_live_numbers (effect c.store (c.events + 1) (CompactEnd pieces)) else c.store }) (end_accepted c job pieces tables h e some))
 
 -- the same of a list of families that is known to be that
-pub end_left_by : (c : CoreState) (job : Compaction) (pieces : List Piece) (tables : List LiveTable) (fs : List FamilyState) → fs ≡ changed_at job.family.0 (holding tables) c.store.families
+pub end_left_by : (c : CoreState) (job : Compaction) (pieces : List Piece) (tables : List LiveTable) (fs : List FamilyState) → fs ≡ changed_at job.family.0 (holding_tables tables) c.store.families
     → false ≡ is_some c.store.halted → Some job ≡ c.store.compaction → Some tables ≡ tables_behind c.store job pieces → record c { store = with_live_numbers (record c.store { families = fs; compaction = None }) } ≡ changed_by c (CompactEnd pieces)
 end_left_by c job pieces tables fs is h e some =
     ap (λ (z : List FamilyState). record c { store = with_live_numbers (record c.store { families = z; compaction = None }) }) is ∙ end_left c job pieces tables h e some

@@ -17,7 +17,7 @@ use Rattle.floor_core.specs.declared.event.CoreEvent.TheVariants.{Write, Get, Pi
 use Rattle.floor_core.specs.Cores.{CoreState, PinnedView, with_live_numbers}
 use Rattle.floor_core.specs.declared.event.CoreReply.TheVariants as replies
 use Rattle.floor_core.specs.Machine.{changed_by, effect, is_accepted, pinned_too, told}
-use Rattle.floor_core.specs.Steps.{admitted, judged}
+use Rattle.floor_core.specs.Steps.{admitted_versions, judged}
 
 none_or : (a b : Option Reply) → is_none (a or_else b) ≡ (is_none a && is_none b)
 none_or None b = refl
@@ -87,7 +87,7 @@ rest_only true true x false p q r = absurd (cc)
 rest_only true false x y p q r = absurd (cc)
 rest_only false b x y p q r = absurd (cc)
 
-pub judged_admitted : (c : CoreState) (ops : List WriteOp) → false ≡ is_some (unknown c.store ops) → false ≡ is_some c.store.halted → c.store.last.0 + length ops ≤ SEQUENCE_LIMIT → admitted c.store ops ≡ judged c ops
+pub judged_admitted : (c : CoreState) (ops : List WriteOp) → false ≡ is_some (unknown c.store ops) → false ≡ is_some c.store.halted → c.store.last.0 + length ops ≤ SEQUENCE_LIMIT → admitted_versions c.store ops ≡ judged c ops
 judged_admitted c ops u h le =
     let m = c.store in
     sym (ap (λ b. if b then Some (m.versions ++ made m.last.0 ops) else None) (taken_by c ops

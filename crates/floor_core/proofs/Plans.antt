@@ -12,7 +12,7 @@ use Rattle.udt_model.specs.declared.reply.Piece.{Piece}
 use Rattle.udt_model.specs.Orders.{hull_with, meets, span_of, span_of_both, span_of_key}
 use Rattle.udt_model.specs.Jobs.{are_new, are_parts, goes_with, has_number, hull_of, is_ascending, is_cut, is_input, is_wanted, numbers_of_pieces, spans_of, tables_from}
 use Rattle.udt_model.specs.State.{LiveTable}
-use Rattle.floor_core.specs.Steps.{hull_from, hull_of_spans, is_above, may_part, parted, span_of_some, span_with}
+use Rattle.floor_core.specs.Steps.{hull_from, hull_of_spans, is_above_last, may_part, parted, span_of_some, span_with}
 
 -- ---- ascending numbers
 
@@ -21,7 +21,7 @@ abbrev pub ascends_from : Option ℕ → List ℕ → Bool
 ascends_from None ns = is_ascending ns
 ascends_from (Some before) ns = is_ascending (before ∷ ns)
 
-pub ascends_one : (before : Option ℕ) (n : ℕ) (ns : List ℕ) → ascends_from before (n ∷ ns) ≡ (is_above before n && ascends_from (Some n) ns)
+pub ascends_one : (before : Option ℕ) (n : ℕ) (ns : List ℕ) → ascends_from before (n ∷ ns) ≡ (is_above_last before n && ascends_from (Some n) ns)
 ascends_one None n ns = refl
 ascends_one (Some b) n ns = refl
 
@@ -37,15 +37,15 @@ and_false : (a b : Bool) → a ≡ false → (a && b) ≡ false
 and_false true b e = absurd (cc)
 and_false false b e = refl
 
-pub ascends_more : (before : Option ℕ) (ns : List ℕ) (i n : ℕ) → i < length ns → n ≡ get_or ns i n → is_above before n ≡ true → ascends_from before (drop i ns) ≡ is_ascending ns → ascends_from (Some n) (drop (i + 1) ns) ≡ is_ascending ns
+pub ascends_more : (before : Option ℕ) (ns : List ℕ) (i n : ℕ) → i < length ns → n ≡ get_or ns i n → is_above_last before n ≡ true → ascends_from before (drop i ns) ≡ is_ascending ns → ascends_from (Some n) (drop (i + 1) ns) ≡ is_ascending ns
 ascends_more before ns i n lt at above inv =
     let rest = drop (i + 1) ns in
-    sym (at_drop_more (ascends_from before) ns i n lt ∙ ap (λ z. ascends_from before (z ∷ rest)) (sym at) ∙ ascends_one before n rest ∙ and_true (is_above before n) (ascends_from (Some n) rest) above) ∙ inv
+    sym (at_drop_more (ascends_from before) ns i n lt ∙ ap (λ z. ascends_from before (z ∷ rest)) (sym at) ∙ ascends_one before n rest ∙ and_true (is_above_last before n) (ascends_from (Some n) rest) above) ∙ inv
 
-pub ascends_stops : (before : Option ℕ) (ns : List ℕ) (i n : ℕ) → i < length ns → n ≡ get_or ns i n → is_above before n ≡ false → ascends_from before (drop i ns) ≡ is_ascending ns → false ≡ is_ascending ns
+pub ascends_stops : (before : Option ℕ) (ns : List ℕ) (i n : ℕ) → i < length ns → n ≡ get_or ns i n → is_above_last before n ≡ false → ascends_from before (drop i ns) ≡ is_ascending ns → false ≡ is_ascending ns
 ascends_stops before ns i n lt at above inv =
     let rest = drop (i + 1) ns in
-    sym (at_drop_more (ascends_from before) ns i n lt ∙ ap (λ z. ascends_from before (z ∷ rest)) (sym at) ∙ ascends_one before n rest ∙ and_false (is_above before n) (ascends_from (Some n) rest) above) ∙ inv
+    sym (at_drop_more (ascends_from before) ns i n lt ∙ ap (λ z. ascends_from before (z ∷ rest)) (sym at) ∙ ascends_one before n rest ∙ and_false (is_above_last before n) (ascends_from (Some n) rest) above) ∙ inv
 
 pub ascends_all : (before : Option ℕ) (ns : List ℕ) (i : ℕ) → length ns ≤ i → ascends_from before (drop i ns) ≡ is_ascending ns → true ≡ is_ascending ns
 ascends_all before ns i le inv = sym (at_drop_all (ascends_from before) ns i le ∙ ascends_none before) ∙ inv

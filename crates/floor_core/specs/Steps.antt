@@ -19,8 +19,8 @@ abbrev pub find_snap : State → ℕ → Option Snap
 find_snap m event = find (λ s. s.event == event) m.snaps
 
 -- the versions with those that the operations make, unless one of them falls below a floor or its key
-abbrev pub admitted : State → List WriteOp → Option (List Version)
-admitted m ops = if is_none (refused m m.versions m.last.0 1 ops) then Some (m.versions ++ made m.last.0 ops) else None
+abbrev pub admitted_versions : State → List WriteOp → Option (List Version)
+admitted_versions m ops = if is_none (refused m m.versions m.last.0 1 ops) then Some (m.versions ++ made m.last.0 ops) else None
 
 -- the same, unless the write is refused
 abbrev pub judged : CoreState → List WriteOp → Option (List Version)
@@ -38,8 +38,8 @@ compaction_from c family inputs level =
     else None
 
 -- the family with these tables
-abbrev pub holding : List LiveTable → FamilyState → FamilyState
-holding tables f = record f { tables = tables }
+abbrev pub holding_tables : List LiveTable → FamilyState → FamilyState
+holding_tables tables f = record f { tables = tables }
 
 -- the tables of its family behind the end of a compaction, unless its numbers aren't new or its pieces no parts
 abbrev pub tables_behind : State → Compaction → List Piece → Option (List LiveTable)
@@ -51,9 +51,9 @@ tables_behind m job pieces =
 -- ---- numbers
 
 -- it is above the last one, where there was one
-abbrev pub is_above : Option ℕ → ℕ → Bool
-is_above None number = true
-is_above (Some before) number = nat_lt before number
+abbrev pub is_above_last : Option ℕ → ℕ → Bool
+is_above_last None number = true
+is_above_last (Some before) number = nat_lt before number
 
 -- ---- spans
 

@@ -6,7 +6,7 @@ ghost use Rattle.udt_model.specs.Jobs.{are_new as have_new, goes_with as goes, h
 ghost use Rattle.udt_model.specs.Orders.{higher_of, lower_of, meets as meet, span_of as spans, span_of_both, span_of_key};
 ghost use Rattle.udt_model.specs.State.{numbers_of};
 ghost use Rattle.floor_core.specs.Machine.{are_closed as closed};
-ghost use Rattle.floor_core.specs.Steps.{hull_from, hull_of_spans, is_above, may_part, parted, span_of_some, span_of_table, span_with, with_span};
+ghost use Rattle.floor_core.specs.Steps.{hull_from, hull_of_spans, is_above_last, may_part, parted, span_of_some, span_of_table, span_with, with_span};
 
 use crate::lists::append;
 use crate::parts::{CoreTable, has_table};
@@ -46,7 +46,7 @@ fn are_tables(tables: &[CoreTable], inputs: &[u64]) -> bool
 
 /// Whether the number is above the last one, where there was one.
 fn is_next(last: Option<u64>, number: u64) -> bool
-    ensures { result ≡ is_above last number }
+    ensures { result ≡ is_above_last last number }
 {
     match last {
         None => true,

@@ -9,7 +9,7 @@ ghost use Rattle.floor_laws.specs.Sound.{lists_of};
 ghost use Rattle.floor_core.specs.Cores.{fresh_core};
 ghost use Rattle.floor_core.specs.Machine.{behind_event, changed_by, has_snapshot as knows, is_accepted, kept_families, kept_family, pin_of, sight_from, told};
 ghost use Rattle.floor_core.specs.Runs.{IsSoundCore, told_from_writes};
-ghost use Rattle.floor_core.specs.Steps.{admitted, compaction_from, find_snap, flush_from, judged, tables_behind};
+ghost use Rattle.floor_core.specs.Steps.{admitted_versions, compaction_from, find_snap, flush_from, judged, tables_behind};
 
 use crate::compacting::{are_closed, are_new, deeper_spans, input_versions, other_tables, parts};
 use crate::event::{CoreEvent, CoreReply};
@@ -247,7 +247,7 @@ impl Core {
     /// Every version with those that the operations make, unless one of them is refused over those before it.
     fn admit(&self, ops: &[WriteOp]) -> Result<Option<Items<Version>>, NoMemory>
         requires { length ops.now ≤ BATCH_LIMIT }
-        ensures { IfOk result (λ found. found ≡ admitted self.now.store ops.now) }
+        ensures { IfOk result (λ found. found ≡ admitted_versions self.now.store ops.now) }
     {
         let last = self.last.0;
         let mut grown = Vec::new(*self.versions.allocator());

@@ -4,7 +4,7 @@ ghost use Rattle.std.specs.List.{list_any};
 ghost use Rattle.udt_model.specs.State.{changed_at, numbers_of, unflushed_family, with_floor};
 ghost use Rattle.udt_model.specs.Jobs.{has_number};
 ghost use Rattle.floor_core.specs.Cores.{new_head};
-ghost use Rattle.floor_core.specs.Steps.{holding};
+ghost use Rattle.floor_core.specs.Steps.{holding_tables};
 
 use std::alloc::Global;
 use std::marker::Model;
@@ -219,7 +219,7 @@ pub(crate) fn is_live_in(families: &[CoreFamily], table: u64) -> bool
 
 /// Sets the tables of a family, where there is one of this number.
 pub(crate) fn set_tables(families: &mut Vec<CoreFamily>, family: Family, tables: Vec<CoreTable>)
-    ensures set { families.new.items ≡ changed_at family.0 (holding tables.items) families.old.items }
+    ensures set { families.new.items ≡ changed_at family.0 (holding_tables tables.items) families.old.items }
     ensures count { length families.new.items ≡ length families.old.items }
 {
     let place = family.0 as usize;

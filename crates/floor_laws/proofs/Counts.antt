@@ -4,7 +4,7 @@ use Rattle.std.specs.List.{filter}
 use Rattle.std.specs.Prelude.{AllPairs, ◌==◌, if◌then◌else◌, slice_index_or}
 use Rattle.std.proofs.lemmas.Bool.{cases_Bool, eqb-true, eq-eqb, ne_eqb}
 use Rattle.ts_key.specs.declared.version.Version.{Version}
-use Rattle.udt_model.specs.Orders.{is_before, with_version, stored}
+use Rattle.udt_model.specs.Orders.{is_version_before, with_version, stored}
 use Rattle.udt_model.specs.Collecting.{without_ts}
 use Rattle.floor_laws.proofs.Members.{In}
 use Rattle.floor_laws.proofs.Best.{Single}
@@ -46,7 +46,7 @@ count_some v (x ∷ xs) (inr i) = let r = count_some v xs i in omega (arith, r)
 count-with_version : (q : ℕ) (v : Version) (xs : List Version) → count q (with_version v xs) ≡ (if v.seq.0 == q then 1 else 0) + count q xs
 count-with_version q v [] = refl
 count-with_version q v (x ∷ xs) =
-    elim (cases_Bool (is_before x v)) [
+    elim (cases_Bool (is_version_before x v)) [
       | inl y ↦ let h = count-with_version q v xs in rw y (omega (arith, h))
       | inr y ↦ rw y refl
     ]

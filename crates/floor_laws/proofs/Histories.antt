@@ -11,7 +11,7 @@ use Rattle.udt_model.specs.State.{State, heads_of}
 use Rattle.udt_model.specs.Acts.{Act}
 use Rattle.udt_model.specs.Steps.{after as after_act}
 use Rattle.udt_model.specs.Names.{Names, act_of, seen_by}
-use Rattle.udt_model.specs.Lines.{IsReply, IsReplyOr, after, after_or, is_numbered, is_read, is_step, steps_with}
+use Rattle.udt_model.specs.Lines.{IsReply, IsReplyOr, after_event, after_or, is_numbered, is_read, is_step, steps_with}
 use Rattle.udt_model.specs.Histories.{Leads, Point, behind}
 use Rattle.udt_model.specs.Entries.{AreEntries, Counts, Entry, IsEntry, after_entry, counts_after}
 use Rattle.udt_model.specs.Entries.Entry.{reads, says, works}
@@ -35,7 +35,7 @@ sound_or m height number event (Some act) reply h (inr r) = elim r.1 [
   | inr long ↦ subst (λ z. IsSoundState (after_act m number act z)) (sym long.0) h
 ]
 
-sound_line : (m : State) (height number : ℕ) (names : Names) (event : Event) (reply : Reply) → IsSoundState m → IsReply height m names event reply → IsSoundState (after m number names event reply)
+sound_line : (m : State) (height number : ℕ) (names : Names) (event : Event) (reply : Reply) → IsSoundState m → IsReply height m names event reply → IsSoundState (after_event m number names event reply)
 sound_line m height number names event reply h r =
     elim (cases_Bool (is_step event reply)) [
       | inl y ↦

@@ -14,7 +14,7 @@ use Rattle.ts_key.specs.declared.version.Op.TheVariants.{Put, Del}
 use Rattle.ts_key.specs.declared.version.Version.{Version}
 use Rattle.udt_model.specs.declared.reply.KeySpan.{KeySpan}
 use Rattle.udt_model.specs.Versions.{is_newer, is_of, is_within, visible, newest_of, is_put, up_to}
-use Rattle.udt_model.specs.Orders.{is_before, is_in_some, stored, with_version}
+use Rattle.udt_model.specs.Orders.{is_version_before, is_in_some, stored, with_version}
 use Rattle.udt_model.specs.Collecting.{hides, is_hidden, is_ever_seen, is_seen_at, seen_of, is_put_below, collect, collect_all}
 use Rattle.floor_laws.proofs.Members.{In, In-filter, filter-In, filter_every, In-left, In-right, In-append, any-In, In-any, none-any}
 use Rattle.floor_laws.proofs.Best.{Single, IsBest, Best, best_filter}
@@ -87,7 +87,7 @@ newer_by_seq u d a n = grind (arith, nat_tests)
 pub with_version-In : (v u : Version) (xs : List Version) → In v (with_version u xs) → (u ≡ v) ⊎ In v xs
 with_version-In v u [] h = h
 with_version-In v u (x ∷ xs) h =
-    elim (cases_Bool (is_before x u)) [
+    elim (cases_Bool (is_version_before x u)) [
       | inl y ↦
           let h2 : In v (x ∷ with_version u xs) = rw y at h in
           elim h2 [ inl q ↦ inr (inl q) | inr i ↦ elim (with_version-In v u xs i) [ inl q ↦ inl q | inr j ↦ inr (inr j) ] ]
@@ -97,7 +97,7 @@ with_version-In v u (x ∷ xs) h =
 pub In-with_version : (v u : Version) (xs : List Version) → (u ≡ v) ⊎ In v xs → In v (with_version u xs)
 In-with_version v u [] h = h
 In-with_version v u (x ∷ xs) h =
-    elim (cases_Bool (is_before x u)) [
+    elim (cases_Bool (is_version_before x u)) [
       | inl y ↦ rw y (elim h [ inl q ↦ inr (In-with_version v u xs (inl q)) | inr i ↦ elim i [ inl q ↦ inl q | inr j ↦ inr (In-with_version v u xs (inr j)) ] ])
       | inr y ↦ rw y h
     ]

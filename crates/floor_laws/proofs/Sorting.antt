@@ -12,7 +12,7 @@ use Rattle.ts_key.specs.declared.version.Form.TheVariants.{Persist, Strip}
 use Rattle.ts_key.specs.declared.version.Version.{Version}
 use Rattle.udt_model.specs.declared.reply.KeySpan.{KeySpan}
 use Rattle.udt_model.specs.Versions.{is_newer, is_put, up_to}
-use Rattle.udt_model.specs.Orders.{is_below, is_at_most, is_in_some, is_before, with_version, stored}
+use Rattle.udt_model.specs.Orders.{is_below, is_at_most, is_in_some, is_version_before, with_version, stored}
 use Rattle.udt_model.specs.Collecting.{hides, is_hidden, is_ever_seen, is_seen_at, seen_of, is_put_below, collect, collect_all, cutoff}
 use Rattle.udt_model.specs.Jobs.{floor_over}
 use Rattle.floor_laws.proofs.Members.{In, Within, filter-In, In-filter, any-In, In-any}
@@ -53,7 +53,7 @@ newer_is a b h = elim (or_cases (nat_lt b.ts.0 a.ts.0) (a.ts.0 == b.ts.0 && nat_
   | inr x ↦ let p = and_parts (a.ts.0 == b.ts.0) (nat_lt b.seq.0 a.seq.0) x in inr (eqb-true a.ts.0 b.ts.0 p.0, ltb-true b.seq.0 a.seq.0 p.1)
 ]
 
-before_is : (a b : Version) → is_before a b ≡ true → Before a b
+before_is : (a b : Version) → is_version_before a b ≡ true → Before a b
 before_is a b h = elim (or_cases (is_below a.key b.key) (bytes_eq a.key b.key && is_newer a b) h) [
   | inl y ↦ record {
     key = below_at_most a.key b.key y;
@@ -68,7 +68,7 @@ before_is a b h = elim (or_cases (is_below a.key b.key) (bytes_eq a.key b.key &&
       }
 ]
 
-not_before_is : (a b : Version) → is_before a b ≡ false → Before b a
+not_before_is : (a b : Version) → is_version_before a b ≡ false → Before b a
 not_before_is a b h =
     let p = or_parts (is_below a.key b.key) (bytes_eq a.key b.key && is_newer a b) h in
     record {
@@ -107,7 +107,7 @@ InOrder (v ∷ vs) = ((x : Version) → In x vs → Before v x) × InOrder vs
 ordered_with : (u : Version) (xs : List Version) → InOrder xs → InOrder (with_version u xs)
 ordered_with u [] h = ((λ x i. absurd i), tt)
 ordered_with u (x ∷ xs) h =
-    elim (cases_Bool (is_before x u)) [
+    elim (cases_Bool (is_version_before x u)) [
       | inl y ↦
           let k = before_is x u y in
           rw y ((λ z i. elim (with_version-In z u xs i) [ inl q ↦ subst (λ w. Before x w) q k | inr j ↦ h.0 z j ]), ordered_with u xs h.1)

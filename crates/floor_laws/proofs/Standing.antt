@@ -10,7 +10,7 @@ use Rattle.ts_key.specs.declared.version.Form.TheVariants.{Persist, Strip}
 use Rattle.ts_key.specs.declared.version.Op.TheVariants.{Del}
 use Rattle.ts_key.specs.declared.version.Version.{Version}
 use Rattle.udt_model.specs.Versions.{is_newer, is_of, visible}
-use Rattle.udt_model.specs.Standing.{IsImage, AreAlike}
+use Rattle.udt_model.specs.Standing.{IsVersionImage, AreAlike}
 use Rattle.floor_laws.proofs.Members.{In, Within}
 use Rattle.floor_laws.proofs.Best.{Single, Best, best_unique, not_newer_itself}
 use Rattle.floor_laws.proofs.Counts.{Distinct, distinct_single}
@@ -26,7 +26,7 @@ Sees w seqs s = ((a : Version) → In a w → a.seq.0 ≤ s.0) ⊎ In s seqs
 
 -- The model's `Stands`, by what is in the lists.
 pub record Standing (form : Form) (family : Family) (v w : List Version) (floor : Ts) (seqs : List Seq) : Type 0 where
-  pub images : (b : Version) → In b v → (a : Version) × In a w × (a.family ≡ family) × IsImage form floor b a
+  pub images : (b : Version) → In b v → (a : Version) × In a w × (a.family ≡ family) × IsVersionImage form floor b a
   pub distinct : Distinct v
   pub rising : Rising v
   pub reads : (key : List ℕ) (t : Ts) (s : Seq) → floor.0 ≤ t.0 → Sees w seqs s → AreAlike form floor (visible w family key t s) (visible v family key t s)
@@ -36,11 +36,11 @@ visible_is w family key t s o one b = best_unique w (fits family key t s) (visib
 
 -- ---- images
 
-pub image_itself : (form : Form) (f : Ts) (a : Version) → IsImage form f a a
+pub image_itself : (form : Form) (f : Ts) (a : Version) → IsVersionImage form f a a
 image_itself Persist f a = refl
 image_itself Strip f a = inl refl
 
-pub image_raise : (form : Form) (f g : Ts) (b a : Version) → f.0 ≤ g.0 → IsImage form f b a → IsImage form g b a
+pub image_raise : (form : Form) (f g : Ts) (b a : Version) → f.0 ≤ g.0 → IsVersionImage form f b a → IsVersionImage form g b a
 image_raise Persist f g b a le h = h
 image_raise Strip f g b a le (inl q) = inl q
 image_raise Strip f g b a le (inr q) = inr (let l = q.0 in omega (arith, l), q.1)
@@ -60,7 +60,7 @@ kin_same a b q = record {
   ts = let e : b.ts.0 ≡ a.ts.0 = ap (λ (x : Version). x.ts.0) q in omega (arith, e);
 }
 
-pub kin : (form : Form) (f : Ts) (a b : Version) → IsImage form f b a → Kin a b
+pub kin : (form : Form) (f : Ts) (a b : Version) → IsVersionImage form f b a → Kin a b
 kin Persist f a b q = kin_same a b q
 kin Strip f a b (inl q) = kin_same a b q
 kin Strip f a b (inr q) = record {
@@ -125,7 +125,7 @@ standing_same form c v v2 w f ss to from one h = record {
 abbrev pub SeesLikeThen : List Version → List Version → List Seq → List Seq → Type 0
 SeesLikeThen p w ss ss0 = (s : Seq) → Sees w ss s → (e : Option Seq) × IsEnd ss0 e × SeesAlike p s.0 e
 
-image_spent : (form : Form) (f g : Ts) (a d : Version) → g.0 ≤ f.0 → d.op ≡ Del → d.ts.0 ≤ g.0 → IsImage form f d a → (a.op ≡ Del) × (a.ts.0 ≤ f.0)
+image_spent : (form : Form) (f g : Ts) (a d : Version) → g.0 ≤ f.0 → d.op ≡ Del → d.ts.0 ≤ g.0 → IsVersionImage form f d a → (a.op ≡ Del) × (a.ts.0 ≤ f.0)
 image_spent Persist f g a d le del low q = (ap (λ (x : Version). x.op) (sym q) ∙ del, let e : d.ts.0 ≡ a.ts.0 = ap (λ (x : Version). x.ts.0) q in omega (arith, e, low, le))
 image_spent Strip f g a d le del low (inl q) = (ap (λ (x : Version). x.op) (sym q) ∙ del, let e : d.ts.0 ≡ a.ts.0 = ap (λ (x : Version). x.ts.0) q in omega (arith, e, low, le))
 image_spent Strip f g a d le del low (inr q) = (ap (λ (x : Version). x.op) (sym q.1) ∙ del, let l = q.0 in omega (arith, l))
@@ -267,7 +267,7 @@ standing_write form v w v2 w2 f ss n av aw ad one dv h =
     record {
       images = λ b i. elim (av.only b i) [
         | inl j ↦ let x = h.images b j in (x.0, aw.old x.0 x.1, x.2, x.3)
-        | inr q ↦ (n, aw.new, refl, subst (λ z. IsImage form f z n) q (image_itself form f n))
+        | inr q ↦ (n, aw.new, refl, subst (λ z. IsVersionImage form f z n) q (image_itself form f n))
       ];
       distinct = dv;
       rising = Rising-add v v2 n av lowv overv h.rising;

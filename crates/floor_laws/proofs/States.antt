@@ -10,7 +10,7 @@ use Rattle.udt_model.specs.Versions.{AreWritten, between, up_to}
 use Rattle.udt_model.specs.Orders.{meets, span_of}
 use Rattle.udt_model.specs.State.{State, FamilyState, LiveTable, Snap, Flush, Compaction, changed_at, family_at, numbers_of, seqs_of, tables_of, tables_of_family}
 use Rattle.udt_model.specs.Jobs.{has_number, hull_of, inputs_hold, is_ascending}
-use Rattle.udt_model.specs.Running.{IsSince, IsFlushing, IsBeside, IsOutside, IsClear, IsCompacting, IsFlushRight, IsCompactionRight}
+use Rattle.udt_model.specs.Running.{IsSince, IsFlushing, IsBeside, IsBesideInputs, IsClear, IsCompacting, IsFlushRight, IsCompactionRight}
 use Rattle.floor_laws.specs.Tables.{contents}
 use Rattle.floor_laws.specs.Sound.{IsSoundFamily, IsSoundState}
 use Rattle.floor_laws.proofs.Members.{In, In-contains, contains_In, All-In, All-from, all-In}
@@ -151,7 +151,7 @@ compaction_of m job f at h =
       below = h.below;
       old = λ v i. All-In (λ (z : Version). z.seq.0 ≤ job.last.0) (contents (ins job.inputs f.tables)) v (subst (λ z. All (λ (v : Version). v.seq.0 ≤ job.last.0) z) held h.old) i;
       outside = λ t i out a b ia ib k.
-          let x = All-In (IsOutside m job) f.tables t h.outside i out in
+          let x = All-In (IsBesideInputs m job) f.tables t h.outside i out in
           let y = All-In (λ (c : Version). All (IsBeside job t.level c) t.versions) (contents (ins job.inputs f.tables)) a (subst (λ z. All (λ (c : Version). All (IsBeside job t.level c) t.versions) z) held x) ia in
           All-In (IsBeside job t.level a) t.versions b y ib k;
       clear = λ t i out lv. subst (λ (z : List LiveTable). meets (span_of t.versions) (hull_of (ins job.inputs z)) ≡ false) e (All-In (IsClear m job) f.tables t h.clear i out lv);
@@ -172,7 +172,7 @@ compacting_from m job f at h =
       above = h.above;
       below = h.below;
       old = subst (λ z. All (λ (v : Version). v.seq.0 ≤ job.last.0) z) held (All-from (λ (z : Version). z.seq.0 ≤ job.last.0) (contents (ins job.inputs f.tables)) h.old);
-      outside = All-from (IsOutside m job) f.tables (λ t i out.
+      outside = All-from (IsBesideInputs m job) f.tables (λ t i out.
           subst (λ z. All (λ (c : Version). All (IsBeside job t.level c) t.versions) z) held
           (All-from (λ (c : Version). All (IsBeside job t.level c) t.versions) (contents (ins job.inputs f.tables)) (λ a ia.
           All-from (IsBeside job t.level a) t.versions (λ b ib k. h.outside t i out a b ia ib k))));

@@ -9,7 +9,7 @@ use Rattle.ts_key.specs.declared.version.Form.TheVariants.{Strip}
 use Rattle.ts_key.specs.declared.version.Version.{Version}
 use Rattle.udt_model.specs.Versions.{is_newer, is_of, visible}
 use Rattle.udt_model.specs.Collecting.{without_ts, cutoff}
-use Rattle.udt_model.specs.Standing.{IsImage, AreAlike}
+use Rattle.udt_model.specs.Standing.{IsVersionImage, AreAlike}
 use Rattle.floor_laws.proofs.Members.{In, In-left, In-right, In-append, In-map, map-In}
 use Rattle.floor_laws.proofs.Best.{IsBest, Best}
 use Rattle.floor_laws.proofs.Counts.{Distinct, distinct_single}
@@ -125,7 +125,7 @@ Rising-bare p r apart rise a b i j k q =
       ]
     ]
 
-image_bare : (f g : Ts) (a d : Version) → f.0 ≤ g.0 → d.ts.0 < g.0 → IsImage Strip f d a → IsImage Strip g (without_ts d) a
+image_bare : (f g : Ts) (a d : Version) → f.0 ≤ g.0 → d.ts.0 < g.0 → IsVersionImage Strip f d a → IsVersionImage Strip g (without_ts d) a
 image_bare f g a d le low (inl q) = let e : d.ts.0 ≡ a.ts.0 = ap (λ (z : Version). z.ts.0) q in inr (omega (arith, e, low), ap without_ts q)
 image_bare f g a d le low (inr q) = inr (let l = q.0 in omega (arith, l, le), ap without_ts q.1)
 
@@ -140,7 +140,7 @@ standing_strip c p r w f g ss le low apart one h = record {
     | inl j ↦
         let x = map-In without_ts b p j in
         let y = h.images x.0 (In-left x.0 p r x.1) in
-        (y.0, y.1, y.2, subst (λ z. IsImage Strip g z y.0) x.2 (image_bare f g y.0 x.0 le (low x.0 x.1) y.3))
+        (y.0, y.1, y.2, subst (λ z. IsVersionImage Strip g z y.0) x.2 (image_bare f g y.0 x.0 le (low x.0 x.1) y.3))
     | inr j ↦
         let y = h.images b (In-right b p r j) in
         (y.0, y.1, y.2, image_raise Strip f g b y.0 le y.3)

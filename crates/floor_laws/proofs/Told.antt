@@ -14,7 +14,7 @@ use Rattle.udt_model.specs.Acts.{Act}
 use Rattle.udt_model.specs.Acts.Act.{write, raise, make_snapshot, release, flush_start, flush_end, compact_start, compact_end}
 use Rattle.udt_model.specs.Refusals.{◌or_else◌, ◌otherwise◌, halt, unknown_family, floor_fell, busy, refusal}
 use Rattle.udt_model.specs.Jobs.{IsClosed, numbers_of_pieces, unflushed_of}
-use Rattle.udt_model.specs.Steps.{IsFlushed, IsCompacted, IsPicked, IsTold, IsFull, IsReplyTo, after, without_job, with_flush, with_compaction}
+use Rattle.udt_model.specs.Steps.{IsFlushed, IsCompacted, IsPicked, IsTold, IsOutOfFiles, IsReplyTo, after, without_job, with_flush, with_compaction}
 use Rattle.udt_model.specs.Crashes.{is_change}
 use Rattle.floor_laws.specs.Sound.{IsSoundState}
 use Rattle.floor_laws.proofs.States.{FlushIs, CompactionIs, Holds, holds_of, sound_from}
@@ -91,7 +91,7 @@ compact_ends m (Some job) kept pieces e told h =
     step_compact_end m job k.0 pieces k.1 k.2 (new_of m.used (numbers_of_pieces pieces) told.0) told.2 h
 
 -- a reply that is neither a fault nor a lack of files is the model's
-pub told_of : (m : State) (act : Act) (reply : Reply) → IsReplyTo m act reply → (reply ≡ Fault → ⊥) → (IsFull m act reply → ⊥) → IsTold m act reply
+pub told_of : (m : State) (act : Act) (reply : Reply) → IsReplyTo m act reply → (reply ≡ Fault → ⊥) → (IsOutOfFiles m act reply → ⊥) → IsTold m act reply
 told_of m act reply r no_fault no_full = elim r.is [
   | inl t ↦ t
   | inr x ↦ elim x [ inl f ↦ absurd (no_fault f.0) | inr f ↦ absurd (no_full f) ]

@@ -24,12 +24,12 @@ use Rattle.udt_model.specs.Acts.Act.{write, raise, make_snapshot, release, flush
 use Rattle.udt_model.specs.Refusals.{refusal, ◌otherwise◌}
 use Rattle.udt_model.specs.Steps.{IsReplyTo, after as after_act, got, reply_of_read, with_compaction, with_flush, without_job}
 use Rattle.udt_model.specs.Names.{Names, View, act_of, given_view}
-use Rattle.udt_model.specs.Lines.{IsReply, IsReplyOr, after, after_or, is_numbered, is_read, is_step, steps_with}
+use Rattle.udt_model.specs.Lines.{IsReply, IsReplyOr, after_event, after_or, is_numbered, is_read, is_step, steps_with}
 use Rattle.udt_model.specs.Histories.{Leads, Point, behind}
 use Rattle.udt_model.specs.Entries.{AreEntries, Counts, Entry, IsEntry, after_entry, counts_after}
 use Rattle.udt_model.specs.Entries.Entry.{reads, says, works}
 use Rattle.floor_laws.specs.Sound.{IsSoundState, lists_of}
-use Rattle.floor_laws.specs.Views.{GetsFromLists, ShowsPin, shown}
+use Rattle.floor_laws.specs.Views.{GetsFromLists, ShowsPin, view_state}
 use Rattle.floor_laws.specs.Laws.{state_behind}
 use Rattle.floor_laws.proofs.Members.{In, In-contains, All-In, All-from, In-append, In-map, filter-In, filter_every, filter_none}
 use Rattle.floor_laws.proofs.ListLaws.{read_same}
@@ -138,7 +138,7 @@ later_or at m height number event (Some act) reply k (inr r) = elim r.1 [
   | inr long ↦ subst (λ z. IsLater at (after_act m number act z)) (sym long.0) k
 ]
 
-later_line : (at m : State) (height number : ℕ) (names : Names) (event : Event) (reply : Reply) → IsLater at m → IsReply height m names event reply → IsLater at (after m number names event reply)
+later_line : (at m : State) (height number : ℕ) (names : Names) (event : Event) (reply : Reply) → IsLater at m → IsReply height m names event reply → IsLater at (after_event m number names event reply)
 later_line at m height number names event reply k r =
     let o = act_of (heads_of m) names event in
     elim (cases_Bool (is_step event reply)) [
@@ -182,13 +182,13 @@ sight_found at (Some s) h since = elim (since s refl) [
 abbrev view_at : State → ℕ → View
 view_at at number = record { number = number; last = at.last; floors = floors_of at }
 
-sight_shown : (at now : State) (number : ℕ) (snap : Option ℕ) → IsSoundState at → IsLater at now → IsSight at.versions (seqs_of at) (sight (shown now (view_at at number)) snap)
+sight_shown : (at now : State) (number : ℕ) (snap : Option ℕ) → IsSoundState at → IsLater at now → IsSight at.versions (seqs_of at) (sight (view_state now (view_at at number)) snap)
 sight_shown at now number None h k = inr h.written.bounded
 sight_shown at now number (Some event) h k = sight_found at (find (λ (s : Snap). s.event == event) now.snaps) h (λ s e. k.since s (find-In (λ (z : Snap). z.event == event) now.snaps s e))
 
-gets_shown : (at now : State) (number : ℕ) (i : Family) (f : FamilyState) (key : List ℕ) (t : Ts) (snap : Option ℕ) → IsSoundState at → IsLater at now → family_at at i ≡ Some f → GetsFromLists at (shown now (view_at at number)) i f key t snap
+gets_shown : (at now : State) (number : ℕ) (i : Family) (f : FamilyState) (key : List ℕ) (t : Ts) (snap : Option ℕ) → IsSoundState at → IsLater at now → family_at at i ≡ Some f → GetsFromLists at (view_state now (view_at at number)) i f key t snap
 gets_shown at now number i f key t snap h k is =
-    let p : State = shown now (view_at at number) in
+    let p : State = view_state now (view_at at number) in
     let s : Seq = sight p snap in
     let place : place_at p i ≡ Some (place_of_family i f) = places_kept i at.families now.families i.0 k.count ∙ ap (option_map (place_of_family i)) is in
     ap (λ z. got p z key t s) place

@@ -9,8 +9,8 @@ use Rattle.udt_model.specs.Steps.{got, reply_of_read}
 use Rattle.floor_laws.specs.Sound.{lists_of}
 
 -- the state in which reads of the view are judged
-abbrev pub shown : State → View → State
-shown now view = pinned now (Some view)
+abbrev pub view_state : State → View → State
+view_state now view = pinned now (Some view)
 
 -- a get in the state p answers what a read of the lists of a family does, as they are in the state `at`
 abbrev pub GetsFromLists : State → State → Family → FamilyState → List ℕ → Ts → Option ℕ → Type 0
@@ -19,7 +19,7 @@ GetsFromLists at p family f key t snap = got p (place_at p family) key t (sight 
 -- The view shows in the state `now` what was in the state `at`: the versions, the last sequence, and the families with their floors. And
 -- each get in it, with whatever snapshot of now, answers from the lists that were there.
 pub record ShowsPin (at now : State) (view : View) : Type 0 where
-  pub versions : (shown now view).versions ≡ at.versions
-  pub last : (shown now view).last ≡ at.last
-  pub places : (family : Family) → place_at (shown now view) family ≡ place_at at family
-  pub gets : (family : Family) (f : FamilyState) (key : List ℕ) (t : Ts) (snap : Option ℕ) → family_at at family ≡ Some f → GetsFromLists at (shown now view) family f key t snap
+  pub versions : (view_state now view).versions ≡ at.versions
+  pub last : (view_state now view).last ≡ at.last
+  pub places : (family : Family) → place_at (view_state now view) family ≡ place_at at family
+  pub gets : (family : Family) (f : FamilyState) (key : List ℕ) (t : Ts) (snap : Option ℕ) → family_at at family ≡ Some f → GetsFromLists at (view_state now view) family f key t snap

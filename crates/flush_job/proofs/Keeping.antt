@@ -4,7 +4,7 @@ use Rattle.std.specs.Prelude.{All, Contains, MatchOption, OnOk, not}
 use Rattle.std.specs.List.{AllByRecursion}
 use Rattle.std.proofs.lemmas.List.{append-nil}
 use Rattle.ts_key.specs.declared.version.Version.{Version}
-use Rattle.udt_model.specs.Orders.{is_before}
+use Rattle.udt_model.specs.Orders.{is_version_before}
 use Rattle.udt_model.specs.Collecting as collecting
 use Rattle.udt_model.specs.Collecting.{is_ever_seen, is_useless, seen_of, without_useless}
 use Rattle.collection_laws.specs.Places.{AreStored}
@@ -27,7 +27,7 @@ front_all P (x ∷ xs) ys h = (h.0, front_all P xs ys h.1)
 
 pub front_stored : (xs ys : List Version) → AreStored (xs ++ ys) → AreStored xs
 front_stored [] ys s = tt
-front_stored (x ∷ xs) ys s = (front_all (λ w. is_before x w ≡ true) xs ys s.0, front_stored xs ys s.1)
+front_stored (x ∷ xs) ys s = (front_all (λ w. is_version_before x w ≡ true) xs ys s.0, front_stored xs ys s.1)
 
 pub in_front : (xs ys : List Version) (v : Version) → In v xs → In v (xs ++ ys)
 in_front [] ys v i = absurd i

@@ -13,7 +13,7 @@ use Rattle.std.proofs.lemmas.List.Kept.{AllPairs-cons}
 use Rattle.std.proofs.lemmas.Slice.Eq.{bytes_eq-Decides}
 use Rattle.ts_key.specs.declared.version.Version.{Version}
 use Rattle.udt_model.specs.Versions.{is_newer}
-use Rattle.udt_model.specs.Orders.{is_before, is_below}
+use Rattle.udt_model.specs.Orders.{is_version_before, is_below}
 use Rattle.udt_model.specs.Collecting.{stripped, without_ts}
 use Rattle.collection_laws.specs.Places.{AreApart, AreStored, HaveOnePlace}
 use Rattle.collection_laws.proofs.Storing.{HoldSame, In, all_in, before_itself, contains_from, in_all, same_stored, stored_by_holding, stored_sorted}
@@ -46,7 +46,7 @@ apart_stripped all (v ∷ vs) told among s =
     let u = map_in vs (get_or (map without_ts vs) k d) (got_in (map without_ts vs) k d l) in
     let seqs : v.seq.0 ≡ u.0.seq.0 = p.2 ∙ ap (λ (w : Version). w.seq.0) u.2 in
     let one : v ≡ u.0 = told v u.0 (among v (inl refl)) (among u.0 (inr u.1)) seqs in
-    clash (is_before v u.0) (in_all (λ w. is_before v w ≡ true) vs u.0 s.0 u.1) (ap (is_before v) (sym one) ∙ before_itself v))
+    clash (is_version_before v u.0) (in_all (λ w. is_version_before v w ≡ true) vs u.0 s.0 u.1) (ap (is_version_before v) (sym one) ∙ before_itself v))
     (apart_stripped all vs told (λ w i. among w (inr i)) s.1)
 
 -- ---- two parts with no key in common
@@ -59,10 +59,10 @@ all_join : (P : Version → Type 0) (xs ys : List Version) → AllByRecursion P 
 all_join P [] ys h g = g
 all_join P (x ∷ xs) ys h g = (h.0, all_join P xs ys h.1 g)
 
-stored_join : (xs ys : List Version) → AreStored xs → AreStored ys → ((u w : Version) → In u xs → In w ys → is_before u w ≡ true) → AreStored (xs ++ ys)
+stored_join : (xs ys : List Version) → AreStored xs → AreStored ys → ((u w : Version) → In u xs → In w ys → is_version_before u w ≡ true) → AreStored (xs ++ ys)
 stored_join [] ys s t h = t
 stored_join (x ∷ xs) ys s t h =
-    (all_join (λ w. is_before x w ≡ true) xs ys s.0 (all_in (λ w. is_before x w ≡ true) ys (λ w i. h x w (inl refl) i)), stored_join xs ys s.1 t (λ u w i j. h u w (inr i) j))
+    (all_join (λ w. is_version_before x w ≡ true) xs ys s.0 (all_in (λ w. is_version_before x w ≡ true) ys (λ w i. h x w (inl refl) i)), stored_join xs ys s.1 t (λ u w i j. h u w (inr i) j))
 
 in_either : (xs ys : List Version) (v : Version) → In v (xs ++ ys) → In v xs ⊎ In v ys
 in_either [] ys v i = inr i
@@ -90,7 +90,7 @@ map_join (x ∷ xs) ys = ap (λ (r : List Version). without_ts x ∷ r) (map_joi
 abbrev AllBelow : List ℕ → List Version → Type 0
 AllBelow key vs = AllByRecursion (λ u. is_below u.key key ≡ true) vs
 
-below_before : (u w : Version) → is_below u.key w.key ≡ true → is_before u w ≡ true
+below_before : (u w : Version) → is_below u.key w.key ≡ true → is_version_before u w ≡ true
 below_before u w h = ap (λ b. b || (bytes_eq u.key w.key && is_newer u w)) h
 
 -- those of one key, behind those of lower keys
@@ -165,16 +165,16 @@ less_is Greater h = absurd cc
 below_trans : (a b c : List ℕ) → is_below a b ≡ true → is_below b c ≡ true → is_below a c ≡ true
 below_trans a b c h k = ap is_lt (nat_list_cmp_total.trans a b c (less_is (slice_cmp nat_cmp a b) h) (less_is (slice_cmp nat_cmp b c) k))
 
-other_below : (u v : Version) → is_before u v ≡ true → bytes_eq u.key v.key ≡ false → is_below u.key v.key ≡ true
+other_below : (u v : Version) → is_version_before u v ≡ true → bytes_eq u.key v.key ≡ false → is_below u.key v.key ≡ true
 other_below u v h n = on (is_below u.key v.key) (sym (ap (λ b. is_below u.key v.key || (b && is_newer u v)) n) ∙ h)
   where
     on : (b : Bool) → (b || (false && is_newer u v)) ≡ true → b ≡ true
     on true h = refl
     on false h = absurd cc
 
-before_last : (xs : List Version) (v u : Version) → AreStored (xs ++ v ∷ []) → In u xs → is_before u v ≡ true
+before_last : (xs : List Version) (v u : Version) → AreStored (xs ++ v ∷ []) → In u xs → is_version_before u v ≡ true
 before_last [] v u s i = absurd i
-before_last (x ∷ xs) v u s (inl e) = ap (λ (w : Version). is_before w v) e ∙ in_all (λ w. is_before x w ≡ true) (xs ++ v ∷ []) v s.0 (in_back xs (v ∷ []) v (inl refl))
+before_last (x ∷ xs) v u s (inl e) = ap (λ (w : Version). is_version_before w v) e ∙ in_all (λ w. is_version_before x w ≡ true) (xs ++ v ∷ []) v s.0 (in_back xs (v ∷ []) v (inl refl))
 before_last (x ∷ xs) v u s (inr i) = before_last xs v u s.1 i
 
 -- the first one of another key

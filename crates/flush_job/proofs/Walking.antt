@@ -21,14 +21,14 @@ use Rattle.ts_key.specs.Ordered.{none_low}
 use Rattle.sorted_run.specs.Sorts as sorts
 use Rattle.sorted_run.specs.Sorts.{sorted}
 use Rattle.sorted_run.proofs.Sorting.{items-sorted, sorted-left, sorted-right}
-use Rattle.memtable.specs.Memtables.{Memtable, joined, versions_of}
+use Rattle.memtable.specs.Memtables.{Memtable, joined, versions_of_memtable}
 use Rattle.merge_cursor.specs.Sides.{all, sides}
 use Rattle.merge_cursor.specs.Shows.{lists_are}
 use Rattle.merge_cursor.specs.declared.slice.SliceCursor.{SliceCursor}
 use Rattle.udt_model.specs.declared.reply.KeySpan.{KeySpan}
 use Rattle.udt_model.specs.Versions.{is_newer}
 use Rattle.udt_model.specs.Orders as orders
-use Rattle.udt_model.specs.Orders.{is_at_most, is_before, is_below, is_in, stored}
+use Rattle.udt_model.specs.Orders.{is_at_most, is_version_before, is_below, is_in, stored}
 use Rattle.collection_laws.specs.Places.{AreStored}
 use Rattle.collection_laws.proofs.Storing.{In, before_back, before_is, before_itself, in_all, same_stored}
 use Rattle.flush_job.specs.Walks.{Covers, IsSpanOf, runs_of, versions_of_all, walked}
@@ -36,7 +36,7 @@ use Rattle.flush_job.proofs.Keeping.{in_back, in_front}
 
 -- ---- the order of runs and that of the definitions
 
-with_same : (v : Version) (os : List Version) → sorts.with_version v os ≡ orders.with_version v os
+with_same : (v : Version) (os : List Version) → sorts.with_sorted v os ≡ orders.with_version v os
 with_same v [] = refl
 with_same v (o ∷ os) = λ i. if sym (before_is o v) i then o ∷ with_same v os i else v ∷ o ∷ os
 
@@ -53,14 +53,14 @@ items_more : (xs ys : List Version) → items_of (xs ++ ys) ≡ items_of xs ++ i
 items_more [] ys = refl
 items_more (x ∷ xs) ys = ap (λ (r : List Item). item_of x ∷ r) (items_more xs ys)
 
-joined_items : (cs : List SliceCursor) → lists.joined (map (λ (c : SliceCursor). items_of c.versions.now) cs) ≡ items_of (joined (runs_of cs))
+joined_items : (cs : List SliceCursor) → lists.joined_lists (map (λ (c : SliceCursor). items_of c.versions.now) cs) ≡ items_of (joined (runs_of cs))
 joined_items [] = refl
 joined_items (c ∷ cs) = ap (λ (r : List Item). items_of c.versions.now ++ r) (joined_items cs) ∙ sym (items_more c.versions.now (joined (runs_of cs)))
 
 pub all_is : (cs : List SliceCursor) → all (sides (λ (c : SliceCursor). items_of c.versions.now) (λ (c : SliceCursor). c.place) cs) ≡ items_of (walked cs)
 all_is cs =
-    ap (λ (ls : List (List Item)). lists.stored (lists.joined ls)) (lists_are (λ (c : SliceCursor). items_of c.versions.now) (λ (c : SliceCursor). c.place) cs)
-    ∙ ap lists.stored (joined_items cs)
+    ap (λ (ls : List (List Item)). lists.stored_items (lists.joined_lists ls)) (lists_are (λ (c : SliceCursor). items_of c.versions.now) (λ (c : SliceCursor). c.place) cs)
+    ∙ ap lists.stored_items (joined_items cs)
     ∙ sym (items-sorted (joined (runs_of cs)))
 
 pub walked_length : (cs : List SliceCursor) → length (all (sides (λ (c : SliceCursor). items_of c.versions.now) (λ (c : SliceCursor). c.place) cs)) ≡ length (walked cs)
@@ -75,7 +75,7 @@ pub walked_is : (ms : List Memtable) → sorted (joined (flat_map (λ (m : Memta
 walked_is [] = refl
 walked_is (m ∷ ms) =
     let rest = joined (flat_map (λ (m : Memtable). m.runs) ms) in
-    let own = versions_of m in
+    let own = versions_of_memtable m in
     ap sorted (joined_more m.runs (flat_map (λ (m : Memtable). m.runs) ms))
     ∙ sym (sorted-left (joined m.runs) rest)
     ∙ sym (sorted-right own rest)
@@ -113,17 +113,17 @@ clash : (b : Bool) → b ≡ true → b ≡ false → ⊥
 clash b x y = cc
 
 -- of a stored list two with one item are one
-same_item : (x v : Version) → item_of x ≡ item_of v → is_before x v ≡ true → ⊥
+same_item : (x v : Version) → item_of x ≡ item_of v → is_version_before x v ≡ true → ⊥
 same_item x v e h =
-    clash (is_before x v) h (before_is x v ∙ ap (λ (i : Item). is_lt (order.sort_cmp (item_of x).sort_key i.sort_key)) (sym e) ∙ sym (before_is x x) ∙ before_itself x)
+    clash (is_version_before x v) h (before_is x v ∙ ap (λ (i : Item). is_lt (order.sort_cmp (item_of x).sort_key i.sort_key)) (sym e) ∙ sym (before_is x x) ∙ before_itself x)
 
 stored_one : (ys : List Version) (v w : Version) → AreStored ys → In v ys → In w ys → item_of v ≡ item_of w → v ≡ w
 stored_one [] v w s i j e = absurd i
 stored_one (x ∷ xs) v w s (inl p) (inl q) e = p ∙ sym q
 stored_one (x ∷ xs) v w s (inl p) (inr j) e =
-    absurd (same_item x w (ap item_of (sym p) ∙ e) (in_all (λ u. is_before x u ≡ true) xs w s.0 j))
+    absurd (same_item x w (ap item_of (sym p) ∙ e) (in_all (λ u. is_version_before x u ≡ true) xs w s.0 j))
 stored_one (x ∷ xs) v w s (inr i) (inl q) e =
-    absurd (same_item x v (ap item_of (sym q) ∙ sym e) (in_all (λ u. is_before x u ≡ true) xs v s.0 i))
+    absurd (same_item x v (ap item_of (sym q) ∙ sym e) (in_all (λ u. is_version_before x u ≡ true) xs v s.0 i))
 stored_one (x ∷ xs) v w s (inr i) (inr j) e = stored_one xs v w s.1 i j e
 
 one_of : (a b : Option Version) → option_map item_of a ≡ option_map item_of b → ((v w : Version) → a ≡ Some v → b ≡ Some w → item_of v ≡ item_of w → v ≡ w) → a ≡ b
@@ -200,7 +200,7 @@ either true b c e = inl refl
 either false true c e = inr refl
 either false false c e = absurd cc
 
-at_most : (a b : Version) → is_before a b ≡ true → is_at_most a.key b.key ≡ true
+at_most : (a b : Version) → is_version_before a b ≡ true → is_at_most a.key b.key ≡ true
 at_most a b h =
     elim (either (is_below a.key b.key) (bytes_eq a.key b.key) (is_newer a b) h) [
       | inl l ↦ lt_le (slice_cmp nat_cmp a.key b.key) l
@@ -214,7 +214,7 @@ both false b a c = absurd cc
 
 last_there : (v : Version) (vs : List Version) (last : Version) → slice_get (v ∷ vs) (length vs) ≡ Some last → AreStored (v ∷ vs) → is_at_most v.key last.key ≡ true
 last_there v [] last e s = let q : v ≡ last = cc in ap (λ (w : Version). is_at_most v.key w.key) (sym q) ∙ le_itself v.key
-last_there v (w ∷ ws) last e s = at_most v last (in_all (λ u. is_before v u ≡ true) (w ∷ ws) last s.0 (get_in (w ∷ ws) (length ws) last e))
+last_there v (w ∷ ws) last e s = at_most v last (in_all (λ u. is_version_before v u ≡ true) (w ∷ ws) last s.0 (get_in (w ∷ ws) (length ws) last e))
 
 -- each lies between a key that is no higher than the first one's, and the last one's
 all_between : (low : List ℕ) (v : Version) (vs : List Version) (last : Version) → AllByRecursion (λ w. is_at_most low w.key ≡ true) (v ∷ vs) → slice_get (v ∷ vs) (length vs) ≡ Some last → AreStored (v ∷ vs)
@@ -222,7 +222,7 @@ all_between : (low : List ℕ) (v : Version) (vs : List Version) (last : Version
 all_between low v [] last h e s = (both (is_at_most low v.key) (is_at_most v.key last.key) h.0 (last_there v [] last e s), tt)
 all_between low v (w ∷ ws) last h e s = (both (is_at_most low v.key) (is_at_most v.key last.key) h.0 (last_there v (w ∷ ws) last e s), all_between low w ws last h.1 e s.1)
 
-all_from_first : (v : Version) (vs : List Version) → AllByRecursion (λ w. is_before v w ≡ true) vs → AllByRecursion (λ w. is_at_most v.key w.key ≡ true) vs
+all_from_first : (v : Version) (vs : List Version) → AllByRecursion (λ w. is_version_before v w ≡ true) vs → AllByRecursion (λ w. is_at_most v.key w.key ≡ true) vs
 all_from_first v [] h = tt
 all_from_first v (w ∷ ws) h = (at_most v w h.0, all_from_first v ws h.1)
 
@@ -238,7 +238,7 @@ span_is (v ∷ vs) first last low high a b l h s =
           (subst (λ (k : List ℕ). Covers (record { low = v.key; high = k }) (v ∷ vs)) (sym h) covers),
     )
 
-none_before : (v : Version) (vs : List Version) → AllByRecursion (λ w. is_before v w ≡ true) vs → AllByRecursion (λ (i : Item). order.is_before i.sort_key (item_of v).sort_key ≡ false) (items_of vs)
+none_before : (v : Version) (vs : List Version) → AllByRecursion (λ w. is_version_before v w ≡ true) vs → AllByRecursion (λ (i : Item). order.is_before i.sort_key (item_of v).sort_key ≡ false) (items_of vs)
 none_before v [] h = tt
 none_before v (w ∷ ws) h = (sym (before_is w v) ∙ before_back v w h.0, none_before v ws h.1)
 

@@ -3,7 +3,7 @@ use Rattle.std.specs.Prelude.{◌≡◌, ℕ, zero, suc, Bool, true, false, refl
 use Rattle.std.specs.List.{AllByRecursion}
 use Rattle.std.specs.Coded.{×_prop, Unit-prop, Coded, Coded-set, code_by, coded_ℕ}
 use Rattle.ts_key.specs.declared.version.Version.{Version}
-use Rattle.udt_model.specs.Orders.{is_before}
+use Rattle.udt_model.specs.Orders.{is_version_before}
 use Rattle.history_gc.specs.Pushed.{AreInOrder, StandsBefore}
 
 abbrev bit_at : ℕ → Bool
@@ -22,7 +22,7 @@ bit_code : Coded Bool
 bit_code = code_by ℕ coded_ℕ bit_number bit_at bit_back
 
 before_prop : (v w : Version) → IsProp (StandsBefore v w)
-before_prop v w = ×_prop (Coded-set coded_ℕ v.family.0 w.family.0) (Coded-set bit_code (is_before v w) true)
+before_prop v w = ×_prop (Coded-set coded_ℕ v.family.0 w.family.0) (Coded-set bit_code (is_version_before v w) true)
 
 all_prop : (v : Version) (vs : List Version) → IsProp (AllByRecursion (λ w. StandsBefore v w) vs)
 all_prop v [] = Unit-prop

@@ -5,7 +5,7 @@ use Rattle.ts_key.specs.declared.numbers.Family.{Family}
 use Rattle.ts_key.specs.declared.version.Version.{Version}
 use Rattle.ts_key.specs.Items.{items_of}
 use Rattle.sorted_run.specs.Sorts.{sorted}
-use Rattle.memtable.specs.Memtables.{Memtable, joined, versions_of}
+use Rattle.memtable.specs.Memtables.{Memtable, joined, versions_of_memtable}
 use Rattle.merge_cursor.specs.Sides.{merged_place, sides}
 use Rattle.merge_cursor.specs.declared.slice.SliceCursor.{SliceCursor}
 use Rattle.udt_model.specs.declared.reply.KeySpan.{KeySpan}
@@ -13,7 +13,7 @@ use Rattle.udt_model.specs.Orders.{is_in}
 
 -- the versions of all memtables
 abbrev pub versions_of_all : List Memtable → List Version
-versions_of_all ms = flat_map versions_of ms
+versions_of_all ms = flat_map versions_of_memtable ms
 
 -- what cursors walk over, in the stored order
 abbrev pub runs_of : List SliceCursor → List (List Version)

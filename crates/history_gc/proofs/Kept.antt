@@ -15,10 +15,10 @@ use Rattle.ts_key.specs.declared.numbers.Seq.{Seq}
 use Rattle.ts_key.specs.declared.numbers.Ts.{Ts}
 use Rattle.ts_key.specs.declared.version.Version.{Version}
 use Rattle.udt_model.specs.Versions.{is_newer, is_of, up_to}
-use Rattle.udt_model.specs.Orders.{is_below, is_before}
+use Rattle.udt_model.specs.Orders.{is_below, is_version_before}
 use Rattle.udt_model.specs.Collecting.{hides, is_hidden, is_seen_at, is_ever_seen, seen_of}
 use Rattle.history_gc.specs.Pushed.{StandsBefore, MayFollow, AreInOrder}
-use Rattle.history_gc.specs.Streaming.{Last, class_of, is_same, least_of, next_last, is_between, is_kept, kept_from}
+use Rattle.history_gc.specs.Streaming.{Last, class_of, is_in_last_class, least_sequence, next_last, is_snapshot_between, is_kept, kept_from}
 
 clash : (b : Bool) → b ≡ true → b ≡ false → ⊥
 clash b x y = cc
@@ -169,8 +169,8 @@ hidden_by f v e ps vs b s =
 -- ---- what is remembered of the versions so far
 
 pub record Sums (f : Ts) (ps : List Version) (o : Option Last) : Type 0 where
-  pub any : (v : Version) (e : Option ℕ) → MayFollow ps v → list_any (in_class f v e) ps ≡ (is_same f o v && upto e (least_of o))
-  pub close : (v w : Version) → MayFollow ps v → StandsBefore v w → is_same f o w ≡ true → is_same f o v ≡ true
+  pub any : (v : Version) (e : Option ℕ) → MayFollow ps v → list_any (in_class f v e) ps ≡ (is_in_last_class f o v && upto e (least_sequence o))
+  pub close : (v w : Version) → MayFollow ps v → StandsBefore v w → is_in_last_class f o w ≡ true → is_in_last_class f o v ≡ true
 
 sums_none : (f : Ts) → Sums f [] None
 sums_none f = record { any = λ v e b. refl; close = λ v w b l h. h }
@@ -213,7 +213,7 @@ any_one : (p : Version → Bool) (xs : List Version) (x : Version) → list_any 
 any_one p xs x = any_append p xs (x ∷ []) ∙ ap (λ b. list_any p xs || b) (or_false (p x))
 
 -- the last one is of the same key and class: then another one is of both where it is of v's
-same_through : (f : Ts) (o : Option Last) (v w : Version) → is_same f o v ≡ true → is_same f o w ≡ (bytes_eq v.key w.key && class_of f v == class_of f w)
+same_through : (f : Ts) (o : Option Last) (v w : Version) → is_in_last_class f o v ≡ true → is_in_last_class f o w ≡ (bytes_eq v.key w.key && class_of f v == class_of f w)
 same_through f None v w e = absurd cc
 same_through f (Some l) v w e =
     let r = and_parts (bytes_eq l.key v.key) (l.class == class_of f v) e in
@@ -235,23 +235,23 @@ close_more f v x w a b e =
     and_from (bytes_eq v.key x.key) (class_of f v == class_of f x) ((bytes_eq-Decides v.key x.key).1 q)
     (middle v.ts.0 x.ts.0 w.ts.0 f.0 (later_ts v x q a) (later_ts x w (sym q ∙ k) b) r.1)
 
-any_more : (f : Ts) (ps : List Version) (o : Option Last) (s : Sums f ps o) (v w : Version) (e : Option ℕ) → MayFollow ps v → StandsBefore v w → (b : Bool) → is_same f o v ≡ b
-    → ((is_same f o w && upto e (least_of o)) || in_class f w e v) ≡ ((bytes_eq v.key w.key && class_of f v == class_of f w) && upto e (if b then min (least_of o) v.seq.0 else v.seq.0))
+any_more : (f : Ts) (ps : List Version) (o : Option Last) (s : Sums f ps o) (v w : Version) (e : Option ℕ) → MayFollow ps v → StandsBefore v w → (b : Bool) → is_in_last_class f o v ≡ b
+    → ((is_in_last_class f o w && upto e (least_sequence o)) || in_class f w e v) ≡ ((bytes_eq v.key w.key && class_of f v == class_of f w) && upto e (if b then min (least_sequence o) v.seq.0 else v.seq.0))
 any_more f ps o s v w e bv l true y =
-    ap (λ c. (c && upto e (least_of o)) || in_class f w e v) (same_through f o v w y)
-    ∙ join_same (bytes_eq v.key w.key) (class_of f v == class_of f w) (upto e (least_of o)) (upto e v.seq.0)
-    ∙ ap (λ c. (bytes_eq v.key w.key && class_of f v == class_of f w) && c) (sym (upto_min e (least_of o) v.seq.0))
+    ap (λ c. (c && upto e (least_sequence o)) || in_class f w e v) (same_through f o v w y)
+    ∙ join_same (bytes_eq v.key w.key) (class_of f v == class_of f w) (upto e (least_sequence o)) (upto e v.seq.0)
+    ∙ ap (λ c. (bytes_eq v.key w.key && class_of f v == class_of f w) && c) (sym (upto_min e (least_sequence o) v.seq.0))
 any_more f ps o s v w e bv l false y =
-    let n : is_same f o w ≡ false = none (is_same f o w) refl in
-    ap (λ c. (c && upto e (least_of o)) || in_class f w e v) n ∙ swap_last (bytes_eq v.key w.key) (upto e v.seq.0) (class_of f v == class_of f w)
+    let n : is_in_last_class f o w ≡ false = none (is_in_last_class f o w) refl in
+    ap (λ c. (c && upto e (least_sequence o)) || in_class f w e v) n ∙ swap_last (bytes_eq v.key w.key) (upto e v.seq.0) (class_of f v == class_of f w)
   where
-    none : (c : Bool) → is_same f o w ≡ c → c ≡ false
-    none true z = absurd (clash (is_same f o v) (s.close v w bv l z) y)
+    none : (c : Bool) → is_in_last_class f o w ≡ c → c ≡ false
+    none true z = absurd (clash (is_in_last_class f o v) (s.close v w bv l z) y)
     none false z = refl
 
 sums_more : (f : Ts) (ps : List Version) (o : Option Last) (v : Version) → Sums f ps o → MayFollow ps v → Sums f (ps ++ v ∷ []) (Some (next_last f o v))
 sums_more f ps o v s b = record {
-  any = λ w e h. any_one (in_class f w e) ps v ∙ ap (λ c. c || in_class f w e v) (s.any w e (next_front ps v w h)) ∙ any_more f ps o s v w e b (last_before ps v w h) (is_same f o v) refl;
+  any = λ w e h. any_one (in_class f w e) ps v ∙ ap (λ c. c || in_class f w e v) (s.any w e (next_front ps v w h)) ∙ any_more f ps o s v w e b (last_before ps v w h) (is_in_last_class f o v) refl;
   close = λ x w h l e. close_more f v x w (last_before ps v x h) l e;
 }
 
@@ -268,14 +268,14 @@ any_filter p q (x ∷ xs) = on (q x) (any_filter p q xs)
     on true r = ap (λ b. p x || b) r
     on false r = r
 
-seen_at_is : (f : Ts) (w : List Version) (v : Version) (least : ℕ) → ((e : Option ℕ) → list_any (masks f v e) w ≡ upto e least) → (ss : List Seq) → list_any (is_seen_at w f v) ss ≡ list_any (is_between v.seq.0 least) ss
+seen_at_is : (f : Ts) (w : List Version) (v : Version) (least : ℕ) → ((e : Option ℕ) → list_any (masks f v e) w ≡ upto e least) → (ss : List Seq) → list_any (is_seen_at w f v) ss ≡ list_any (is_snapshot_between v.seq.0 least) ss
 seen_at_is f w v least h [] = refl
 seen_at_is f w v least h (s ∷ ss) =
-    let one : is_seen_at w f v s ≡ is_between v.seq.0 least s =
+    let one : is_seen_at w f v s ≡ is_snapshot_between v.seq.0 least s =
     ap (λ b. nat_le v.seq.0 s.0 && not b) (any_filter (λ o. hides f o v) (λ u. nat_le u.seq.0 s.0) w ∙ h (Some s.0)) ∙ ap (λ b. nat_le v.seq.0 s.0 && b) (not_le least s.0) in
     λ i. one i || seen_at_is f w v least h ss i
 
-seen_on : (f : Ts) (ss : List Seq) (w : List Version) (v : Version) (least : ℕ) (b : Bool) → ((e : Option ℕ) → list_any (masks f v e) w ≡ (b && upto e least)) → is_ever_seen w f ss v ≡ (not b || list_any (is_between v.seq.0 least) ss)
+seen_on : (f : Ts) (ss : List Seq) (w : List Version) (v : Version) (least : ℕ) (b : Bool) → ((e : Option ℕ) → list_any (masks f v e) w ≡ (b && upto e least)) → is_ever_seen w f ss v ≡ (not b || list_any (is_snapshot_between v.seq.0 least) ss)
 seen_on f ss w v least true h =
     let n : is_hidden w f v ≡ true = h None in
     ap (λ c. not c || list_any (is_seen_at w f v) ss) n ∙ seen_at_is f w v least h ss
@@ -284,7 +284,7 @@ seen_on f ss w v least false h =
     ap (λ c. not c || list_any (is_seen_at w f v) ss) n
 
 pub seen_is : (f : Ts) (ss : List Seq) (ps vs : List Version) (o : Option Last) (v : Version) → Sums f ps o → MayFollow ps v → AreInOrder (v ∷ vs) → is_ever_seen (ps ++ v ∷ vs) f ss v ≡ is_kept f ss o v
-seen_is f ss ps vs o v s b so = seen_on f ss (ps ++ v ∷ vs) v (least_of o) (is_same f o v) (λ e. hidden_by f v e ps vs b so ∙ s.any v e b)
+seen_is f ss ps vs o v s b so = seen_on f ss (ps ++ v ∷ vs) v (least_sequence o) (is_in_last_class f o v) (λ e. hidden_by f v e ps vs b so ∙ s.any v e b)
 
 abbrev pub AllNext : List Version → List Version → Type 0
 AllNext ps vs = AllByRecursion (λ v. MayFollow ps v) vs

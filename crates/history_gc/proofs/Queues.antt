@@ -14,21 +14,21 @@ use Rattle.ts_key.specs.declared.numbers.Seq.{Seq}
 use Rattle.ts_key.specs.declared.numbers.Ts.{Ts}
 use Rattle.ts_key.specs.declared.version.Version.{Version}
 use Rattle.udt_model.specs.declared.reply.KeySpan.{KeySpan}
-use Rattle.udt_model.specs.Orders.{is_before, is_in_some}
+use Rattle.udt_model.specs.Orders.{is_version_before, is_in_some}
 use Rattle.collection_laws.specs.Places.{AreStored}
 use Rattle.udt_model.specs.Collecting.{is_hidden, is_ever_seen, is_seen_at, collect, without_useless, seen_of}
 use Rattle.udt_model.specs.Orders.{stored}
 use Rattle.history_gc.specs.Pushed.{StandsBefore, MayFollow, AreInOrder, BeginsWith, of_last_key, of_other_keys}
 use Rattle.ts_key.specs.Ascending.{AreAscending}
-use Rattle.history_gc.specs.Streaming.{Last, is_same, next_last, is_kept, is_between, least_of, is_old_delete, is_low, trim, trim_on, ends_so}
-use Rattle.history_gc.specs.States.{State, AccountsFor, is_key, AllOf}
+use Rattle.history_gc.specs.Streaming.{Last, is_in_last_class, next_last, is_kept, is_snapshot_between, least_sequence, is_old_delete, is_low, trim, trim_on, ends_so}
+use Rattle.history_gc.specs.States.{CollectorState, AccountsFor, is_key, AllOf}
 use Rattle.history_gc.specs.Collecting.{CollectsAlike, remembered, last_of_run, state_at, HasCollected, HasFinished, HasGiven, HasGivenSettled, HasGivenAll, collection_floor, collection_snapshots, collection_spans, held_of}
 use Rattle.history_gc.specs.declared.collector.Collector.{Collector}
 use Rattle.history_gc.proofs.Steps.{filter_same, one_if, start_has, pop_has, none_ready, push_other, push_same, of_last_is, settled_front, given_front}
 
 -- ---- the snapshots, by halving
 
-no_seq_between : (seq least : ℕ) (xs : List Seq) → ((k : ℕ) (d : Seq) → k < length xs → least ≤ (get_or xs k d).0) → list_any (is_between seq least) xs ≡ false
+no_seq_between : (seq least : ℕ) (xs : List Seq) → ((k : ℕ) (d : Seq) → k < length xs → least ≤ (get_or xs k d).0) → list_any (is_snapshot_between seq least) xs ≡ false
 no_seq_between seq least [] h = refl
 no_seq_between seq least (x ∷ xs) h =
     λ i. above x.0 (h 0 x (omega arith)) i || no_seq_between seq least xs (λ k d l. h (suc k) d (omega (arith, l))) i
@@ -39,7 +39,7 @@ no_seq_between seq least (x ∷ xs) h =
 -- the first sequence from seq on decides
 pub first_decides : (seq least : ℕ) (xs : List Seq) (i : ℕ) → IsNonDecreasingBy (λ s. s.0) xs
     → AllWithin (λ (x : Seq). nat_lt x.0 seq ≡ true) xs 0 i → AllWithin (λ (x : Seq). nat_lt x.0 seq ≡ false) xs i (length xs)
-    → list_any (is_between seq least) xs ≡ (if nat_lt i (length xs) then nat_lt (get_or xs i (record { 0 = 0 })).0 least else false)
+    → list_any (is_snapshot_between seq least) xs ≡ (if nat_lt i (length xs) then nat_lt (get_or xs i (record { 0 = 0 })).0 least else false)
 first_decides seq least [] i up low high = sym (ap (λ b. if b then nat_lt 0 least else false) (none_in i))
   where
     none_in : (i : ℕ) → nat_lt i 0 ≡ false
@@ -48,9 +48,9 @@ first_decides seq least (x ∷ xs) zero up low high =
     let n : nat_lt x.0 seq ≡ false = high 0 x (omega arith) (omega arith) in
     let first : nat_lt 0 (length (x ∷ xs)) ≡ true = some_in (length xs) in
     elim (cases_Bool (nat_lt x.0 least)) [
-      | inl y ↦ ap (λ b. b || list_any (is_between seq least) xs) (between x.0 n y) ∙ sym ((λ i. if first i then y i else false))
+      | inl y ↦ ap (λ b. b || list_any (is_snapshot_between seq least) xs) (between x.0 n y) ∙ sym ((λ i. if first i then y i else false))
       | inr m ↦
-          ap (λ b. b || list_any (is_between seq least) xs) (not_between x.0 m)
+          ap (λ b. b || list_any (is_snapshot_between seq least) xs) (not_between x.0 m)
           ∙ no_seq_between seq least xs (λ k d l. let u = up 0 (suc k) d (omega arith) (omega (arith, l)) in above x.0 (get_or xs k d).0 m u)
           ∙ sym ((λ i. if first i then m i else false))
     ]
@@ -68,7 +68,7 @@ first_decides seq least (x ∷ xs) zero up low high =
     above e g a b = grind (arith, nat_tests)
 first_decides seq least (x ∷ xs) (suc i) up low high =
     let y : nat_lt x.0 seq ≡ true = low 0 x (omega arith) (omega arith) in
-    ap (λ b. b || list_any (is_between seq least) xs) (not_between x.0 y)
+    ap (λ b. b || list_any (is_snapshot_between seq least) xs) (not_between x.0 y)
     ∙ first_decides seq least xs i (λ a b d l m. up (suc a) (suc b) d (omega (arith, l)) (omega (arith, m)))
     (λ k d a b. low (suc k) d (omega arith) (omega (arith, b))) (λ k d a b. high (suc k) d (omega (arith, a)) (omega (arith, b)))
     ∙ ap (λ b. if b then nat_lt (get_or xs i (record { 0 = 0 })).0 least else false) (step i (length xs))
@@ -92,14 +92,14 @@ is_ge_from i n l = grind (arith, nat_tests)
 
 pub some_decides : (seq least : ℕ) (xs : List Seq) (i : ℕ) (x : Seq) → AreAscending xs
     → IsPartitionPoint (λ (y : Seq). nat_lt y.0 seq ≡ true) (λ (y : Seq). nat_lt y.0 seq ≡ false) xs i
-    → i < length xs → x ≡ get_or xs i x → nat_lt x.0 least ≡ list_any (is_between seq least) xs
+    → i < length xs → x ≡ get_or xs i x → nat_lt x.0 least ≡ list_any (is_snapshot_between seq least) xs
 some_decides seq least xs i x up p l is =
     let z : Seq = record { 0 = 0 } in
     sym (first_decides seq least xs i up p.0 p.1 ∙ (λ j. if is_lt_from i (length xs) l j then nat_lt ((default_free xs i z x l ∙ sym is) j).0 least else false))
 
 pub none_decides : (seq least : ℕ) (xs : List Seq) (i : ℕ) → AreAscending xs
     → IsPartitionPoint (λ (y : Seq). nat_lt y.0 seq ≡ true) (λ (y : Seq). nat_lt y.0 seq ≡ false) xs i
-    → length xs ≤ i → false ≡ list_any (is_between seq least) xs
+    → length xs ≤ i → false ≡ list_any (is_snapshot_between seq least) xs
 none_decides seq least xs i up p l = sym (first_decides seq least xs i up p.0 p.1 ∙ ap (λ b. if b then nat_lt (get_or xs i (record { 0 = 0 })).0 least else false) (is_ge_from i (length xs) l))
 
 -- ---- trimming at the end
@@ -237,14 +237,14 @@ last_one xs v = ap (slice_get (xs ++ v ∷ [])) (omega (arith, length-append xs 
     at_end [] v = refl
     at_end (x ∷ xs) v = at_end xs v
 
-not_same : (f : Ts) (o : Option Last) (v : Version) → is_key o v ≡ false → is_same f o v ≡ false
+not_same : (f : Ts) (o : Option Last) (v : Version) → is_key o v ≡ false → is_in_last_class f o v ≡ false
 not_same f None v e = refl
 not_same f (Some l) v e = rw e refl
 
 module _ (f : Ts) (ss : List Seq) (deeper : List KeySpan) (class least d : ℕ) (q : List Version) (ps qs : List Version) (v : Version)
     (h : AccountsFor f ss deeper (state_at class least d q) ps qs) (b : MayFollow ps v)
   where
-    abbrev st : State
+    abbrev st : CollectorState
     st = state_at class least d q
 
     -- of another key
@@ -252,9 +252,9 @@ module _ (f : Ts) (ss : List Seq) (deeper : List KeySpan) (class least d : ℕ) 
     push_new q1 k e =
         let front : take (length q1) (q1 ++ v ∷ []) ≡ q1 = take_at q1 (v ∷ []) (length q1) refl in
         let back : drop (length q1) (q1 ++ v ∷ []) ≡ v ∷ [] = drop_at q1 (v ∷ []) (length q1) refl in
-        let n : is_same f st.last v ≡ false = not_same f st.last v k in
+        let n : is_in_last_class f st.last v ≡ false = not_same f st.last v k in
         let last : remembered (max v.ts.0 f.0) v.seq.0 (last_of_run (drop (length q1) (q1 ++ v ∷ []))) ≡ Some (next_last f st.last v) =
-        ap (λ xs. remembered (max v.ts.0 f.0) v.seq.0 (last_of_run xs)) back ∙ sym (ap (λ c. Some (record { key = v.key; class = max v.ts.0 f.0; least = if c then min (least_of st.last) v.seq.0 else v.seq.0 })) n) in
+        ap (λ xs. remembered (max v.ts.0 f.0) v.seq.0 (last_of_run xs)) back ∙ sym (ap (λ c. Some (record { key = v.key; class = max v.ts.0 f.0; least = if c then min (least_sequence st.last) v.seq.0 else v.seq.0 })) n) in
         let same : state_at (max v.ts.0 f.0) v.seq.0 (length q1) (q1 ++ v ∷ []) ≡ record { ready = st.ready ++ trim (is_low f deeper) st.run; run = v ∷ []; last = Some (next_last f st.last v) } =
         λ i. record { ready = (front ∙ e) i; run = back i; last = last i } in
         subst (λ x. AccountsFor f ss deeper x (ps ++ v ∷ []) qs) (sym same) (push_other f ss deeper st ps qs v h b k)
@@ -264,21 +264,21 @@ module _ (f : Ts) (ss : List Seq) (deeper : List KeySpan) (class least d : ℕ) 
     keyed None k = absurd cc
     keyed (Some u) k = (u, refl, (bytes_eq-Decides u.key v.key).0 k)
 
-    same_is : (o : Option Version) → is_key (remembered class least o) v ≡ true → is_same f (remembered class least o) v ≡ (class == max v.ts.0 f.0)
+    same_is : (o : Option Version) → is_key (remembered class least o) v ≡ true → is_in_last_class f (remembered class least o) v ≡ (class == max v.ts.0 f.0)
     same_is None k = absurd cc
     same_is (Some u) k = ap (λ c. c && class == max v.ts.0 f.0) k
 
-    least_is : (o : Option Version) → is_key (remembered class least o) v ≡ true → least_of (remembered class least o) ≡ least
+    least_is : (o : Option Version) → is_key (remembered class least o) v ≡ true → least_sequence (remembered class least o) ≡ least
     least_is None k = absurd cc
     least_is (Some u) k = refl
 
     abbrev kept_test : Bool
-    kept_test = not (class == max v.ts.0 f.0) || list_any (is_between v.seq.0 least) ss
+    kept_test = not (class == max v.ts.0 f.0) || list_any (is_snapshot_between v.seq.0 least) ss
 
     kept_same : is_key st.last v ≡ true → is_kept f ss st.last v ≡ kept_test
     kept_same k =
         let o = last_of_run (drop d q) in
-        ap (λ c. not c || list_any (is_between v.seq.0 (least_of st.last)) ss) (same_is o k) ∙ ap (λ m. not (class == max v.ts.0 f.0) || list_any (is_between v.seq.0 m) ss) (least_is o k)
+        ap (λ c. not c || list_any (is_snapshot_between v.seq.0 (least_sequence st.last)) ss) (same_is o k) ∙ ap (λ m. not (class == max v.ts.0 f.0) || list_any (is_snapshot_between v.seq.0 m) ss) (least_is o k)
 
     abbrev least_next : ℕ
     least_next = if class == max v.ts.0 f.0 then min least v.seq.0 else v.seq.0
@@ -286,7 +286,7 @@ module _ (f : Ts) (ss : List Seq) (deeper : List KeySpan) (class least d : ℕ) 
     next_same : is_key st.last v ≡ true → next_last f st.last v ≡ record { key = v.key; class = max v.ts.0 f.0; least = least_next }
     next_same k =
         let o = last_of_run (drop d q) in
-        ap (λ c. record { key = v.key; class = max v.ts.0 f.0; least = if c then min (least_of st.last) v.seq.0 else v.seq.0 }) (same_is o k)
+        ap (λ c. record { key = v.key; class = max v.ts.0 f.0; least = if c then min (least_sequence st.last) v.seq.0 else v.seq.0 }) (same_is o k)
         ∙ ap (λ m. record { key = v.key; class = max v.ts.0 f.0; least = if class == max v.ts.0 f.0 then min m v.seq.0 else v.seq.0 }) (least_is o k)
 
     pub push_kept : d ≤ length q → is_key st.last v ≡ true → kept_test ≡ true → AccountsFor f ss deeper (state_at (max v.ts.0 f.0) least_next d (q ++ v ∷ [])) (ps ++ v ∷ []) qs
@@ -316,7 +316,7 @@ pub push_is : (f : Ts) (ss : List Seq) (deeper : List KeySpan) (class least d : 
     → (same_key : Bool) → same_key ≡ is_key (state_at class least d q).last v
     → (q1 : List Version) (d1 : ℕ) → (same_key ≡ true → (q1 ≡ q) × (d1 ≡ d))
     → (same_key ≡ false → (k : List ℕ) → AllOf k (drop d q) → (q1 ≡ take d q ++ trim (is_low f deeper) (drop d q)) × (d1 ≡ length q1))
-    → (kept : Bool) → kept ≡ (not (same_key && class == max v.ts.0 f.0) || list_any (is_between v.seq.0 least) ss)
+    → (kept : Bool) → kept ≡ (not (same_key && class == max v.ts.0 f.0) || list_any (is_snapshot_between v.seq.0 least) ss)
     → (class1 least1 : ℕ) → class1 ≡ max v.ts.0 f.0 → least1 ≡ (if same_key && class == max v.ts.0 f.0 then min least v.seq.0 else v.seq.0)
     → (q2 : List Version) → q2 ≡ (if kept then q1 ++ v ∷ [] else q1)
     → AccountsFor f ss deeper (state_at class1 least1 d1 q2) (ps ++ v ∷ []) qs
@@ -334,7 +334,7 @@ push_is f ss deeper class least d q ps qs v h b l false k q1 d1 t n true y class
     subst (λ x. AccountsFor f ss deeper x (ps ++ v ∷ []) qs) (sym path) (push_new f ss deeper class least d q ps qs v h b q1 (sym k) s.0)
 push_is f ss deeper class least d q ps qs v h b l false k q1 d1 t n false y class1 least1 ce le q2 qe = absurd cc
 
-pub moved : (f g : Ts) (ss rr : List Seq) (dd ee : List KeySpan) (st : State) (ps qs : List Version) → f ≡ g → ss ≡ rr → dd ≡ ee → AccountsFor f ss dd st ps qs → AccountsFor g rr ee st ps qs
+pub moved : (f g : Ts) (ss rr : List Seq) (dd ee : List KeySpan) (st : CollectorState) (ps qs : List Version) → f ≡ g → ss ≡ rr → dd ≡ ee → AccountsFor f ss dd st ps qs → AccountsFor g rr ee st ps qs
 moved f g ss rr dd ee st ps qs a b c h =
     subst (λ x. AccountsFor g rr x st ps qs) c (subst (λ x. AccountsFor g x dd st ps qs) b (subst (λ x. AccountsFor x ss dd st ps qs) a h))
 
@@ -410,7 +410,7 @@ pub order_from : (family : ℕ) (vs : List Version) → AreStored vs → AllByRe
 order_from family [] s a = tt
 order_from family (v ∷ vs) s a = (each v vs a.0 s.0 a.1, order_from family vs s.1 a.1)
   where
-    each : (v : Version) (ws : List Version) → v.family.0 ≡ family → AllByRecursion (λ w. is_before v w ≡ true) ws → AllByRecursion (λ w. w.family.0 ≡ family) ws → AllByRecursion (λ w. StandsBefore v w) ws
+    each : (v : Version) (ws : List Version) → v.family.0 ≡ family → AllByRecursion (λ w. is_version_before v w ≡ true) ws → AllByRecursion (λ w. w.family.0 ≡ family) ws → AllByRecursion (λ w. StandsBefore v w) ws
     each v [] e b a = tt
     each v (w ∷ ws) e b a = ((e ∙ sym a.0, b.0), each v ws e b.1 a.1)
 

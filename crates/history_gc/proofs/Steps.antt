@@ -11,13 +11,13 @@ use Rattle.ts_key.specs.declared.numbers.Seq.{Seq}
 use Rattle.ts_key.specs.declared.numbers.Ts.{Ts}
 use Rattle.ts_key.specs.declared.version.Version.{Version}
 use Rattle.udt_model.specs.declared.reply.KeySpan.{KeySpan}
-use Rattle.udt_model.specs.Orders.{is_before}
+use Rattle.udt_model.specs.Orders.{is_version_before}
 use Rattle.collection_laws.specs.Places.{AreStored}
 use Rattle.udt_model.specs.Collecting.{is_ever_seen, is_useless, seen_of, without_useless, collect}
 use Rattle.collection_laws.proofs.Storing.{stored_filter, stored_is}
 use Rattle.history_gc.specs.Pushed.{StandsBefore, MayFollow, AreInOrder, BeginsWith, last_from, has_key_of, of_last_key, of_other_keys}
-use Rattle.history_gc.specs.Streaming.{Last, next_last, is_low, is_kept, kept_from, kept_of, trim}
-use Rattle.history_gc.specs.States.{State, AccountsFor, is_key, last_of, AllOf, NoneOf}
+use Rattle.history_gc.specs.Streaming.{Last, next_last, is_low, is_kept, kept_from, kept_versions, trim}
+use Rattle.history_gc.specs.States.{CollectorState, AccountsFor, is_key, last_after, AllOf, NoneOf}
 use Rattle.history_gc.proofs.Kept.{AllNext, next_more, all_free, kept_is_seen, between_keys}
 use Rattle.history_gc.proofs.Spent.{all_snoc, useless_more}
 
@@ -25,7 +25,7 @@ abbrev pub one_if : Bool → Version → List Version
 one_if b v = if b then v ∷ [] else []
 
 -- the state after a version more
-abbrev pub pushed : Ts → List Seq → List KeySpan → State → Version → State
+abbrev pub pushed : Ts → List Seq → List KeySpan → CollectorState → Version → CollectorState
 pushed f ss deeper st v =
     if is_key st.last v
     then record { ready = st.ready; run = st.run ++ one_if (is_kept f ss st.last v) v; last = Some (next_last f st.last v) }
@@ -33,7 +33,7 @@ pushed f ss deeper st v =
 
 -- ---- the collection of versions in order
 
-ordered_all : (v : Version) (vs : List Version) → AllByRecursion (λ w. StandsBefore v w) vs → AllByRecursion (λ w. is_before v w ≡ true) vs
+ordered_all : (v : Version) (vs : List Version) → AllByRecursion (λ w. StandsBefore v w) vs → AllByRecursion (λ w. is_version_before v w ≡ true) vs
 ordered_all v [] h = tt
 ordered_all v (w ∷ ws) h = (h.0.1, ordered_all v ws h.1)
 
@@ -41,23 +41,23 @@ pub in_order_stored : (vs : List Version) → AreInOrder vs → AreStored vs
 in_order_stored [] h = tt
 in_order_stored (v ∷ vs) h = (ordered_all v vs h.0, in_order_stored vs h.1)
 
-pub collect_is : (f : Ts) (ss : List Seq) (deeper : List KeySpan) (ps : List Version) → AreInOrder ps → collect ps f ss deeper ≡ kept_of f ss deeper ps
+pub collect_is : (f : Ts) (ss : List Seq) (deeper : List KeySpan) (ps : List Version) → AreInOrder ps → collect ps f ss deeper ≡ kept_versions f ss deeper ps
 collect_is f ss deeper ps s =
-    stored_is (kept_of f ss deeper ps) (stored_filter (λ v. not (is_useless (seen_of ps f ss) f deeper v)) (seen_of ps f ss) (stored_filter (is_ever_seen ps f ss) ps (in_order_stored ps s)))
+    stored_is (kept_versions f ss deeper ps) (stored_filter (λ v. not (is_useless (seen_of ps f ss) f deeper v)) (seen_of ps f ss) (stored_filter (is_ever_seen ps f ss) ps (in_order_stored ps s)))
 
 -- ---- lists with one more
 
-kept_snoc : (f : Ts) (ss : List Seq) (o : Option Last) (ps : List Version) (v : Version) → kept_from f ss o (ps ++ v ∷ []) ≡ kept_from f ss o ps ++ one_if (is_kept f ss (last_of f o ps) v) v
+kept_snoc : (f : Ts) (ss : List Seq) (o : Option Last) (ps : List Version) (v : Version) → kept_from f ss o (ps ++ v ∷ []) ≡ kept_from f ss o ps ++ one_if (is_kept f ss (last_after f o ps) v) v
 kept_snoc f ss o [] v = refl
 kept_snoc f ss o (u ∷ us) v =
     ap (λ r. if is_kept f ss o u then u ∷ r else r) (kept_snoc f ss (Some (next_last f o u)) us v)
-    ∙ front (is_kept f ss o u) u (kept_from f ss (Some (next_last f o u)) us) (one_if (is_kept f ss (last_of f (Some (next_last f o u)) us) v) v)
+    ∙ front (is_kept f ss o u) u (kept_from f ss (Some (next_last f o u)) us) (one_if (is_kept f ss (last_after f (Some (next_last f o u)) us) v) v)
   where
     front : (b : Bool) (u : Version) (xs ys : List Version) → (if b then u ∷ (xs ++ ys) else xs ++ ys) ≡ (if b then u ∷ xs else xs) ++ ys
     front true u xs ys = refl
     front false u xs ys = refl
 
-last_snoc : (f : Ts) (o : Option Last) (ps : List Version) (v : Version) → last_of f o (ps ++ v ∷ []) ≡ Some (next_last f (last_of f o ps) v)
+last_snoc : (f : Ts) (o : Option Last) (ps : List Version) (v : Version) → last_after f o (ps ++ v ∷ []) ≡ Some (next_last f (last_after f o ps) v)
 last_snoc f o [] v = refl
 last_snoc f o (u ∷ us) v = last_snoc f (Some (next_last f o u)) us v
 
@@ -66,11 +66,11 @@ last_is o [] v = refl
 last_is o (u ∷ us) v = last_is (Some u) us v
 
 -- the key that is remembered is the last one's
-key_on : (f : Ts) (o : Option Last) (p : Option Version) (ps : List Version) → ((u : Version) → is_key o u ≡ has_key_of p u) → (u : Version) → is_key (last_of f o ps) u ≡ has_key_of (last_from p ps) u
+key_on : (f : Ts) (o : Option Last) (p : Option Version) (ps : List Version) → ((u : Version) → is_key o u ≡ has_key_of p u) → (u : Version) → is_key (last_after f o ps) u ≡ has_key_of (last_from p ps) u
 key_on f o p [] h u = h u
 key_on f o p (v ∷ vs) h u = key_on f (Some (next_last f o v)) (Some v) vs (λ w. refl) u
 
-key_is : (f : Ts) (ps : List Version) (u : Version) → is_key (last_of f None ps) u ≡ has_key_of (last_from None ps) u
+key_is : (f : Ts) (ps : List Version) (u : Version) → is_key (last_after f None ps) u ≡ has_key_of (last_from None ps) u
 key_is f ps u = key_on f None None ps (λ w. refl) u
 
 after_snoc : (u v : Version) (us : List Version) → AllByRecursion (λ w. StandsBefore u w) us → StandsBefore u v → AllByRecursion (λ w. StandsBefore u w) (us ++ v ∷ [])
@@ -181,8 +181,8 @@ filter_same p q [] h = refl
 filter_same p q (x ∷ xs) h = λ i. cond (h x i) (x ∷ filter_same p q xs h i) (filter_same p q xs h i)
 
 -- what is remembered finds the versions of the last key
-pub of_last_is : (f : Ts) (ps : List Version) (o : Option Last) → last_of f None ps ≡ o → filter (is_key o) ps ≡ of_last_key ps
-of_last_is f ps o e = ap (λ l. filter (is_key l) ps) (sym e) ∙ filter_same (is_key (last_of f None ps)) (has_key_of (last_from None ps)) ps (key_is f ps)
+pub of_last_is : (f : Ts) (ps : List Version) (o : Option Last) → last_after f None ps ≡ o → filter (is_key o) ps ≡ of_last_key ps
+of_last_is f ps o e = ap (λ l. filter (is_key l) ps) (sym e) ∙ filter_same (is_key (last_after f None ps)) (has_key_of (last_from None ps)) ps (key_is f ps)
 
 -- ---- a step
 
@@ -195,14 +195,14 @@ run_sorted true xs v h b = order_snoc xs v h b
 run_sorted false xs v h b = subst AreInOrder (sym (append-nil xs)) h
 
 module _ (f : Ts) (ss : List Seq) (deeper : List KeySpan) where
-  kept_more : (ps : List Version) (v : Version) → AreInOrder ps → MayFollow ps v → seen_of (ps ++ v ∷ []) f ss ≡ seen_of ps f ss ++ one_if (is_kept f ss (last_of f None ps) v) v
+  kept_more : (ps : List Version) (v : Version) → AreInOrder ps → MayFollow ps v → seen_of (ps ++ v ∷ []) f ss ≡ seen_of ps f ss ++ one_if (is_kept f ss (last_after f None ps) v) v
   kept_more ps v s b =
       sym (kept_is_seen f ss (ps ++ v ∷ []) (order_snoc ps v s b))
       ∙ kept_snoc f ss None ps v
-      ∙ ap (λ xs. xs ++ one_if (is_kept f ss (last_of f None ps) v) v) (kept_is_seen f ss ps s)
+      ∙ ap (λ xs. xs ++ one_if (is_kept f ss (last_after f None ps) v) v) (kept_is_seen f ss ps s)
 
   -- what all of ps give is what was given, what is ready, and the run without its end
-  pub whole : (st : State) (ps qs : List Version) → AccountsFor f ss deeper st ps qs → (qs ++ st.ready) ++ trim (is_low f deeper) st.run ≡ kept_of f ss deeper ps
+  pub whole : (st : CollectorState) (ps qs : List Version) → AccountsFor f ss deeper st ps qs → (qs ++ st.ready) ++ trim (is_low f deeper) st.run ≡ kept_versions f ss deeper ps
   whole st ps qs h =
       ap (λ xs. xs ++ trim (is_low f deeper) st.run) h.out
       ∙ sym (ap (without_useless f deeper) h.kept ∙ useless_more f deeper h.key (seen_of (of_other_keys ps) f ss) st.run h.of_old h.of_run h.sorted_run)
@@ -220,16 +220,16 @@ module _ (f : Ts) (ss : List Seq) (deeper : List KeySpan) where
       falls : (b : Bool) → b ≡ true → b ≡ false → ⊥
       falls b x y = cc
 
-  pub push_other : (st : State) (ps qs : List Version) (v : Version) → AccountsFor f ss deeper st ps qs → MayFollow ps v → is_key st.last v ≡ false
+  pub push_other : (st : CollectorState) (ps qs : List Version) (v : Version) → AccountsFor f ss deeper st ps qs → MayFollow ps v → is_key st.last v ≡ false
       → AccountsFor f ss deeper (record { ready = st.ready ++ trim (is_low f deeper) st.run; run = v ∷ []; last = Some (next_last f st.last v) }) (ps ++ v ∷ []) qs
   push_other st ps qs v h b e =
       let n = h.others v b e in
       let old : of_other_keys (ps ++ v ∷ []) ≡ ps = settled_other ps v n in
-      let k : is_kept f ss (last_of f None ps) v ≡ true = ap (λ o. is_kept f ss o v) h.last ∙ not_same_key st.last v e in
+      let k : is_kept f ss (last_after f None ps) v ≡ true = ap (λ o. is_kept f ss o v) h.last ∙ not_same_key st.last v e in
       record {
         sorted = order_snoc ps v h.sorted b;
         last = last_snoc f None ps v ∙ ap (λ o. Some (next_last f o v)) h.last;
-        out = sym (append_assoc qs st.ready (trim (is_low f deeper) st.run)) ∙ whole st ps qs h ∙ sym (ap (kept_of f ss deeper) old);
+        out = sym (append_assoc qs st.ready (trim (is_low f deeper) st.run)) ∙ whole st ps qs h ∙ sym (ap (kept_versions f ss deeper) old);
         kept = kept_more ps v h.sorted b ∙ ap (λ c. seen_of ps f ss ++ one_if c v) k ∙ ap (λ xs. seen_of xs f ss ++ v ∷ []) (sym old);
         key = v.key;
         of_run = (refl, tt);
@@ -240,7 +240,7 @@ module _ (f : Ts) (ss : List Seq) (deeper : List KeySpan) where
         bound = omega (arith, of_key_snoc (Some (next_last f st.last v)) ps v (own_key v));
       }
 
-  pub push_same : (st : State) (ps qs : List Version) (v : Version) → AccountsFor f ss deeper st ps qs → MayFollow ps v → is_key st.last v ≡ true
+  pub push_same : (st : CollectorState) (ps qs : List Version) (v : Version) → AccountsFor f ss deeper st ps qs → MayFollow ps v → is_key st.last v ≡ true
       → AccountsFor f ss deeper (record { ready = st.ready; run = st.run ++ one_if (is_kept f ss st.last v) v; last = Some (next_last f st.last v) }) (ps ++ v ∷ []) qs
   push_same st ps qs v h b e =
       let old : of_other_keys (ps ++ v ∷ []) ≡ of_other_keys ps = settled_same ps v (sym (key_is f ps v) ∙ ap (λ o. is_key o v) h.last ∙ e) in
@@ -249,7 +249,7 @@ module _ (f : Ts) (ss : List Seq) (deeper : List KeySpan) where
       record {
         sorted = order_snoc ps v h.sorted b;
         last = last_snoc f None ps v ∙ ap (λ o. Some (next_last f o v)) h.last;
-        out = h.out ∙ sym (ap (kept_of f ss deeper) old);
+        out = h.out ∙ sym (ap (kept_versions f ss deeper) old);
         kept = kept_more ps v h.sorted b ∙ ap (λ o. seen_of ps f ss ++ one_if (is_kept f ss o v) v) h.last ∙ ap (λ xs. xs ++ one_if (is_kept f ss st.last v) v) h.kept
             ∙ append_assoc (seen_of (of_other_keys ps) f ss) st.run (one_if (is_kept f ss st.last v) v)
             ∙ ap (λ xs. seen_of xs f ss ++ (st.run ++ one_if (is_kept f ss st.last v) v)) (sym old);
@@ -266,7 +266,7 @@ module _ (f : Ts) (ss : List Seq) (deeper : List KeySpan) where
       }
 
   -- a version more: the state after it has what was pushed
-  pub push_has : (st : State) (ps qs : List Version) (v : Version) → AccountsFor f ss deeper st ps qs → MayFollow ps v → AccountsFor f ss deeper (pushed f ss deeper st v) (ps ++ v ∷ []) qs
+  pub push_has : (st : CollectorState) (ps qs : List Version) (v : Version) → AccountsFor f ss deeper st ps qs → MayFollow ps v → AccountsFor f ss deeper (pushed f ss deeper st v) (ps ++ v ∷ []) qs
   push_has st ps qs v h b =
       elim (cases_Bool (is_key st.last v)) [
         | inl y ↦ rw y (push_same st ps qs v h b y)
@@ -290,7 +290,7 @@ module _ (f : Ts) (ss : List Seq) (deeper : List KeySpan) where
   }
 
   -- one of the ready ones is given
-  pub pop_has : (st : State) (ps qs : List Version) (x : Version) (xs : List Version) → st.ready ≡ x ∷ xs → AccountsFor f ss deeper st ps qs → AccountsFor f ss deeper (record { ready = xs; run = st.run; last = st.last }) ps (qs ++ x ∷ [])
+  pub pop_has : (st : CollectorState) (ps qs : List Version) (x : Version) (xs : List Version) → st.ready ≡ x ∷ xs → AccountsFor f ss deeper st ps qs → AccountsFor f ss deeper (record { ready = xs; run = st.run; last = st.last }) ps (qs ++ x ∷ [])
   pop_has st ps qs x xs e h = record {
     sorted = h.sorted;
     last = h.last;
@@ -307,23 +307,23 @@ module _ (f : Ts) (ss : List Seq) (deeper : List KeySpan) where
 
   -- ---- against the collection
 
-  stored_settled : (ps : List Version) → AreInOrder ps → collect (of_other_keys ps) f ss deeper ≡ kept_of f ss deeper (of_other_keys ps)
+  stored_settled : (ps : List Version) → AreInOrder ps → collect (of_other_keys ps) f ss deeper ≡ kept_versions f ss deeper (of_other_keys ps)
   stored_settled ps s =
       let t = stored_filter (λ u. not (has_key_of (last_from None ps) u)) ps (in_order_stored ps s) in
-      stored_is (kept_of f ss deeper (of_other_keys ps)) (stored_filter (λ v. not (is_useless (seen_of (of_other_keys ps) f ss) f deeper v)) (seen_of (of_other_keys ps) f ss) (stored_filter (is_ever_seen (of_other_keys ps) f ss) (of_other_keys ps) t))
+      stored_is (kept_versions f ss deeper (of_other_keys ps)) (stored_filter (λ v. not (is_useless (seen_of (of_other_keys ps) f ss) f deeper v)) (seen_of (of_other_keys ps) f ss) (stored_filter (is_ever_seen (of_other_keys ps) f ss) (of_other_keys ps) t))
 
   -- where none is ready all of the settled keys is given
-  pub none_ready : (st : State) (ps qs : List Version) → st.ready ≡ [] → AccountsFor f ss deeper st ps qs → qs ≡ collect (of_other_keys ps) f ss deeper
+  pub none_ready : (st : CollectorState) (ps qs : List Version) → st.ready ≡ [] → AccountsFor f ss deeper st ps qs → qs ≡ collect (of_other_keys ps) f ss deeper
   none_ready st ps qs e h = sym (append-nil qs) ∙ ap (λ ys. qs ++ ys) (sym e) ∙ h.out ∙ sym (stored_settled ps h.sorted)
 
   -- what was given is a front of what the settled keys give
-  pub settled_front : (st : State) (ps qs : List Version) → AccountsFor f ss deeper st ps qs → BeginsWith qs (collect (of_other_keys ps) f ss deeper)
+  pub settled_front : (st : CollectorState) (ps qs : List Version) → AccountsFor f ss deeper st ps qs → BeginsWith qs (collect (of_other_keys ps) f ss deeper)
   settled_front st ps qs h = (st.ready, h.out ∙ sym (stored_settled ps h.sorted))
 
   -- and of what all give
-  pub given_front : (st : State) (ps qs : List Version) → AccountsFor f ss deeper st ps qs → BeginsWith qs (collect ps f ss deeper)
+  pub given_front : (st : CollectorState) (ps qs : List Version) → AccountsFor f ss deeper st ps qs → BeginsWith qs (collect ps f ss deeper)
   given_front st ps qs h = (st.ready ++ trim (is_low f deeper) st.run, sym (append_assoc qs st.ready (trim (is_low f deeper) st.run)) ∙ whole st ps qs h ∙ sym (collect_is f ss deeper ps h.sorted))
 
   -- all that is given and held, once the end of the run is trimmed
-  pub finished_is : (st : State) (ps qs : List Version) → AccountsFor f ss deeper st ps qs → qs ++ (st.ready ++ trim (is_low f deeper) st.run) ≡ collect ps f ss deeper
+  pub finished_is : (st : CollectorState) (ps qs : List Version) → AccountsFor f ss deeper st ps qs → qs ++ (st.ready ++ trim (is_low f deeper) st.run) ≡ collect ps f ss deeper
   finished_is st ps qs h = sym (append_assoc qs st.ready (trim (is_low f deeper) st.run)) ∙ whole st ps qs h ∙ sym (collect_is f ss deeper ps h.sorted)

@@ -8,7 +8,7 @@ use Rattle.udt_model.specs.declared.reply.KeySpan.{KeySpan}
 use Rattle.udt_model.specs.Collecting.{collect}
 use Rattle.history_gc.specs.Pushed.{BeginsWith, of_last_key, of_other_keys}
 use Rattle.history_gc.specs.Streaming.{Last}
-use Rattle.history_gc.specs.States.{State, AccountsFor}
+use Rattle.history_gc.specs.States.{CollectorState, AccountsFor}
 use Rattle.history_gc.specs.declared.collector.Collector.{Collector}
 
 -- what is remembered of the last version that is kept and not decided
@@ -21,10 +21,10 @@ abbrev pub last_of_run : List Version → Option Version
 last_of_run vs = slice_get vs (length vs - 1)
 
 -- of a queue of which so many are decided
-abbrev pub state_at : ℕ → ℕ → ℕ → List Version → State
+abbrev pub state_at : ℕ → ℕ → ℕ → List Version → CollectorState
 state_at class least decided queue = record { ready = take decided queue; run = drop decided queue; last = remembered class least (last_of_run (drop decided queue)) }
 
-abbrev pub state : Collector → State
+abbrev pub state : Collector → CollectorState
 state c = state_at c.class c.least c.decided c.queue.items
 
 -- the floor, the snapshots' sequences and the deeper spans that it collects by

@@ -3,11 +3,11 @@ use Rattle.std.specs.Prelude.{◌≡◌, ℕ, Bool, true, false, not, List, [], 
 use Rattle.std.specs.List.{AllByRecursion}
 use Rattle.std.specs.Str.{bytes_eq}
 use Rattle.ts_key.specs.declared.version.Version.{Version}
-use Rattle.udt_model.specs.Orders.{is_before}
+use Rattle.udt_model.specs.Orders.{is_version_before}
 
 -- both are of one family, and u stands before v in the stored order
 abbrev pub StandsBefore : Version → Version → Type 0
-StandsBefore u v = (u.family.0 ≡ v.family.0) × (is_before u v ≡ true)
+StandsBefore u v = (u.family.0 ≡ v.family.0) × (is_version_before u v ≡ true)
 
 -- v may be pushed after ps: each of them stands before it
 abbrev pub MayFollow : List Version → Version → Type 0

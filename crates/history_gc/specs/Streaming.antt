@@ -20,24 +20,24 @@ pub record Last : Type 0 where
 abbrev pub class_of : Ts → Version → ℕ
 class_of floor v = max v.ts.0 floor.0
 
-abbrev pub is_same : Ts → Option Last → Version → Bool
-is_same floor None v = false
-is_same floor (Some l) v = bytes_eq l.key v.key && l.class == class_of floor v
+abbrev pub is_in_last_class : Ts → Option Last → Version → Bool
+is_in_last_class floor None v = false
+is_in_last_class floor (Some l) v = bytes_eq l.key v.key && l.class == class_of floor v
 
-abbrev pub least_of : Option Last → ℕ
-least_of None = 0
-least_of (Some l) = l.least
+abbrev pub least_sequence : Option Last → ℕ
+least_sequence None = 0
+least_sequence (Some l) = l.least
 
 abbrev pub next_last : Ts → Option Last → Version → Last
-next_last floor o v = record { key = v.key; class = class_of floor v; least = if is_same floor o v then min (least_of o) v.seq.0 else v.seq.0 }
+next_last floor o v = record { key = v.key; class = class_of floor v; least = if is_in_last_class floor o v then min (least_sequence o) v.seq.0 else v.seq.0 }
 
 -- a snapshot of this sequence sees the version of sequence seq, and none of those from least on
-abbrev pub is_between : ℕ → ℕ → Seq → Bool
-is_between seq least s = nat_le seq s.0 && nat_lt s.0 least
+abbrev pub is_snapshot_between : ℕ → ℕ → Seq → Bool
+is_snapshot_between seq least s = nat_le seq s.0 && nat_lt s.0 least
 
 -- the first of a class is kept; another one where a snapshot sees it and none of the ones before it
 abbrev pub is_kept : Ts → List Seq → Option Last → Version → Bool
-is_kept floor seqs o v = not (is_same floor o v) || list_any (is_between v.seq.0 (least_of o)) seqs
+is_kept floor seqs o v = not (is_in_last_class floor o v) || list_any (is_snapshot_between v.seq.0 (least_sequence o)) seqs
 
 abbrev pub kept_from : Ts → List Seq → Option Last → List Version → List Version
 kept_from floor seqs o [] = []
@@ -69,5 +69,5 @@ ends_so p (v ∷ []) = p v
 ends_so p (v ∷ w ∷ vs) = ends_so p (w ∷ vs)
 
 -- what a collection keeps of versions that stand in the stored order
-abbrev pub kept_of : Ts → List Seq → List KeySpan → List Version → List Version
-kept_of floor seqs deeper vs = without_useless floor deeper (seen_of vs floor seqs)
+abbrev pub kept_versions : Ts → List Seq → List KeySpan → List Version → List Version
+kept_versions floor seqs deeper vs = without_useless floor deeper (seen_of vs floor seqs)

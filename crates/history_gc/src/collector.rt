@@ -4,7 +4,7 @@ ghost use Rattle.std.specs.VecDeque.{deque_capacity};
 ghost use Rattle.std.specs.List.{list_any};
 ghost use Rattle.udt_model.specs.Orders.{is_in, is_in_some};
 ghost use Rattle.ts_key.specs.Ascending.{AreAscending};
-ghost use Rattle.history_gc.specs.Streaming.{ends_so, is_between, is_low, is_old_delete, trim};
+ghost use Rattle.history_gc.specs.Streaming.{ends_so, is_snapshot_between, is_low, is_old_delete, trim};
 ghost use Rattle.history_gc.specs.States.{AllOf};
 
 use std::alloc::Global;
@@ -30,7 +30,7 @@ pub struct Collector<'a> {
 /// Whether one of the sequences, which ascend, is at least `seq` and below `least`.
 fn is_one_between(seqs: &[Seq], seq: u64, least: u64) -> bool
     requires { AreAscending seqs.now }
-    ensures { result ≡ list_any (is_between seq least) seqs.now }
+    ensures { result ≡ list_any (is_snapshot_between seq least) seqs.now }
 {
     let first = seqs.partition_point(|s| s.0 < seq);
     match seqs.get(first) {
@@ -42,7 +42,7 @@ fn is_one_between(seqs: &[Seq], seq: u64, least: u64) -> bool
 /// Whether a version is kept that is or isn't of the class of the last one.
 fn is_kept_now(same: bool, seqs: &[Seq], seq: u64, least: u64) -> bool
     requires { AreAscending seqs.now }
-    ensures { result ≡ (not same || list_any (is_between seq least) seqs.now) }
+    ensures { result ≡ (not same || list_any (is_snapshot_between seq least) seqs.now) }
 {
     !same || is_one_between(seqs, seq, least)
 }
@@ -141,7 +141,7 @@ impl<'a> Collector<'a> {
     ghost use Rattle.udt_model.specs.Collecting.{collect};
     ghost use Rattle.ts_key.specs.declared.version.Version.{Version as VersionOf};
     ghost use Rattle.history_gc.specs.Pushed.{MayFollow};
-    ghost use Rattle.history_gc.specs.Streaming.{is_between, is_low, trim};
+    ghost use Rattle.history_gc.specs.Streaming.{is_snapshot_between, is_low, trim};
     ghost use Rattle.history_gc.specs.States.{AllOf, is_key};
     ghost use Rattle.history_gc.specs.Collecting.{CollectsAlike, HasCollected, HasFinished, HasGiven, HasGivenAll, HasGivenSettled, IsAsBefore, collection, held_of, room_of, state};
 
@@ -240,7 +240,7 @@ impl<'a> Collector<'a> {
 
     /// Remembers a version, and says whether it is kept.
     fn notes(&mut self, version: &Version, same_key: bool) -> bool
-        ensures kept { result ≡ (not (same_key && self.old.class == max version.now.ts.0 self.old.floor.0) || list_any (is_between version.now.seq.0 self.old.least) self.old.seqs.items) }
+        ensures kept { result ≡ (not (same_key && self.old.class == max version.now.ts.0 self.old.floor.0) || list_any (is_snapshot_between version.now.seq.0 self.old.least) self.old.seqs.items) }
         ensures class { self.new.class ≡ max version.now.ts.0 self.old.floor.0 }
         ensures least { self.new.least ≡ (if same_key && self.old.class == max version.now.ts.0 self.old.floor.0 then min self.old.least version.now.seq.0 else version.now.seq.0) }
         ensures same { (self.new.queue ≡ self.old.queue) × (self.new.decided ≡ self.old.decided) }

@@ -1,4 +1,4 @@
-//! Tests of keys, lanes, cursors and the model, by their public calls.
+//! Tests of keys, lanes and cursors, by their public calls.
 #![tactic(auto)]
 
 #[cfg(test)]

@@ -1,6 +1,5 @@
-//! Tests of keys, lanes, cursors and the model, one module each.
+//! Tests of keys, lanes and cursors, one module each.
 
 mod cursors;
 mod keys;
 mod lanes;
-mod model;

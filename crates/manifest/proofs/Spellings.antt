@@ -10,7 +10,7 @@ use Rattle.ts_key.specs.declared.version.Form.TheVariants.{Persist, Strip}
 use Rattle.ts_key.specs.declared.numbers.Ts.{Ts}
 use Rattle.udt_model.specs.declared.line.FamilyHead.{FamilyHead}
 use Rattle.manifest.specs.Heads.{form_code, family_text, IsNewFamily, IsNamed, IsHead, differ}
-use Rattle.manifest.specs.Reading.{StartsWithName, StartsWith, AreSpelled}
+use Rattle.manifest.specs.Reading.{StartsWithName, StartsWithFamily, AreSpelled}
 
 -- fronts of one length, and what stands behind them
 split_once : (a b x y : List ℕ) → length a ≡ length b → a ++ x ≡ b ++ y → (a ≡ b) × (x ≡ y)
@@ -31,7 +31,7 @@ name_once bytes a x b y m n p q =
     let code : m ≡ n = cc in
     (parts.0, code, ap (drop 2) parts.1)
 
-pub name_of : (bytes : List ℕ) (f : FamilyHead) (rest : List ℕ) → StartsWith bytes f rest → StartsWithName bytes f.name (form_code f.form) rest
+pub name_of : (bytes : List ℕ) (f : FamilyHead) (rest : List ℕ) → StartsWithFamily bytes f rest → StartsWithName bytes f.name (form_code f.form) rest
 name_of bytes f rest h = h.is ∙ ap (λ (l : List ℕ). length f.name ∷ l) (append_assoc f.name (form_code f.form ∷ 8 ∷ []) rest)
 
 form_once : (a b : Form) → form_code a ≡ form_code b → a ≡ b
@@ -50,23 +50,23 @@ same_family : (f g : FamilyHead) → IsNewFamily f → IsNewFamily g → f.name 
 same_family f g p q name form =
     ap (λ (n : List ℕ). family n f.form f.floor) name ∙ ap (λ (k : Form). family g.name k f.floor) form ∙ ap (λ (n : ℕ). family g.name g.form (at_ts n)) (p ∙ sym q)
 
-pub family_once : (bytes : List ℕ) (f g : FamilyHead) (x y : List ℕ) → StartsWith bytes f x → StartsWith bytes g y → (f ≡ g) × (x ≡ y)
+pub family_once : (bytes : List ℕ) (f g : FamilyHead) (x y : List ℕ) → StartsWithFamily bytes f x → StartsWithFamily bytes g y → (f ≡ g) × (x ≡ y)
 family_once bytes f g x y p q =
     let parts = name_once bytes f.name x g.name y (form_code f.form) (form_code g.form) (name_of bytes f x p) (name_of bytes g y q) in
     (same_family f g p.new q.new parts.0 (form_once f.form g.form parts.1), parts.2)
 
 -- no family begins where the name isn't one
-pub no_family : (bytes name rest : List ℕ) (code : ℕ) → StartsWithName bytes name code rest → (IsNamed (family name Persist (at_ts 0)) → ⊥) → (f : FamilyHead) (x : List ℕ) → StartsWith bytes f x → ⊥
+pub no_family : (bytes name rest : List ℕ) (code : ℕ) → StartsWithName bytes name code rest → (IsNamed (family name Persist (at_ts 0)) → ⊥) → (f : FamilyHead) (x : List ℕ) → StartsWithFamily bytes f x → ⊥
 no_family bytes name rest code p bad f x q =
     let parts = name_once bytes name rest f.name x code (form_code f.form) p (name_of bytes f x q) in
     bad (rw parts.0 q.named)
 
 -- nor where the byte for the form is that of none
-pub no_form : (bytes name rest : List ℕ) (code : ℕ) → StartsWithName bytes name code rest → ((form : Form) → code ≡ form_code form → ⊥) → (f : FamilyHead) (x : List ℕ) → StartsWith bytes f x → ⊥
+pub no_form : (bytes name rest : List ℕ) (code : ℕ) → StartsWithName bytes name code rest → ((form : Form) → code ≡ form_code form → ⊥) → (f : FamilyHead) (x : List ℕ) → StartsWithFamily bytes f x → ⊥
 no_form bytes name rest code p bad f x q = bad f.form (name_once bytes name rest f.name x code (form_code f.form) p (name_of bytes f x q)).1
 
 -- a family that was taken apart
-pub put_together : (bytes name rest : List ℕ) (code : ℕ) (form : Form) → StartsWithName bytes name code rest → code ≡ form_code form → IsNamed (family name form (at_ts 0)) → StartsWith bytes (family name form (at_ts 0)) rest
+pub put_together : (bytes name rest : List ℕ) (code : ℕ) (form : Form) → StartsWithName bytes name code rest → code ≡ form_code form → IsNamed (family name form (at_ts 0)) → StartsWithFamily bytes (family name form (at_ts 0)) rest
 put_together bytes name rest code form p is named = record {
   new = refl;
   named = named;
@@ -78,7 +78,7 @@ put_together bytes name rest code form p is named = record {
 abbrev AreFine : List FamilyHead → Type 0
 AreFine families = All IsNewFamily families × All IsNamed families
 
-starts : (f : FamilyHead) (families : List FamilyHead) (rest : List ℕ) → AreFine (f ∷ families) → StartsWith (family_text f ++ rest) f rest
+starts : (f : FamilyHead) (families : List FamilyHead) (rest : List ℕ) → AreFine (f ∷ families) → StartsWithFamily (family_text f ++ rest) f rest
 starts f families rest fine = record { new = All-head IsNewFamily f families fine.0; named = All-head IsNamed f families fine.1; is = refl }
 
 fine_tail : (f : FamilyHead) (families : List FamilyHead) → AreFine (f ∷ families) → AreFine families
@@ -88,7 +88,7 @@ fine_tail f families fine = (All-tail IsNewFamily f families fine.0, All-tail Is
 step : (f g : FamilyHead) (fs gs : List FamilyHead) (x y : List ℕ) → AreFine (f ∷ fs) → AreFine (g ∷ gs) → flat_map family_text (f ∷ fs) ++ x ≡ flat_map family_text (g ∷ gs) ++ y
     → (f ≡ g) × (flat_map family_text fs ++ x ≡ flat_map family_text gs ++ y)
 step f g fs gs x y p q same =
-    let front : StartsWith (family_text g ++ (flat_map family_text gs ++ y)) f (flat_map family_text fs ++ x) = record {
+    let front : StartsWithFamily (family_text g ++ (flat_map family_text gs ++ y)) f (flat_map family_text fs ++ x) = record {
       new = All-head IsNewFamily f fs p.0;
       named = All-head IsNamed f fs p.1;
       is = sym (append_assoc (family_text g) (flat_map family_text gs) y) ∙ sym same ∙ append_assoc (family_text f) (flat_map family_text fs) x;
@@ -106,7 +106,7 @@ as_many (f ∷ fs) (g ∷ gs) x y p q long same =
     (ap (λ (h : FamilyHead). h ∷ fs) first.0 ∙ ap (λ (l : List FamilyHead). g ∷ l) others.0, others.1)
 
 -- where no family goes on there aren't more of them
-pub no_more : (fs gs : List FamilyHead) (x y : List ℕ) → AreFine fs → AreFine gs → length fs < length gs → ((f : FamilyHead) (rest : List ℕ) → StartsWith x f rest → ⊥) → flat_map family_text fs ++ x ≡ flat_map family_text gs ++ y → ⊥
+pub no_more : (fs gs : List FamilyHead) (x y : List ℕ) → AreFine fs → AreFine gs → length fs < length gs → ((f : FamilyHead) (rest : List ℕ) → StartsWithFamily x f rest → ⊥) → flat_map family_text fs ++ x ≡ flat_map family_text gs ++ y → ⊥
 no_more fs [] x y p q long none same = omega arith
 no_more [] (g ∷ gs) x y p q long none same =
     none g (flat_map family_text gs ++ y) (record { new = All-head IsNewFamily g gs q.0; named = All-head IsNamed g gs q.1; is = same ∙ append_assoc (family_text g) (flat_map family_text gs) y })

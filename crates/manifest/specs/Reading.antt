@@ -9,7 +9,7 @@ abbrev pub StartsWithName : List ℕ → List ℕ → ℕ → List ℕ → Type 
 StartsWithName bytes name code rest = bytes ≡ length name ∷ (name ++ code ∷ 8 ∷ rest)
 
 -- the bytes begin with this family
-pub record StartsWith (bytes : List ℕ) (f : FamilyHead) (rest : List ℕ) : Type 0 where
+pub record StartsWithFamily (bytes : List ℕ) (f : FamilyHead) (rest : List ℕ) : Type 0 where
   pub new : IsNewFamily f
   pub named : IsNamed f
   pub is : bytes ≡ family_text f ++ rest

@@ -3,7 +3,7 @@ ghost use Rattle.std.specs.Prelude.{◌≡◌, ◌++◌, ◌∷◌, [], ℕ, Lis
 ghost use Rattle.udt_model.specs.declared.line.FamilyHead.{FamilyHead as FamilyOf};
 ghost use Rattle.ts_key.specs.declared.version.Form.{Form as FormOf};
 ghost use Rattle.manifest.specs.Heads.{IsHead, form_code};
-ghost use Rattle.manifest.specs.Reading.{StartsWithName, StartsWith, AreSpelled};
+ghost use Rattle.manifest.specs.Reading.{StartsWithName, StartsWithFamily, AreSpelled};
 
 use crate::NoMemory;
 use crate::head::{HEAD, PERSIST, STRIP, VERSION, names_differ};
@@ -63,8 +63,8 @@ fn read_family<'a>(
     families: &mut Vec<FamilyHead>,
 ) -> Result<Option<&'a [u8]>, NoMemory>
     ensures { IfOk result (λ o. MatchOption o
-        ((f : FamilyOf) (rest : List ℕ) → StartsWith bytes.now f rest → ⊥)
-        (λ rest. (f : FamilyOf) × StartsWith bytes.now f rest.now × (families.new.items ≡ families.old.items ++ f ∷ []))) }
+        ((f : FamilyOf) (rest : List ℕ) → StartsWithFamily bytes.now f rest → ⊥)
+        (λ rest. (f : FamilyOf) × StartsWithFamily bytes.now f rest.now × (families.new.items ≡ families.old.items ++ f ∷ []))) }
 {
     let Some((name, code, rest)) = split_name(bytes) else {
         return Ok(None);

@@ -53,8 +53,8 @@ abbrev pub is_live : List FamilyFold → ℕ → Bool
 is_live fs n = list_any (λ (f : FamilyFold). has_table_number f.tables n) fs
 
 -- the number isn't live once these are taken out
-abbrev pub IsFree : List FamilyFold → List ℕ → ℕ → Type 0
-IsFree fs removed n = IsTrue (list_any (λ m. m == n) removed || not (is_live fs n))
+abbrev pub IsFreeNumber : List FamilyFold → List ℕ → ℕ → Type 0
+IsFreeNumber fs removed n = IsTrue (list_any (λ m. m == n) removed || not (is_live fs n))
 
 -- what an edit may change of the logs
 pub record IsLogsEdit (logs : List ℕ) (edit : Edit) : Type 0 where
@@ -71,7 +71,7 @@ pub record IsTablesEdit (fs : List FamilyFold) (next : ℕ) (old : FamilyFold) (
   pub levels : All (λ (t : TableAt). t.level ≤ LOWEST_LEVEL) e.add
   pub below : All (λ (t : TableAt). t.number < next) e.add
   pub live : All (λ n. IsTrue (has_table_number old.tables n)) e.remove
-  pub free : All (λ (t : TableAt). IsFree fs e.remove t.number) e.add
+  pub free : All (λ (t : TableAt). IsFreeNumber fs e.remove t.number) e.add
 
 -- what it may change of a family
 pub record IsFamilyEdit (fs : List FamilyFold) (edit : Edit) (old : FamilyFold) (e : FamilyEdit) : Type 0 where

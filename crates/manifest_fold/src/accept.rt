@@ -3,7 +3,7 @@
 ghost use Rattle.std.specs.Prelude.{◌≡◌, ◌<◌, ◌≤◌, ◌==◌, ◌↔◌, IsTrue, All, map, take, length, slice_index};
 ghost use Rattle.std.specs.List.{list_any};
 ghost use Rattle.std.specs.List.Sorted.{IsStrictlyIncreasing};
-ghost use Rattle.manifest_fold.specs.Folds.{IsAccepted, IsLogsEdit, IsPart, IsOnePart, IsTablesEdit, IsFree, is_live, newest_log};
+ghost use Rattle.manifest_fold.specs.Folds.{IsAccepted, IsLogsEdit, IsPart, IsOnePart, IsTablesEdit, IsFreeNumber, is_live, newest_log};
 ghost use Rattle.manifest_edit.specs.LiveTables.{has_table_number};
 ghost use Rattle.manifest_edit.specs.declared.edit.TableAt.{TableAt as Table};
 
@@ -155,7 +155,7 @@ fn are_live(tables: &LiveTables, numbers: &[u64]) -> bool
 
 fn are_free(families: &[FamilyFold], removed: &[u64], tables: &[TableAt]) -> bool
     requires { IsStrictlyIncreasing removed.now }
-    ensures { IsTrue result ↔ All (λ (t : Table). IsFree families.now removed.now t.number) tables.now }
+    ensures { IsTrue result ↔ All (λ (t : Table). IsFreeNumber families.now removed.now t.number) tables.now }
 {
     tables
         .iter()
@@ -164,7 +164,7 @@ fn are_free(families: &[FamilyFold], removed: &[u64], tables: &[TableAt]) -> boo
 
 fn is_free(families: &[FamilyFold], removed: &[u64], number: u64) -> bool
     requires { IsStrictlyIncreasing removed.now }
-    ensures { IsTrue result ↔ IsFree families.now removed.now number }
+    ensures { IsTrue result ↔ IsFreeNumber families.now removed.now number }
 {
     !has_live(families, number) || has_word(removed, number)
 }

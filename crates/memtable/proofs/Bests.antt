@@ -12,11 +12,11 @@ use Rattle.ts_key.specs.Order.{SortKey}
 use Rattle.ts_key.specs.Order as order
 use Rattle.ts_key.specs.Orders as orders
 use Rattle.ts_key.specs.Items.{Item, item_of, items_of}
-use Rattle.ts_key.specs.Visible.{is_newer, newer, newest_of, is_of, is_seen, visible, newest, newest_ts}
+use Rattle.ts_key.specs.Visible.{is_item_newer, newer_item, newest_item, is_item_of, is_item_seen, visible_item, newest, newest_ts}
 use Rattle.ts_key.specs.Firsts.{later_not_newer, of_its_key, seen_of_key}
 use Rattle.sorted_run.specs.Runs.{latest_of}
-use Rattle.sorted_run.specs.Sorts.{is_before, with_version, sorted}
-use Rattle.memtable.specs.Memtables.{joined, newer_of, is_above, greater, reaches}
+use Rattle.sorted_run.specs.Sorts.{is_sorted_before, with_sorted, sorted}
+use Rattle.memtable.specs.Memtables.{joined, newer_of, is_version_above, greater, reaches}
 
 -- ---- which of two is newer, by numbers
 
@@ -46,24 +46,24 @@ below_not_newer : (a b c d : ℕ) → c < a → (nat_lt a c || (c == a && nat_lt
 below_not_newer a b c d h = grind (arith, nat_tests)
 
 module _ (a b c : Item) where
-  newer_trans : is_newer c b ≡ true → is_newer b a ≡ true → is_newer c a ≡ true
+  newer_trans : is_item_newer c b ≡ true → is_item_newer b a ≡ true → is_item_newer c a ≡ true
   newer_trans h g = both_newer a.sort_key.ts a.sort_key.seq b.sort_key.ts b.sort_key.seq c.sort_key.ts c.sort_key.seq h g
 
-  upto_trans : is_newer c b ≡ false → is_newer b a ≡ false → is_newer c a ≡ false
+  upto_trans : is_item_newer c b ≡ false → is_item_newer b a ≡ false → is_item_newer c a ≡ false
   upto_trans h g = none_newer a.sort_key.ts a.sort_key.seq b.sort_key.ts b.sort_key.seq c.sort_key.ts c.sort_key.seq h g
 
 clash : (b : Bool) → b ≡ true → b ≡ false → ⊥
 clash b x y = cc
 
 -- what comes first of one key in the stored order is newer
-before_newer : (x v : Item) → order.is_before x.sort_key v.sort_key ≡ true → x.sort_key.key ≡ v.sort_key.key → is_newer x v ≡ true
+before_newer : (x v : Item) → order.is_before x.sort_key v.sort_key ≡ true → x.sort_key.key ≡ v.sort_key.key → is_item_newer x v ≡ true
 before_newer x v h same =
-    elim (cases_Bool (is_newer x v)) [
+    elim (cases_Bool (is_item_newer x v)) [
       | inl y ↦ y
       | inr y ↦
           let p = x.sort_key in
           let q = v.sort_key in
-          let back : is_newer v x ≡ false = later_not_newer x v same (orders.before_back p q h) in
+          let back : is_item_newer v x ≡ false = later_not_newer x v same (orders.before_back p q h) in
           let t : q.ts ≡ p.ts = first_alike q.ts q.seq p.ts p.seq y back in
           let s : q.seq ≡ p.seq = second_alike q.ts q.seq p.ts p.seq y back in
           let alike : p ≡ q = λ i. record { key = same i; ts = sym t i; seq = sym s i } in
@@ -78,101 +78,101 @@ choose b x y e = rw e refl
 leave : {X : Type 0} (b : Bool) (x y : X) → b ≡ false → cond b x y ≡ y
 leave b x y e = rw e refl
 
-pub newer-assoc : (x y z : Option Item) → newer x (newer y z) ≡ newer (newer x y) z
+pub newer-assoc : (x y z : Option Item) → newer_item x (newer_item y z) ≡ newer_item (newer_item x y) z
 newer-assoc None y z = refl
 newer-assoc (Some a) None z = refl
 newer-assoc (Some a) (Some b) None =
-    elim (cases_Bool (is_newer b a)) [
+    elim (cases_Bool (is_item_newer b a)) [
       | inl y ↦ rw y refl
       | inr y ↦ rw y refl
     ]
 newer-assoc (Some a) (Some b) (Some c) =
-    elim (cases_Bool (is_newer c b)) [
-      | inl y ↦ elim (cases_Bool (is_newer b a)) [
-        | inl z ↦ ap (newer (Some a)) (choose (is_newer c b) (Some c) (Some b) y) ∙ choose (is_newer c a) (Some c) (Some a) (newer_trans a b c y z) ∙ sym (ap (λ o. newer o (Some c)) (choose (is_newer b a) (Some b) (Some a) z) ∙ choose (is_newer c b) (Some c) (Some b) y)
-        | inr z ↦ ap (newer (Some a)) (choose (is_newer c b) (Some c) (Some b) y) ∙ sym (ap (λ o. newer o (Some c)) (leave (is_newer b a) (Some b) (Some a) z))
+    elim (cases_Bool (is_item_newer c b)) [
+      | inl y ↦ elim (cases_Bool (is_item_newer b a)) [
+        | inl z ↦ ap (newer_item (Some a)) (choose (is_item_newer c b) (Some c) (Some b) y) ∙ choose (is_item_newer c a) (Some c) (Some a) (newer_trans a b c y z) ∙ sym (ap (λ o. newer_item o (Some c)) (choose (is_item_newer b a) (Some b) (Some a) z) ∙ choose (is_item_newer c b) (Some c) (Some b) y)
+        | inr z ↦ ap (newer_item (Some a)) (choose (is_item_newer c b) (Some c) (Some b) y) ∙ sym (ap (λ o. newer_item o (Some c)) (leave (is_item_newer b a) (Some b) (Some a) z))
       ]
-      | inr y ↦ elim (cases_Bool (is_newer b a)) [
-        | inl z ↦ ap (newer (Some a)) (leave (is_newer c b) (Some c) (Some b) y) ∙ choose (is_newer b a) (Some b) (Some a) z ∙ sym (ap (λ o. newer o (Some c)) (choose (is_newer b a) (Some b) (Some a) z) ∙ leave (is_newer c b) (Some c) (Some b) y)
-        | inr z ↦ ap (newer (Some a)) (leave (is_newer c b) (Some c) (Some b) y) ∙ leave (is_newer b a) (Some b) (Some a) z ∙ sym (ap (λ o. newer o (Some c)) (leave (is_newer b a) (Some b) (Some a) z) ∙ leave (is_newer c a) (Some c) (Some a) (upto_trans a b c y z))
+      | inr y ↦ elim (cases_Bool (is_item_newer b a)) [
+        | inl z ↦ ap (newer_item (Some a)) (leave (is_item_newer c b) (Some c) (Some b) y) ∙ choose (is_item_newer b a) (Some b) (Some a) z ∙ sym (ap (λ o. newer_item o (Some c)) (choose (is_item_newer b a) (Some b) (Some a) z) ∙ leave (is_item_newer c b) (Some c) (Some b) y)
+        | inr z ↦ ap (newer_item (Some a)) (leave (is_item_newer c b) (Some c) (Some b) y) ∙ leave (is_item_newer b a) (Some b) (Some a) z ∙ sym (ap (λ o. newer_item o (Some c)) (leave (is_item_newer b a) (Some b) (Some a) z) ∙ leave (is_item_newer c a) (Some c) (Some a) (upto_trans a b c y z))
       ]
     ]
 
 -- ---- lists one after the other
 
-pub tested-append : (p : Item → Bool) (vs ws : List Version) → newest_of (filter p (items_of (vs ++ ws))) ≡ newer (newest_of (filter p (items_of vs))) (newest_of (filter p (items_of ws)))
+pub tested-append : (p : Item → Bool) (vs ws : List Version) → newest_item (filter p (items_of (vs ++ ws))) ≡ newer_item (newest_item (filter p (items_of vs))) (newest_item (filter p (items_of ws)))
 tested-append p [] ws = refl
 tested-append p (v ∷ vs) ws =
     elim (cases_Bool (p (item_of v))) [
-      | inl y ↦ rw y (ap (newer (Some (item_of v))) (tested-append p vs ws) ∙ newer-assoc (Some (item_of v)) (newest_of (filter p (items_of vs))) (newest_of (filter p (items_of ws))))
+      | inl y ↦ rw y (ap (newer_item (Some (item_of v))) (tested-append p vs ws) ∙ newer-assoc (Some (item_of v)) (newest_item (filter p (items_of vs))) (newest_item (filter p (items_of ws))))
       | inr y ↦ rw y (tested-append p vs ws)
     ]
 
 -- ---- lists sorted
 
 module _ (key : List ℕ) (test : Item → Bool) (own : (v : Item) → test v ≡ true → v.sort_key.key ≡ key) where
-  swap : (x v : Item) → is_newer x v ≡ true → newer (Some x) (Some v) ≡ newer (Some v) (Some x)
+  swap : (x v : Item) → is_item_newer x v ≡ true → newer_item (Some x) (Some v) ≡ newer_item (Some v) (Some x)
   swap x v h =
-      let back : is_newer v x ≡ false = newer_back v.sort_key.ts v.sort_key.seq x.sort_key.ts x.sort_key.seq h in
-      leave (is_newer v x) (Some v) (Some x) back ∙ sym (choose (is_newer x v) (Some x) (Some v) h)
+      let back : is_item_newer v x ≡ false = newer_back v.sort_key.ts v.sort_key.seq x.sort_key.ts x.sort_key.seq h in
+      leave (is_item_newer v x) (Some v) (Some x) back ∙ sym (choose (is_item_newer x v) (Some x) (Some v) h)
 
-  over : (a b : Bool) (x v : Item) (F G : List Item) → (a ≡ true → b ≡ true → is_newer x v ≡ true) → newest_of G ≡ newest_of (cond b (v ∷ F) F) → newest_of (cond a (x ∷ G) G) ≡ newest_of (cond b (v ∷ cond a (x ∷ F) F) (cond a (x ∷ F) F))
+  over : (a b : Bool) (x v : Item) (F G : List Item) → (a ≡ true → b ≡ true → is_item_newer x v ≡ true) → newest_item G ≡ newest_item (cond b (v ∷ F) F) → newest_item (cond a (x ∷ G) G) ≡ newest_item (cond b (v ∷ cond a (x ∷ F) F) (cond a (x ∷ F) F))
   over false b x v F G h ih = ih
-  over true false x v F G h ih = ap (newer (Some x)) ih
+  over true false x v F G h ih = ap (newer_item (Some x)) ih
   over true true x v F G h ih =
-      ap (newer (Some x)) ih
-      ∙ newer-assoc (Some x) (Some v) (newest_of F)
-      ∙ ap (λ o. newer o (newest_of F)) (swap x v (h refl refl))
-      ∙ sym (newer-assoc (Some v) (Some x) (newest_of F))
+      ap (newer_item (Some x)) ih
+      ∙ newer-assoc (Some x) (Some v) (newest_item F)
+      ∙ ap (λ o. newer_item o (newest_item F)) (swap x v (h refl refl))
+      ∙ sym (newer-assoc (Some v) (Some x) (newest_item F))
 
-  tested-with : (v : Version) (vs : List Version) → newest_of (filter test (items_of (with_version v vs))) ≡ newest_of (filter test (items_of (v ∷ vs)))
+  tested-with : (v : Version) (vs : List Version) → newest_item (filter test (items_of (with_sorted v vs))) ≡ newest_item (filter test (items_of (v ∷ vs)))
   tested-with v [] = refl
   tested-with v (x ∷ xs) =
-      elim (cases_Bool (is_before x v)) [
-        | inl y ↦ rw y (over (test (item_of x)) (test (item_of v)) (item_of x) (item_of v) (filter test (items_of xs)) (filter test (items_of (with_version v xs)))
+      elim (cases_Bool (is_sorted_before x v)) [
+        | inl y ↦ rw y (over (test (item_of x)) (test (item_of v)) (item_of x) (item_of v) (filter test (items_of xs)) (filter test (items_of (with_sorted v xs)))
             (λ a b. before_newer (item_of x) (item_of v) y (own (item_of x) a ∙ sym (own (item_of v) b))) (tested-with v xs))
         | inr y ↦ rw y refl
       ]
 
-  on_front : (b : Bool) (x : Item) (F G : List Item) → newest_of F ≡ newest_of G → newest_of (cond b (x ∷ F) F) ≡ newest_of (cond b (x ∷ G) G)
-  on_front true x F G h = ap (newer (Some x)) h
+  on_front : (b : Bool) (x : Item) (F G : List Item) → newest_item F ≡ newest_item G → newest_item (cond b (x ∷ F) F) ≡ newest_item (cond b (x ∷ G) G)
+  on_front true x F G h = ap (newer_item (Some x)) h
   on_front false x F G h = h
 
-  tested-sorted : (vs : List Version) → newest_of (filter test (items_of (sorted vs))) ≡ newest_of (filter test (items_of vs))
+  tested-sorted : (vs : List Version) → newest_item (filter test (items_of (sorted vs))) ≡ newest_item (filter test (items_of vs))
   tested-sorted [] = refl
   tested-sorted (v ∷ vs) = tested-with v (sorted vs) ∙ on_front (test (item_of v)) (item_of v) (filter test (items_of (sorted vs))) (filter test (items_of vs)) (tested-sorted vs)
 
-pub visible-sorted : (vs : List Version) (key : List ℕ) (t s : ℕ) → visible (items_of (sorted vs)) key t s ≡ visible (items_of vs) key t s
-visible-sorted vs key t s = tested-sorted key (is_seen key t s) (seen_of_key key t s) vs
+pub visible-sorted : (vs : List Version) (key : List ℕ) (t s : ℕ) → visible_item (items_of (sorted vs)) key t s ≡ visible_item (items_of vs) key t s
+visible-sorted vs key t s = tested-sorted key (is_item_seen key t s) (seen_of_key key t s) vs
 
 pub newest_ts-sorted : (vs : List Version) (key : List ℕ) → newest_ts (items_of (sorted vs)) key ≡ newest_ts (items_of vs) key
-newest_ts-sorted vs key = ap (option_map (λ v. v.sort_key.ts)) (tested-sorted key (is_of key) (of_its_key key) vs)
+newest_ts-sorted vs key = ap (option_map (λ v. v.sort_key.ts)) (tested-sorted key (is_item_of key) (of_its_key key) vs)
 
 -- ---- timestamps alone
 
 abbrev ts_of : Option Item → Option ℕ
 ts_of o = option_map (λ v. v.sort_key.ts) o
 
-ts_of-newer : (a b : Option Item) → ts_of (newer a b) ≡ greater (ts_of a) (ts_of b)
+ts_of-newer : (a b : Option Item) → ts_of (newer_item a b) ≡ greater (ts_of a) (ts_of b)
 ts_of-newer None b = refl
 ts_of-newer (Some a) None = refl
 ts_of-newer (Some a) (Some b) =
-    elim (cases_Bool (is_newer b a)) [
-      | inl y ↦ ap ts_of (choose (is_newer b a) (Some b) (Some a) y) ∙ ap Some (newer_max a.sort_key.ts a.sort_key.seq b.sort_key.ts b.sort_key.seq y)
-      | inr y ↦ ap ts_of (leave (is_newer b a) (Some b) (Some a) y) ∙ ap Some (other_max a.sort_key.ts a.sort_key.seq b.sort_key.ts b.sort_key.seq y)
+    elim (cases_Bool (is_item_newer b a)) [
+      | inl y ↦ ap ts_of (choose (is_item_newer b a) (Some b) (Some a) y) ∙ ap Some (newer_max a.sort_key.ts a.sort_key.seq b.sort_key.ts b.sort_key.seq y)
+      | inr y ↦ ap ts_of (leave (is_item_newer b a) (Some b) (Some a) y) ∙ ap Some (other_max a.sort_key.ts a.sort_key.seq b.sort_key.ts b.sort_key.seq y)
     ]
 
 pub newest_ts-append : (vs ws : List Version) (key : List ℕ) → newest_ts (items_of (vs ++ ws)) key ≡ greater (newest_ts (items_of vs) key) (newest_ts (items_of ws) key)
-newest_ts-append vs ws key = ap ts_of (tested-append (is_of key) vs ws) ∙ ts_of-newer (newest (items_of vs) key) (newest (items_of ws) key)
+newest_ts-append vs ws key = ap ts_of (tested-append (is_item_of key) vs ws) ∙ ts_of-newer (newest (items_of vs) key) (newest (items_of ws) key)
 
 -- ---- none is above the latest
 
-newer_if : (P : Item → Type 0) (a : Item) (o : Option Item) → P a → IfSome o P → IfSome (newer (Some a) o) P
+newer_if : (P : Item → Type 0) (a : Item) (o : Option Item) → P a → IfSome o P → IfSome (newer_item (Some a) o) P
 newer_if P a None h g = h
 newer_if P a (Some b) h g =
-    elim (cases_Bool (is_newer b a)) [
-      | inl y ↦ subst (λ (o : Option Item). IfSome o P) (sym (choose (is_newer b a) (Some b) (Some a) y)) g
-      | inr y ↦ subst (λ (o : Option Item). IfSome o P) (sym (leave (is_newer b a) (Some b) (Some a) y)) h
+    elim (cases_Bool (is_item_newer b a)) [
+      | inl y ↦ subst (λ (o : Option Item). IfSome o P) (sym (choose (is_item_newer b a) (Some b) (Some a) y)) g
+      | inr y ↦ subst (λ (o : Option Item). IfSome o P) (sym (leave (is_item_newer b a) (Some b) (Some a) y)) h
     ]
 
 some_more : (P Q : Item → Type 0) (o : Option Item) → ((v : Item) → P v → Q v) → IfSome o P → IfSome o Q
@@ -182,20 +182,20 @@ some_more P Q (Some v) f h = f v h
 abbrev Upto : ℕ → Item → Type 0
 Upto n v = v.sort_key.ts ≤ n
 
-front_upto : (b : Bool) (v : Item) (F : List Item) (n : ℕ) → Upto n v → IfSome (newest_of F) (Upto n) → IfSome (newest_of (cond b (v ∷ F) F)) (Upto n)
-front_upto true v F n h g = newer_if (Upto n) v (newest_of F) h g
+front_upto : (b : Bool) (v : Item) (F : List Item) (n : ℕ) → Upto n v → IfSome (newest_item F) (Upto n) → IfSome (newest_item (cond b (v ∷ F) F)) (Upto n)
+front_upto true v F n h g = newer_if (Upto n) v (newest_item F) h g
 front_upto false v F n h g = g
 
-tested_upto : (p : Item → Bool) (vs : List Version) → IfSome (newest_of (filter p (items_of vs))) (Upto (latest_of vs))
+tested_upto : (p : Item → Bool) (vs : List Version) → IfSome (newest_item (filter p (items_of vs))) (Upto (latest_of vs))
 tested_upto p [] = tt
 tested_upto p (v ∷ vs) =
     front_upto (p (item_of v)) (item_of v) (filter p (items_of vs)) (max v.ts.0 (latest_of vs)) (omega arith)
-    (some_more (Upto (latest_of vs)) (Upto (max v.ts.0 (latest_of vs))) (newest_of (filter p (items_of vs))) (λ w h. omega arith) (tested_upto p vs))
+    (some_more (Upto (latest_of vs)) (Upto (max v.ts.0 (latest_of vs))) (newest_item (filter p (items_of vs))) (λ w h. omega arith) (tested_upto p vs))
 
 -- what is above the latest of a list stays the newest
-stays : (v : Item) (o : Option Item) (n : ℕ) → n < v.sort_key.ts → IfSome o (Upto n) → newer (Some v) o ≡ Some v
+stays : (v : Item) (o : Option Item) (n : ℕ) → n < v.sort_key.ts → IfSome o (Upto n) → newer_item (Some v) o ≡ Some v
 stays v None n l h = refl
-stays v (Some w) n l h = leave (is_newer w v) (Some w) (Some v) (below_not_newer v.sort_key.ts v.sort_key.seq w.sort_key.ts w.sort_key.seq (omega (arith, l, h)))
+stays v (Some w) n l h = leave (is_item_newer w v) (Some w) (Some v) (below_not_newer v.sort_key.ts v.sort_key.seq w.sort_key.ts w.sort_key.seq (omega (arith, l, h)))
 
 lt_from : (a b : ℕ) → nat_lt a b ≡ true → a < b
 lt_from a b e = grind (arith, nat_tests)
@@ -203,9 +203,9 @@ lt_from a b e = grind (arith, nat_tests)
 le_from : (a b : ℕ) → nat_le a b ≡ true → a ≤ b
 le_from a b e = grind (arith, nat_tests)
 
-pub passes_over : (best : Option Version) (vs : List Version) (key : List ℕ) (t s : ℕ) → is_above best (latest_of vs) ≡ true → option_map item_of best ≡ newer (option_map item_of best) (visible (items_of vs) key t s)
+pub passes_over : (best : Option Version) (vs : List Version) (key : List ℕ) (t s : ℕ) → is_version_above best (latest_of vs) ≡ true → option_map item_of best ≡ newer_item (option_map item_of best) (visible_item (items_of vs) key t s)
 passes_over None vs key t s e = absurd cc
-passes_over (Some v) vs key t s e = sym (stays (item_of v) (visible (items_of vs) key t s) (latest_of vs) (lt_from (latest_of vs) v.ts.0 e) (tested_upto (is_seen key t s) vs))
+passes_over (Some v) vs key t s e = sym (stays (item_of v) (visible_item (items_of vs) key t s) (latest_of vs) (lt_from (latest_of vs) v.ts.0 e) (tested_upto (is_item_seen key t s) vs))
 
 no_greater : (m : ℕ) (o : Option Item) (n : ℕ) → n ≤ m → IfSome o (Upto n) → Some m ≡ greater (Some m) (ts_of o)
 no_greater m None n l h = refl
@@ -213,15 +213,15 @@ no_greater m (Some v) n l h = ap Some (omega (arith, l, h))
 
 pub passes_by : (best : Option ℕ) (vs : List Version) (key : List ℕ) → reaches best (latest_of vs) ≡ true → best ≡ greater best (newest_ts (items_of vs) key)
 passes_by None vs key e = absurd cc
-passes_by (Some m) vs key e = no_greater m (newest (items_of vs) key) (latest_of vs) (le_from (latest_of vs) m e) (tested_upto (is_of key) vs)
+passes_by (Some m) vs key e = no_greater m (newest (items_of vs) key) (latest_of vs) (le_from (latest_of vs) m e) (tested_upto (is_item_of key) vs)
 
 -- ---- the best of what is lent
 
-pub item-newer_of : (a b : Option Version) → option_map item_of (newer_of a b) ≡ newer (option_map item_of a) (option_map item_of b)
+pub item-newer_of : (a b : Option Version) → option_map item_of (newer_of a b) ≡ newer_item (option_map item_of a) (option_map item_of b)
 item-newer_of None b = refl
 item-newer_of (Some a) None = refl
 item-newer_of (Some a) (Some b) =
-    elim (cases_Bool (is_newer (item_of b) (item_of a))) [
+    elim (cases_Bool (is_item_newer (item_of b) (item_of a))) [
       | inl y ↦ rw y refl
       | inr y ↦ rw y refl
     ]
@@ -230,7 +230,7 @@ newer_of_has : (P : Version → Type 0) (a b : Option Version) → IfSome a P �
 newer_of_has P None b h g = g
 newer_of_has P (Some a) None h g = h
 newer_of_has P (Some a) (Some b) h g =
-    elim (cases_Bool (is_newer (item_of b) (item_of a))) [
+    elim (cases_Bool (is_item_newer (item_of b) (item_of a))) [
       | inl y ↦ rw y g
       | inr y ↦ rw y h
     ]
@@ -273,10 +273,10 @@ pub latest-append : (vs ws : List Version) → latest_of (vs ++ ws) ≡ max (lat
 latest-append [] ws = omega arith
 latest-append (v ∷ vs) ws = omega (arith, latest-append vs ws)
 
-latest-with : (v : Version) (vs : List Version) → latest_of (with_version v vs) ≡ max v.ts.0 (latest_of vs)
+latest-with : (v : Version) (vs : List Version) → latest_of (with_sorted v vs) ≡ max v.ts.0 (latest_of vs)
 latest-with v [] = refl
 latest-with v (x ∷ xs) =
-    elim (cases_Bool (is_before x v)) [
+    elim (cases_Bool (is_sorted_before x v)) [
       | inl y ↦ rw y (omega (arith, latest-with v xs))
       | inr y ↦ rw y refl
     ]

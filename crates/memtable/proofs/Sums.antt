@@ -5,15 +5,15 @@ use Rattle.std.specs.List.{AllByRecursion}
 use Rattle.std.proofs.lemmas.Bool.Decides.{nat_tests}
 use Rattle.std.proofs.lemmas.Bool.{cases_Bool}
 use Rattle.ts_key.specs.declared.version.Version.{Version}
-use Rattle.sorted_run.specs.Sorts.{is_before, with_version, sorted}
+use Rattle.sorted_run.specs.Sorts.{is_sorted_before, with_sorted, sorted}
 use Rattle.sorted_run.proofs.Sorting.{sorted-left, sorted-right}
-use Rattle.memtable.specs.Memtables.{joined, weight, weight_of, bytes_of}
+use Rattle.memtable.specs.Memtables.{joined, weight, weight_of, capped_weight}
 use Rattle.memtable.specs.declared.limits.TheConstants.{BYTES_LIMIT}
 
-length-with : (v : Version) (vs : List Version) → length (with_version v vs) ≡ suc (length vs)
+length-with : (v : Version) (vs : List Version) → length (with_sorted v vs) ≡ suc (length vs)
 length-with v [] = refl
 length-with v (x ∷ xs) =
-    elim (cases_Bool (is_before x v)) [
+    elim (cases_Bool (is_sorted_before x v)) [
       | inl y ↦ rw y (ap suc (length-with v xs))
       | inr y ↦ rw y refl
     ]
@@ -22,10 +22,10 @@ pub length-sorted : (vs : List Version) → length (sorted vs) ≡ length vs
 length-sorted [] = refl
 length-sorted (v ∷ vs) = length-with v (sorted vs) ∙ ap suc (length-sorted vs)
 
-weight-with : (v : Version) (vs : List Version) → weight_of (with_version v vs) ≡ weight v + weight_of vs
+weight-with : (v : Version) (vs : List Version) → weight_of (with_sorted v vs) ≡ weight v + weight_of vs
 weight-with v [] = refl
 weight-with v (x ∷ xs) =
-    elim (cases_Bool (is_before x v)) [
+    elim (cases_Bool (is_sorted_before x v)) [
       | inl y ↦ rw y (omega (arith, weight-with v xs))
       | inr y ↦ rw y refl
     ]
@@ -42,10 +42,10 @@ pub all-append : (P : Version → Type 0) (xs ys : List Version) → AllByRecurs
 all-append P [] ys h g = g
 all-append P (x ∷ xs) ys h g = (h.0, all-append P xs ys h.1 g)
 
-all-with : (P : Version → Type 0) (v : Version) (vs : List Version) → P v → AllByRecursion P vs → AllByRecursion P (with_version v vs)
+all-with : (P : Version → Type 0) (v : Version) (vs : List Version) → P v → AllByRecursion P vs → AllByRecursion P (with_sorted v vs)
 all-with P v [] p h = (p, tt)
 all-with P v (x ∷ xs) p h =
-    elim (cases_Bool (is_before x v)) [
+    elim (cases_Bool (is_sorted_before x v)) [
       | inl y ↦ rw y (h.0, all-with P v xs p h.1)
       | inr y ↦ rw y (p, h)
     ]
@@ -92,7 +92,7 @@ module _ (batch : List Version) (rs : List (List Version)) (n : ℕ) (run : List
       let c = ap weight_of (sym (joined_parts rs n)) ∙ weight-append (joined (take n rs)) (joined (drop n rs)) in
       omega (arith, a, b, c)
 
-  pub absorbs_bytes : (old more : ℕ) → old ≡ bytes_of (joined rs) → more ≡ bytes_of batch → min (old + more) BYTES_LIMIT ≡ bytes_of (run ++ joined (drop n rs))
+  pub absorbs_bytes : (old more : ℕ) → old ≡ capped_weight (joined rs) → more ≡ capped_weight batch → min (old + more) BYTES_LIMIT ≡ capped_weight (run ++ joined (drop n rs))
   absorbs_bytes old more e f = let w = absorbs_weight in omega (arith, e, f, w)
 
 -- ---- one run more is merged in

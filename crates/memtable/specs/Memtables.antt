@@ -4,7 +4,7 @@ use Rattle.std.specs.List.{AllByRecursion}
 use Rattle.ts_key.specs.declared.numbers.Family.{Family}
 use Rattle.ts_key.specs.declared.version.Version.{Version}
 use Rattle.ts_key.specs.Items.{item_of, value_of}
-use Rattle.ts_key.specs.Visible.{is_newer}
+use Rattle.ts_key.specs.Visible.{is_item_newer}
 use Rattle.sorted_run.specs.Sorts.{sorted}
 use Rattle.memtable.specs.declared.limits.TheConstants.{BYTES_LIMIT}
 
@@ -19,8 +19,8 @@ joined [] = []
 joined (vs ∷ rest) = vs ++ joined rest
 
 -- all versions of a memtable, in the stored order
-abbrev pub versions_of : Memtable → List Version
-versions_of m = sorted (joined m.runs)
+abbrev pub versions_of_memtable : Memtable → List Version
+versions_of_memtable m = sorted (joined m.runs)
 
 -- none is empty, and each has at least twice as many versions as the next newer one, which stands before it
 abbrev pub AreDoubled : List (List Version) → Type 0
@@ -38,15 +38,15 @@ abbrev pub weight_of : List Version → ℕ
 weight_of [] = 0
 weight_of (v ∷ vs) = weight v + weight_of vs
 
-abbrev pub bytes_of : List Version → ℕ
-bytes_of vs = min (weight_of vs) BYTES_LIMIT
+abbrev pub capped_weight : List Version → ℕ
+capped_weight vs = min (weight_of vs) BYTES_LIMIT
 
 -- ---- a memtable and its parts
 
 pub record IsMemtable (family : Family) (runs : List (List Version)) (total : ℕ) : Type 0 where
   pub doubled : AreDoubled runs
   pub own : AllByRecursion (λ (v : Version). v.family ≡ family) (joined runs)
-  pub bytes : total ≡ bytes_of (joined runs)
+  pub bytes : total ≡ capped_weight (joined runs)
 
 -- After a batch the new runs are the old ones, kept, with the batch's before them, where the newest has at least twice as
 -- many versions as the batch, and where there was none.
@@ -81,12 +81,12 @@ pub record IsAbsorbed (batch : List Version) (runs : List (List Version)) (run :
 abbrev pub newer_of : Option Version → Option Version → Option Version
 newer_of None b = b
 newer_of (Some a) None = Some a
-newer_of (Some a) (Some b) = if is_newer (item_of b) (item_of a) then Some b else Some a
+newer_of (Some a) (Some b) = if is_item_newer (item_of b) (item_of a) then Some b else Some a
 
 -- there is one, and its timestamp is above this one
-abbrev pub is_above : Option Version → ℕ → Bool
-is_above None ts = false
-is_above (Some v) ts = nat_lt ts v.ts.0
+abbrev pub is_version_above : Option Version → ℕ → Bool
+is_version_above None ts = false
+is_version_above (Some v) ts = nat_lt ts v.ts.0
 
 -- the greater of two that may be missing
 abbrev pub greater : Option ℕ → Option ℕ → Option ℕ

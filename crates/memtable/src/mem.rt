@@ -4,10 +4,10 @@ ghost use Rattle.std.specs.Arc.{arc_value};
 ghost use Rattle.std.specs.Option.{option_copied};
 ghost use Rattle.ts_key.specs.Items.{item_of, items_of};
 ghost use Rattle.ts_key.specs.Lists.{IsOrdered};
-ghost use Rattle.ts_key.specs.Visible.{newest_ts, visible};
+ghost use Rattle.ts_key.specs.Visible.{newest_ts, visible_item};
 ghost use Rattle.sorted_run.specs.Runs.{latest_of};
 ghost use Rattle.sorted_run.specs.Sorts.{sorted};
-ghost use Rattle.memtable.specs.Memtables.{AreDoubled, KeepsRuns, Memtable, MergesLeast, bytes_of, joined, versions_of};
+ghost use Rattle.memtable.specs.Memtables.{AreDoubled, KeepsRuns, Memtable, MergesLeast, capped_weight, joined, versions_of_memtable};
 
 use crate::limits::BYTES_LIMIT;
 use crate::runs;
@@ -19,7 +19,8 @@ use std::sync::ledger::Ledger;
 use ts_key::{Family, NoMemory, Seq, Ts, Version};
 
 /// The versions of one family in memory: a list of runs, the newest first, each at least twice as long as the one before
-/// it. Copies share the runs. Contracts see the family and the runs; `versions_of` is what they hold together, in the
+/// it. Copies share the runs. Contracts see the family and the runs; `versions_of_memtable` is what they hold together,
+/// in the
 /// stored order.
 #[derive(Drop)]
 pub struct Mem {
@@ -59,7 +60,7 @@ impl Mem {
     pub fn with(&self, versions: &[Version]) -> Result<Mem, NoMemory>
         requires { All (λ v. v.family ≡ self.now.family) versions.now }
         ensures family { IfOk result (λ mem. mem.family ≡ self.now.family) }
-        ensures versions { IfOk result (λ mem. versions_of mem ≡ sorted (versions.now ++ versions_of self.now)) }
+        ensures versions { IfOk result (λ mem. versions_of_memtable mem ≡ sorted (versions.now ++ versions_of_memtable self.now)) }
         ensures copy { versions.now ≡ [] → IfOk result (λ mem. mem ≡ self.now) }
         ensures keeps { 1 ≤ length versions.now → IfOk result (λ mem. KeepsRuns versions.now self.now.runs mem.runs) }
         ensures merges { 1 ≤ length versions.now → IfOk result (λ mem. MergesLeast versions.now self.now.runs mem.runs) }
@@ -105,7 +106,7 @@ impl Mem {
     /// The newest version of the key, by timestamp and then by sequence, among those with a timestamp up to `t` and a
     /// sequence up to `s`.
     pub fn find(&self, key: &[u8], t: Ts, s: Seq) -> Option<&Version>
-        ensures visible { option_map item_of (option_copied result) ≡ visible (items_of (versions_of self.now)) key.now t.0 s.0 }
+        ensures visible { option_map item_of (option_copied result) ≡ visible_item (items_of (versions_of_memtable self.now)) key.now t.0 s.0 }
         ensures among { IfSome result (λ v. Contains (joined self.now.runs) v.now) }
     {
         runs::find_in(&self.runs, key, t, s)
@@ -119,40 +120,40 @@ impl Mem {
         s: Seq,
         steps: &mut Steps<L>,
     ) -> Option<&Version>
-        ensures visible { option_map item_of (option_copied result) ≡ visible (items_of (versions_of self.now)) key.now t.0 s.0 }
+        ensures visible { option_map item_of (option_copied result) ≡ visible_item (items_of (versions_of_memtable self.now)) key.now t.0 s.0 }
         ensures among { IfSome result (λ v. Contains (joined self.now.runs) v.now) }
         ensures rises { steps.old ≤ steps.new }
-        ensures steps { 2 ^ (steps.new - steps.old) ≤ length (versions_of self.now) + 1 }
+        ensures steps { 2 ^ (steps.new - steps.old) ≤ length (versions_of_memtable self.now) + 1 }
     {
         runs::find_counted_in(&self.runs, key, t, s, steps)
     }
 
     /// The greatest timestamp of the key's versions; none where it has no version here.
     pub fn newest(&self, key: &[u8]) -> Option<Ts>
-        ensures { option_map (λ ts. ts.0) result ≡ newest_ts (items_of (versions_of self.now)) key.now }
+        ensures { option_map (λ ts. ts.0) result ≡ newest_ts (items_of (versions_of_memtable self.now)) key.now }
     {
         runs::newest_in(&self.runs, key)
     }
 
     /// The greatest timestamp of all its versions, 0 where it has none: `newest` of a key is never above it.
     pub fn latest(&self) -> Ts
-        ensures { result.0 ≡ latest_of (versions_of self.now) }
+        ensures { result.0 ≡ latest_of (versions_of_memtable self.now) }
     {
         runs::latest_in(&self.runs)
     }
 
     /// The sum, over its versions, of the bytes of the key and of the value and 32 more; `BYTES_LIMIT` where it is more.
     pub fn bytes(&self) -> u64
-        ensures { result ≡ bytes_of (versions_of self.now) }
+        ensures { result ≡ capped_weight (versions_of_memtable self.now) }
     {
         self.bytes
     }
 
     /// Copies of the versions, in the stored order.
     pub fn versions(&self) -> Result<Vec<Version>, NoMemory>
-        ensures versions { IfOk result (λ vs. vs.items ≡ versions_of self.now) }
-        ensures order { IsOrdered (items_of (versions_of self.now)) }
-        ensures family { All (λ v. v.family ≡ self.now.family) (versions_of self.now) }
+        ensures versions { IfOk result (λ vs. vs.items ≡ versions_of_memtable self.now) }
+        ensures order { IsOrdered (items_of (versions_of_memtable self.now)) }
+        ensures family { All (λ v. v.family ≡ self.now.family) (versions_of_memtable self.now) }
     {
         let all = runs::merged(self.alloc, &self.runs)?;
         Ok(all.into_versions())
@@ -161,7 +162,7 @@ impl Mem {
     /// How many runs it has.
     pub fn runs(&self) -> u32
         ensures runs { result ≡ length self.now.runs }
-        ensures few { 2 ^ result ≤ length (versions_of self.now) + 1 }
+        ensures few { 2 ^ result ≤ length (versions_of_memtable self.now) + 1 }
         ensures doubled { AreDoubled self.now.runs }
     {
         match self.runs.last() {

@@ -4,10 +4,10 @@ ghost use Rattle.std.specs.Arc.{arc_value};
 ghost use Rattle.std.specs.Option.{option_copied};
 ghost use Rattle.ts_key.specs.declared.version.Version.{Version as VersionOf};
 ghost use Rattle.ts_key.specs.Items.{item_of, items_of};
-ghost use Rattle.ts_key.specs.Visible.{is_newer, newer, newest_ts, visible};
+ghost use Rattle.ts_key.specs.Visible.{is_item_newer, newer_item, newest_ts, visible_item};
 ghost use Rattle.sorted_run.specs.Runs.{latest_of};
 ghost use Rattle.sorted_run.specs.Sorts.{sorted};
-ghost use Rattle.memtable.specs.Memtables.{AreDoubled, IsAbsorbed, bytes_of, greater, is_above as stands_above, joined, newer_of as newer_version, reaches as reaches_ts};
+ghost use Rattle.memtable.specs.Memtables.{AreDoubled, IsAbsorbed, capped_weight, greater, is_version_above, joined, newer_of as newer_version, reaches as reaches_ts};
 
 use crate::limits::BYTES_LIMIT;
 use sorted_run::{Run, Steps};
@@ -29,7 +29,7 @@ pub fn share(out: &mut Vec<Arc<Run>>, runs: &[Arc<Run>]) -> Result<(), NoMemory>
 // ---- look-ups
 
 fn is_newer_than(a: &Version, b: &Version) -> bool
-    ensures { result ≡ is_newer (item_of a.now) (item_of b.now) }
+    ensures { result ≡ is_item_newer (item_of a.now) (item_of b.now) }
 {
     b.ts.0 < a.ts.0 || (a.ts.0 == b.ts.0 && b.seq.0 < a.seq.0)
 }
@@ -49,7 +49,7 @@ fn newer_of<'a>(best: Option<&'a Version>, found: Option<&'a Version>) -> Option
 
 /// Whether the best so far is above every timestamp of a run.
 fn is_above(best: Option<&Version>, latest: Ts) -> bool
-    ensures { result ≡ stands_above (option_copied best.entry) latest.0 }
+    ensures { result ≡ is_version_above (option_copied best.entry) latest.0 }
 {
     match best {
         None => false,
@@ -67,7 +67,7 @@ fn newer_in<'a>(
     s: Seq,
 ) -> Option<&'a Version>
     ensures visible { option_map item_of (option_copied result)
-        ≡ newer (option_map item_of (option_copied best.entry)) (visible (items_of run.now) key.now t.0 s.0) }
+        ≡ newer_item (option_map item_of (option_copied best.entry)) (visible_item (items_of run.now) key.now t.0 s.0) }
     ensures among { (vs : List VersionOf) → IfSome best.entry (λ v. Contains vs v.now)
         → ((v : VersionOf) → Contains run.now v → Contains vs v) → IfSome result (λ v. Contains vs v.now) }
 {
@@ -79,7 +79,7 @@ fn newer_in<'a>(
 
 /// The newest version of the key that a read sees.
 pub fn find_in<'a>(runs: &'a [Arc<Run>], key: &[u8], t: Ts, s: Seq) -> Option<&'a Version>
-    ensures visible { option_map item_of (option_copied result) ≡ visible (items_of (joined (map arc_value runs.now))) key.now t.0 s.0 }
+    ensures visible { option_map item_of (option_copied result) ≡ visible_item (items_of (joined (map arc_value runs.now))) key.now t.0 s.0 }
     ensures among { IfSome result (λ v. Contains (joined (map arc_value runs.now)) v.now) }
 {
     let mut best = None;
@@ -99,7 +99,7 @@ fn newer_counted<'a, L: Ledger>(
     steps: &mut Steps<L>,
 ) -> Option<&'a Version>
     ensures visible { option_map item_of (option_copied result)
-        ≡ newer (option_map item_of (option_copied best.entry)) (visible (items_of run.now) key.now t.0 s.0) }
+        ≡ newer_item (option_map item_of (option_copied best.entry)) (visible_item (items_of run.now) key.now t.0 s.0) }
     ensures among { (vs : List VersionOf) → IfSome best.entry (λ v. Contains vs v.now)
         → ((v : VersionOf) → Contains run.now v → Contains vs v) → IfSome result (λ v. Contains vs v.now) }
     ensures rises { steps.old ≤ steps.new }
@@ -119,7 +119,7 @@ pub fn find_counted_in<'a, L: Ledger>(
     s: Seq,
     steps: &mut Steps<L>,
 ) -> Option<&'a Version>
-    ensures visible { option_map item_of (option_copied result) ≡ visible (items_of (joined (map arc_value runs.now))) key.now t.0 s.0 }
+    ensures visible { option_map item_of (option_copied result) ≡ visible_item (items_of (joined (map arc_value runs.now))) key.now t.0 s.0 }
     ensures among { IfSome result (λ v. Contains (joined (map arc_value runs.now)) v.now) }
     ensures rises { steps.old ≤ steps.new }
     ensures steps { steps.new ≤ steps.old + length runs.now }
@@ -225,7 +225,7 @@ pub fn merged(alloc: Global, runs: &[Arc<Run>]) -> Result<Run, NoMemory>
 
 /// The bytes of these versions, at most `BYTES_LIMIT`.
 pub fn bytes_in(versions: &[Version]) -> u64
-    ensures bytes { result ≡ bytes_of versions.now }
+    ensures bytes { result ≡ capped_weight versions.now }
     ensures within { result ≤ BYTES_LIMIT }
 {
     let mut bytes = 0u64;

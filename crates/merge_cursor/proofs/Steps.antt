@@ -7,10 +7,10 @@ use Rattle.std.proofs.lemmas.List.Elements.{All-set, All-map, All-head, All-tail
 use Rattle.std.proofs.lemmas.Option.{slice_get-get_or, slice_get_past}
 use Rattle.ts_key.specs.Order.{SortKey, is_before}
 use Rattle.ts_key.specs.Items.{Item}
-use Rattle.ts_key.specs.Lists.{IsOrdered, standing, onward, below, joined, merged}
+use Rattle.ts_key.specs.Lists.{IsOrdered, standing, onward, below, joined_lists, merged}
 use Rattle.ts_key.specs.Counts.{get_inside, count_of-stored}
 use Rattle.ts_key.specs.Ordered.{past_end}
-use Rattle.merge_cursor.specs.Sides.{Side, side, sides, key_in, front, back, front_of, back_of, passed, lists, all, is_lower, is_higher, IsLow, IsTop, IsCut, IsMerge}
+use Rattle.merge_cursor.specs.Sides.{Side, side, sides, key_in, front, back, front_of, back_of, passed, lists, all, is_lower, is_higher, IsLow, IsTop, AreSidesCut, IsMerge}
 use Rattle.merge_cursor.specs.Cuts.{AreOrdered, moved, next_cut, prev_cut, prev_low, seek_cut, first_cut, end_cut}
 use Rattle.merge_cursor.specs.Shows.{lists_same, passed_moved, shows_at, count_joined, passed_end}
 use Rattle.merge_cursor.proofs.Loops.{side_at, side_or}
@@ -30,7 +30,7 @@ module _ (ss : List Side) (low : ℕ) (m : IsMerge ss low) (sorted : AreOrdered 
   pub front_here : (v : Item) × (slice_get s.versions s.passed ≡ Some v) × (front_of (slice_get ss low) ≡ Some v.sort_key)
   front_here = item_from (slice_get s.versions s.passed) (front_of (slice_get ss low)) (sym (ap front_of here)) (λ q. let n = m.low.none q in omega (arith, n))
 
-  pub on_cut : IsCut (set ss low (moved s (suc s.passed)))
+  pub on_cut : AreSidesCut (set ss low (moved s (suc s.passed)))
   on_cut =
       let v = front_here in
       next_cut ss low s v.0 sorted m.cut inside is v.1
@@ -87,7 +87,7 @@ module _ {C : Type 0} (items : C → List Item) (place : C → ℕ) where
 
       pub on_merge : (low' : ℕ) → IsLow (sides items place new) low' → IsMerge (sides items place new) low'
       on_merge low' f = record {
-        cut = subst IsCut (sym sides_on) (on_cut ss low m (are_sorted law cs) in_sides s side_is);
+        cut = subst AreSidesCut (sym sides_on) (on_cut ss low m (are_sorted law cs) in_sides s side_is);
         low = f;
       }
 
@@ -201,7 +201,7 @@ module _ {C : Type 0} (items : C → List Item) (place : C → ℕ) where
       pub seek_passed : passed to_sides ≡ below to (all (sides items place old))
       seek_passed =
           sym (count_joined (λ u. is_before u.sort_key to) to_sides (λ k d l. sym (are_to k d l)))
-          ∙ sym (count_of-stored (λ u. is_before u.sort_key to) (joined (lists to_sides))) ∙ ap (below to) seek_all_same
+          ∙ sym (count_of-stored (λ u. is_before u.sort_key to) (joined_lists (lists to_sides))) ∙ ap (below to) seek_all_same
 
       pub seek_started : All (λ y. 1 ≤ place y) new
       seek_started = λ k d l. let h = at k d l in omega (arith, h)

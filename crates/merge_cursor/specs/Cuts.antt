@@ -10,7 +10,7 @@ use Rattle.ts_key.specs.Lists.{IsOrdered, below, standing}
 use Rattle.ts_key.specs.Orders.{before_itself, before_back, upto_before, before_upto, upto_upto}
 use Rattle.ts_key.specs.Counts.{get_inside, count_of_within}
 use Rattle.ts_key.specs.Ordered.{not_true, not_false, next_upto, below_back, below_front}
-use Rattle.merge_cursor.specs.Sides.{Side, key_in, front, back, front_of, is_lower, is_higher, is_upto, is_apart, IsLow, IsCut}
+use Rattle.merge_cursor.specs.Sides.{Side, key_in, front, back, front_of, is_lower, is_higher, is_upto, is_apart, IsLow, AreSidesCut}
 
 abbrev pub AreOrdered : List Side → Type 0
 AreOrdered ss = All (λ s. IsOrdered s.versions) ss
@@ -88,7 +88,7 @@ abbrev pub moved : Side → ℕ → Side
 moved s n = record { versions = s.versions; passed = n }
 
 module _ (ss : List Side) (a : ℕ) (s : Side) (v : Item)
-    (sorted : AreOrdered ss) (cut : IsCut ss) (inside : a < length ss) (is : s ≡ get_or ss a s)
+    (sorted : AreOrdered ss) (cut : AreSidesCut ss) (inside : a < length ss) (is : s ≡ get_or ss a s)
   where
     sorted_s : IsOrdered s.versions
     sorted_s = subst (λ (x : Side). IsOrdered x.versions) (sym is) (sorted a s inside)
@@ -150,7 +150,7 @@ module _ (ss : List Side) (a : ℕ) (s : Side) (v : Item)
         after : is_lower (front (moved s on)) (Some v.sort_key) ≡ false
         after = front_next s.versions s.passed v (slice_get s.versions on) sorted_s e refl
 
-        pub next_cut : IsCut (set ss a (moved s on))
+        pub next_cut : AreSidesCut (set ss a (moved s on))
         next_cut = record {
           inside = λ k d l. by (λ x. x.passed ≤ length x.versions) on k d (λ u. let r = get_inside s.versions s.passed v e in omega (arith, r)) (λ ne. cut.inside k d (old_len on k l));
           upto = λ i j d f x y o. let x' = old_len on i x in let y' = old_len on j y in
@@ -189,7 +189,7 @@ module _ (ss : List Side) (a : ℕ) (s : Side) (v : Item)
         v_apart : (i j : ℕ) (d f : Side) → i < length ss → j < length ss → i ≡ a → j < i → is_apart (Some v.sort_key) (front (get_or ss j f)) ≡ true
         v_apart i j d f x y u o = subst (λ b. is_apart b (front (get_or ss j f)) ≡ true) (ap back (was i d u) ∙ was_back) (cut.apart i j d f x y o)
 
-        pub prev_cut : IsCut (set ss a (moved s n))
+        pub prev_cut : AreSidesCut (set ss a (moved s n))
         prev_cut = record {
           inside = λ k d l. by (λ x. x.passed ≤ length x.versions) n k d (λ u. let r = get_inside s.versions n v e in omega (arith, r)) (λ ne. cut.inside k d (old_len n k l));
           upto = λ i j d f x y o. let x' = old_len n i x in let y' = old_len n j y in
@@ -244,7 +244,7 @@ apart_upto None f h = refl
 apart_upto (Some x) None h = refl
 apart_upto (Some x) (Some y) h = not_true (is_before y x) (before_back x y h)
 
-pub seek_cut : (ss : List Side) (to : SortKey) → AreOrdered ss → All (λ s. s.passed ≡ below to s.versions) ss → IsCut ss
+pub seek_cut : (ss : List Side) (to : SortKey) → AreOrdered ss → All (λ s. s.passed ≡ below to s.versions) ss → AreSidesCut ss
 seek_cut ss to sorted at = record {
   inside = λ k d l. let w = count_of_within (λ u. is_before u.sort_key to) (get_or ss k d).versions in let h = at k d l in omega (arith, w, h);
   upto = λ i j d f x y o. apart_upto (back (get_or ss i d)) (front (get_or ss j f)) (both i j d f x y);
@@ -260,7 +260,7 @@ seek_cut ss to sorted at = record {
         (λ w e. below_front to r.versions w (sorted j f y) (ap (slice_get r.versions) (sym (at j f y)) ∙ e))
 
 -- none is passed
-pub first_cut : (ss : List Side) → All (λ s. s.passed ≡ 0) ss → IsCut ss
+pub first_cut : (ss : List Side) → All (λ s. s.passed ≡ 0) ss → AreSidesCut ss
 first_cut ss at = record {
   inside = λ k d l. let h = at k d l in omega (arith, h);
   upto = λ i j d f x y o. apart_upto (back (get_or ss i d)) (front (get_or ss j f)) (none (get_or ss i d) (front (get_or ss j f)) (at i d x));
@@ -271,7 +271,7 @@ first_cut ss at = record {
     none s f e = ap (λ (n : ℕ). is_apart (key_in (standing s.versions n)) f) e
 
 -- all are passed
-pub end_cut : (ss : List Side) → All (λ s. s.passed ≡ length s.versions) ss → IsCut ss
+pub end_cut : (ss : List Side) → All (λ s. s.passed ≡ length s.versions) ss → AreSidesCut ss
 end_cut ss at = record {
   inside = λ k d l. let h = at k d l in omega (arith, h);
   upto = λ i j d f x y o. apart_upto (back (get_or ss i d)) (front (get_or ss j f)) (none (back (get_or ss i d)) (get_or ss j f) (at j f y));

@@ -6,11 +6,11 @@ use Rattle.std.proofs.lemmas.List.Elements.{All-tail}
 use Rattle.std.proofs.lemmas.Option.{slice_get_past, slice_get-get_or}
 use Rattle.ts_key.specs.Order.{is_before}
 use Rattle.ts_key.specs.Items.{Item}
-use Rattle.ts_key.specs.Lists.{IsOrdered, count_of, below, standing, onward, with_item, stored, joined}
+use Rattle.ts_key.specs.Lists.{IsOrdered, count_of, below, standing, onward, with_item, stored_items, joined_lists}
 use Rattle.ts_key.specs.Orders.{before_itself, upto_before, upto_upto}
 use Rattle.ts_key.specs.Counts.{get_In, In_after, count_of-append, count_of-stored, length-stored}
 use Rattle.ts_key.specs.Ordered.{not_true, not_false, stored_ordered, none_low, count_cut, past_end}
-use Rattle.merge_cursor.specs.Sides.{Side, sides, key_in, front, back, front_of, is_lower, is_upto, is_apart, passed, lists, all, IsCut, IsMerge}
+use Rattle.merge_cursor.specs.Sides.{Side, sides, key_in, front, back, front_of, is_lower, is_upto, is_apart, passed, lists, all, AreSidesCut, IsMerge}
 use Rattle.merge_cursor.specs.Cuts.{AreOrdered, moved, end_cut}
 
 -- ---- where a version stands in the stored list
@@ -60,12 +60,12 @@ under_with_item v x (z ∷ zs) (suc n) o e h =
     rw y (under_with_item v x zs n o.1 e h)
 
 -- before it stand those in front of it that aren't after it, and those behind it that are before it
-position : (v : Item) (pre post : List Item) → slice_get (stored (pre ++ v ∷ post)) (upto v pre + below v.sort_key post) ≡ Some v
+position : (v : Item) (pre post : List Item) → slice_get (stored_items (pre ++ v ∷ post)) (upto v pre + below v.sort_key post) ≡ Some v
 position v [] post =
-    let n : upto v [] + below v.sort_key post ≡ below v.sort_key (stored post) = omega (arith, count_of-stored (λ u. is_before u.sort_key v.sort_key) post) in
-    ap (slice_get (with_item v (stored post))) n ∙ at_with_item v (stored post) (stored_ordered post)
+    let n : upto v [] + below v.sort_key post ≡ below v.sort_key (stored_items post) = omega (arith, count_of-stored (λ u. is_before u.sort_key v.sort_key) post) in
+    ap (slice_get (with_item v (stored_items post))) n ∙ at_with_item v (stored_items post) (stored_ordered post)
 position v (x ∷ pre) post =
-    let w = stored (pre ++ v ∷ post) in
+    let w = stored_items (pre ++ v ∷ post) in
     let r = position v pre post in
     elim (cases_Bool (is_before v.sort_key x.sort_key)) [
       | inl y ↦ (
@@ -94,21 +94,21 @@ split_one (x ∷ xs) (suc n) v o e =
     let y : is_before v.sort_key x.sort_key ≡ false = In_after (λ u. is_before u.sort_key x.sort_key ≡ false) v xs o.0 (get_In xs n v e) in
     (x ∷ r.0, r.1, ap (λ (l : List Item). x ∷ l) r.2, (let c = r.3 in rw y (omega (arith, c))), r.4)
 
-pub count_joined : (q : Item → Bool) (ss : List Side) → ((k : ℕ) (d : Side) → k < length ss → count_of q (get_or ss k d).versions ≡ (get_or ss k d).passed) → count_of q (joined (lists ss)) ≡ passed ss
+pub count_joined : (q : Item → Bool) (ss : List Side) → ((k : ℕ) (d : Side) → k < length ss → count_of q (get_or ss k d).versions ≡ (get_or ss k d).passed) → count_of q (joined_lists (lists ss)) ≡ passed ss
 count_joined q [] h = refl
 count_joined q (s ∷ ss) h =
     let x : count_of q s.versions ≡ s.passed = h zero s (omega arith) in
     let r = count_joined q ss (λ k d l. h (suc k) d (omega arith)) in
-    omega (arith, count_of-append q s.versions (joined (lists ss)), x, r)
+    omega (arith, count_of-append q s.versions (joined_lists (lists ss)), x, r)
 
 split_at : (ss : List Side) (a : ℕ) (s : Side) (v : Item) → AreOrdered ss → a < length ss → s ≡ get_or ss a s → slice_get s.versions s.passed ≡ Some v
     → ((k : ℕ) (d : Side) → k < a → k < length ss → upto v (get_or ss k d).versions ≡ (get_or ss k d).passed)
-    → ((k : ℕ) (d : Side) → a < k → k < length ss → below v.sort_key (get_or ss k d).versions ≡ (get_or ss k d).passed) → Split v (joined (lists ss)) (passed ss)
+    → ((k : ℕ) (d : Side) → a < k → k < length ss → below v.sort_key (get_or ss k d).versions ≡ (get_or ss k d).passed) → Split v (joined_lists (lists ss)) (passed ss)
 split_at [] a s v so l is e low high = absurd (omega arith)
 split_at (x ∷ xs) zero s v so l is e low high =
     let o : IsOrdered s.versions = subst (λ (y : Side). IsOrdered y.versions) (sym is) (so zero s (omega arith)) in
     let r = split_one s.versions s.passed v o e in
-    let rest = joined (lists xs) in
+    let rest = joined_lists (lists xs) in
     let c = count_joined (λ u. is_before u.sort_key v.sort_key) xs (λ k d m. high (suc k) d (omega arith) (omega arith)) in
     let p : s.passed ≡ x.passed = ap (λ (y : Side). y.passed) is in
     let n = r.3 in
@@ -147,32 +147,32 @@ shows_at ss a s v so m l is e =
     count_cut (λ u. is_before u.sort_key v.sort_key) (λ u w h y. upto_before u.sort_key w.sort_key v.sort_key h y) x.versions x.passed (so k d n) (m.cut.inside k d n)
     (λ w q. subst (λ b. is_apart b (Some v.sort_key) ≡ true) (some_place (standing x.versions x.passed) w q) (subst (λ b. is_apart (back x) b ≡ true) fv (m.cut.apart k a d s n l i)))
     (λ w q. subst (λ b. is_lower b (Some v.sort_key) ≡ false) (some_place (slice_get x.versions x.passed) w q) (subst (λ b. is_lower (front x) b ≡ false) fo (m.low.least k d n)))) in
-    ap (λ (w : List Item). slice_get (stored w) (passed ss)) r.is ∙ ap (slice_get (stored (r.pre ++ v ∷ r.post))) (sym r.count) ∙ position v r.pre r.post
+    ap (λ (w : List Item). slice_get (stored_items w) (passed ss)) r.is ∙ ap (slice_get (stored_items (r.pre ++ v ∷ r.post))) (sym r.count) ∙ position v r.pre r.post
 
 -- ---- the end
 
-passed_joined : (ss : List Side) → ((k : ℕ) (d : Side) → k < length ss → (get_or ss k d).passed ≤ length (get_or ss k d).versions) → passed ss ≤ length (joined (lists ss))
+passed_joined : (ss : List Side) → ((k : ℕ) (d : Side) → k < length ss → (get_or ss k d).passed ≤ length (get_or ss k d).versions) → passed ss ≤ length (joined_lists (lists ss))
 passed_joined [] h = omega arith
 passed_joined (s ∷ ss) h =
     let x : s.passed ≤ length s.versions = h zero s (omega arith) in
     let r = passed_joined ss (λ k d l. h (suc k) d (omega arith)) in
-    omega (arith, length-append s.versions (joined (lists ss)), x, r)
+    omega (arith, length-append s.versions (joined_lists (lists ss)), x, r)
 
-pub passed_within : (ss : List Side) → IsCut ss → passed ss ≤ length (all ss)
-passed_within ss c = let h = passed_joined ss c.inside in let e = length-stored (joined (lists ss)) in omega (arith, h, e)
+pub passed_within : (ss : List Side) → AreSidesCut ss → passed ss ≤ length (all ss)
+passed_within ss c = let h = passed_joined ss c.inside in let e = length-stored (joined_lists (lists ss)) in omega (arith, h, e)
 
-joined_passed : (ss : List Side) → ((k : ℕ) (d : Side) → k < length ss → length (get_or ss k d).versions ≤ (get_or ss k d).passed) → length (joined (lists ss)) ≤ passed ss
+joined_passed : (ss : List Side) → ((k : ℕ) (d : Side) → k < length ss → length (get_or ss k d).versions ≤ (get_or ss k d).passed) → length (joined_lists (lists ss)) ≤ passed ss
 joined_passed [] h = omega arith
 joined_passed (s ∷ ss) h =
     let x : length s.versions ≤ s.passed = h zero s (omega arith) in
     let r = joined_passed ss (λ k d l. h (suc k) d (omega arith)) in
-    omega (arith, length-append s.versions (joined (lists ss)), x, r)
+    omega (arith, length-append s.versions (joined_lists (lists ss)), x, r)
 
 -- where all are passed, as many as there are
 pub passed_end : (ss : List Side) → All (λ s. s.passed ≡ length s.versions) ss → passed ss ≡ length (all ss)
 passed_end ss at =
     let j = joined_passed ss (λ k d n. let h = at k d n in omega (arith, h)) in
-    let e = length-stored (joined (lists ss)) in
+    let e = length-stored (joined_lists (lists ss)) in
     let w = passed_within ss (end_cut ss at) in
     omega (arith, j, e, w)
 
@@ -188,7 +188,7 @@ ends_passed ss low m l =
     let fo : front_of (slice_get ss low) ≡ None = ap front_of (slice_get_past ss low l) in
     let j = joined_passed ss (λ k d n. let x = get_or ss k d in
     all_passed x.versions x.passed (no_front (slice_get x.versions x.passed) (subst (λ b. is_lower (front x) b ≡ false) fo (m.low.least k d n)))) in
-    let e = length-stored (joined (lists ss)) in
+    let e = length-stored (joined_lists (lists ss)) in
     let w = passed_within ss m.cut in
     omega (arith, j, e, w)
 
@@ -221,9 +221,9 @@ pub place_first : (before : Bool) (len p : ℕ) → before ≡ true → (before 
 place_first true len p b e = let z : p ≡ 0 = e refl in let y : nat_le 0 len ≡ true = le-leb 0 len (omega arith) in rw y (omega arith)
 place_first false len p b e = absurd cc
 
-pub place_stays : (before : Bool) (len p : ℕ) → before ≡ false → p ≡ len → (if before then 0 else p + 1) ≡ onward len (if before then 0 else p + 1)
-place_stays true len p b e = absurd cc
-place_stays false len p b e = let y : nat_le (p + 1) len ≡ false = lt-leb (p + 1) len (omega arith) in rw y refl
+pub place_stays_at_end : (before : Bool) (len p : ℕ) → before ≡ false → p ≡ len → (if before then 0 else p + 1) ≡ onward len (if before then 0 else p + 1)
+place_stays_at_end true len p b e = absurd cc
+place_stays_at_end false len p b e = let y : nat_le (p + 1) len ≡ false = lt-leb (p + 1) len (omega arith) in rw y refl
 
 -- ---- the lists of cursors
 

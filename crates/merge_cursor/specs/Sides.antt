@@ -104,12 +104,12 @@ pub record IsTop (ss : List Side) (top : ℕ) : Type 0 where
   pub none : back_of (slice_get ss top) ≡ None → length ss ≤ top
 
 -- what is passed comes before what isn't; of two at one place that of the side of smaller index comes first
-pub record IsCut (ss : List Side) : Type 0 where
+pub record AreSidesCut (ss : List Side) : Type 0 where
   pub inside : (k : ℕ) (d : Side) → k < length ss → (get_or ss k d).passed ≤ length (get_or ss k d).versions
   pub upto : (i j : ℕ) (d e : Side) → i < length ss → j < length ss → i ≤ j → is_upto (back (get_or ss i d)) (front (get_or ss j e)) ≡ true
   pub apart : (i j : ℕ) (d e : Side) → i < length ss → j < length ss → j < i → is_apart (back (get_or ss i d)) (front (get_or ss j e)) ≡ true
 
 -- the sides stand at their lowest version, which the one with index a has
 pub record IsMerge (ss : List Side) (a : ℕ) : Type 0 where
-  pub cut : IsCut ss
+  pub cut : AreSidesCut ss
   pub low : IsLow ss a

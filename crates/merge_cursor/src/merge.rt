@@ -1,7 +1,7 @@
 //! A cursor over all versions of several cursors.
 ghost use Rattle.std.specs.Prelude.{◌≡◌, ◌≤◌, All, IfSome, List, map, slice_get, true, false};
 ghost use Rattle.ts_key.specs.Order.{sort_key_of};
-ghost use Rattle.ts_key.specs.Lists.{joined, below, standing, merged};
+ghost use Rattle.ts_key.specs.Lists.{joined_lists, below, standing, merged};
 ghost use Rattle.ts_key.specs.Ordered.{stored_ordered};
 ghost use Rattle.merge_cursor.specs.Sides.{IsMerge, StandsAt, sides, all, passed, lists, merged_place};
 ghost use Rattle.merge_cursor.specs.Shows.{place_within};
@@ -83,7 +83,7 @@ impl<C: Placed> Placed for Merge<C> {
 
     ghost place = { λ m. merged_place m.before (sides C.items C.place m.children.items) };
 
-    ghost ordered = { λ m. stored_ordered (joined (lists (sides C.items C.place m.children.items))) };
+    ghost ordered = { λ m. stored_ordered (joined_lists (lists (sides C.items C.place m.children.items))) };
 
     ghost within = { λ m. place_within (sides C.items C.place m.children.items) m.lowest m.before m.merge };
 }

@@ -6,7 +6,7 @@ use Rattle.std.proofs.lemmas.List.Elements.{All-map}
 use Rattle.ts_key.specs.Order.{SortKey}
 use Rattle.ts_key.specs.Items.{Item}
 use Rattle.ts_key.specs.Lists.{IsOrdered, standing, onward}
-use Rattle.merge_cursor.specs.Sides.{IsCut, IsMerge, Side, all, front, front_of, key_in, passed, side, sides}
+use Rattle.merge_cursor.specs.Sides.{AreSidesCut, IsMerge, Side, all, front, front_of, key_in, passed, side, sides}
 use Rattle.merge_cursor.specs.Cuts.{first_cut}
 use Rattle.merge_cursor.specs.Shows.{ends_none, ends_passed}
 use Rattle.merge_cursor.proofs.Loops.{side_at}
@@ -38,11 +38,11 @@ module _ {C : Type 0} (items : C → List Item) (place : C → ℕ) where
   sides_count : (cs : List C) (ws : List ℕ) → length ws ≡ length cs → length ws ≡ length (sides items place cs)
   sides_count cs ws count = count ∙ sym (length-map cs (side items place))
 
-  pub first_is_cut : (cs : List C) → All (λ c. place c ≡ 1) cs → IsCut (sides items place cs)
+  pub first_is_cut : (cs : List C) → All (λ c. place c ≡ 1) cs → AreSidesCut (sides items place cs)
   first_is_cut cs first = first_cut (sides items place cs) (All-map (λ (s : Side). s.passed ≡ 0) (side items place) cs (λ k d l. let h = first k d l in omega (arith, h)))
 
   module _ (law : (c : C) → IsOrdered (items c)) (cs : List C) (ws : List ℕ)
-      (cut : IsCut (sides items place cs)) (started : All (λ y. 1 ≤ place y) cs) (count : length ws ≡ length cs) (won : AreWon (sides items place cs) ws)
+      (cut : AreSidesCut (sides items place cs)) (started : All (λ y. 1 ≤ place y) cs) (count : length ws ≡ length cs) (won : AreWon (sides items place cs) ws)
       (first : ℕ) (at_top : first ≡ winner_at ws 1) (inside : first < length cs) (c : C) (is : c ≡ get_or cs first c)
     where
       abbrev ss : List Side
@@ -89,7 +89,7 @@ module _ {C : Type 0} (items : C → List Item) (place : C → ℕ) where
         pub step_but : AreWonBut new ws ((length ws + first) / 2)
         step_but = moved_but ss ws won new first (λ i ne. ap front_of (other cs first i x ne))
 
-        pub step_cut : (played : List ℕ) → length played ≡ length (set cs first x) → AreWon new played → IsCut new
+        pub step_cut : (played : List ℕ) → length played ≡ length (set cs first x) → AreWon new played → AreSidesCut new
         step_cut played n w =
             let low = some_low new played w (sides_count (set cs first x) played n) (front_at new (winner_at played 1)) refl in
             (on_merge items place law cs first c x merge_now started inside is same moves low.0 low.1).cut

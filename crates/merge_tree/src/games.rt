@@ -2,7 +2,7 @@
 //! leaves come last, one for each cursor.
 ghost use Rattle.std.specs.Prelude.{◌≡◌, ◌+◌, ◌*◌, ◌-◌, ◌/◌, ◌≤◌, ◌<◌, ℕ, All, IfOk, length, map, slice_get};
 ghost use Rattle.ts_key.specs.Items.{shown_by};
-ghost use Rattle.merge_cursor.specs.Sides.{IsCut, all, front, is_lower, key_lent, passed, side, sides};
+ghost use Rattle.merge_cursor.specs.Sides.{AreSidesCut, all, front, is_lower, key_lent, passed, side, sides};
 ghost use Rattle.merge_tree.specs.Games.{AreWon, AreWonBut, IsBetter, front_at, winner_at};
 
 use merge_cursor::{Cursor, Placed};
@@ -134,7 +134,7 @@ pub(crate) fn shown_at<'a, C: Cursor<'a>>(
     cursors: &[C],
     winners: &[usize],
 ) -> Option<(KeyRef<'a>, Hit<'a>)>
-    requires cut { IsCut (sides C.items C.place cursors.now) }
+    requires cut { AreSidesCut (sides C.items C.place cursors.now) }
     requires started { All (λ c. 1 ≤ C.place c) cursors.now }
     requires count { length winners.now ≡ length cursors.now }
     requires within { All (λ w. w < length cursors.now) winners.now }
@@ -149,7 +149,7 @@ pub(crate) fn shown_at<'a, C: Cursor<'a>>(
 
 /// Moves the winner of all games one version on, and plays its games again.
 pub(crate) fn step<'a, C: Cursor<'a>>(cursors: &mut [C], winners: &mut [usize])
-    requires cut { IsCut (sides C.items C.place cursors.old) }
+    requires cut { AreSidesCut (sides C.items C.place cursors.old) }
     requires started { All (λ c. 1 ≤ C.place c) cursors.old }
     requires count { length winners.old ≡ length cursors.old }
     requires within { All (λ w. w < length cursors.old) winners.old }
@@ -158,7 +158,7 @@ pub(crate) fn step<'a, C: Cursor<'a>>(cursors: &mut [C], winners: &mut [usize])
     ensures over { map C.over cursors.new ≡ map C.over cursors.old }
     ensures same { all (sides C.items C.place cursors.new) ≡ all (sides C.items C.place cursors.old) }
     ensures passed { passed (sides C.items C.place cursors.new) ≡ passed (sides C.items C.place cursors.old) + 1 }
-    ensures cut { IsCut (sides C.items C.place cursors.new) }
+    ensures cut { AreSidesCut (sides C.items C.place cursors.new) }
     ensures started { All (λ c. 1 ≤ C.place c) cursors.new }
     ensures within { All (λ w. w < length cursors.new) winners.new }
     ensures won { AreWon (sides C.items C.place cursors.new) winners.new }

@@ -2,7 +2,7 @@
 ghost use Rattle.std.specs.Prelude.{◌≡◌, ◌+◌, ◌≤◌, ◌<◌, All, IfOk, length, map, slice_get};
 ghost use Rattle.ts_key.specs.Items.{shown_by};
 ghost use Rattle.ts_key.specs.Lists.{merged};
-ghost use Rattle.merge_cursor.specs.Sides.{IsCut, all, passed, sides};
+ghost use Rattle.merge_cursor.specs.Sides.{AreSidesCut, all, passed, sides};
 ghost use Rattle.merge_tree.specs.Games.{AreWon};
 
 use crate::games::{play_all, shown_at, step};
@@ -17,7 +17,7 @@ pub struct MergeTree<C: Placed> {
     cursors: Vec<C>,
     /// Who won each game.
     winners: Vec<usize>,
-    ghost cut: { IsCut (sides C.items C.place cursors.items) },
+    ghost cut: { AreSidesCut (sides C.items C.place cursors.items) },
     ghost started: { All (λ c. 1 ≤ C.place c) cursors.items },
     ghost count: { length winners.items ≡ length cursors.items },
     ghost within: { All (λ w. w < length cursors.items) winners.items },

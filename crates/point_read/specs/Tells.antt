@@ -13,16 +13,16 @@ use Rattle.point_read.specs.declared.read.Read.{Read}
 use Rattle.point_read.specs.declared.read.Read.TheVariants.{Collapsed, Absent, Found}
 
 -- the read of the model that it is
-abbrev pub told : Read → ModelRead
-told (Collapsed floor) = reads.Collapsed floor
-told Absent = reads.Told answers.Absent
-told (Found value stamp) = reads.Told (answers.Found value.now stamp)
+abbrev pub model_read : Read → ModelRead
+model_read (Collapsed floor) = reads.Collapsed floor
+model_read Absent = reads.Told answers.Absent
+model_read (Found value stamp) = reads.Told (answers.Found value.now stamp)
 
 -- what the newest version that a read sees answers, where there is one
 abbrev pub answered : Ts → Family → List ℕ → Option Hit → ModelRead
 answered floor family key hit = reads.Told (answer_of floor (option_map (version_of_item family) (found key hit)))
 
 -- there is one, and its timestamp is above this one
-abbrev pub is_above : Option Item → ℕ → Bool
-is_above None ts = false
-is_above (Some v) ts = nat_lt ts v.sort_key.ts
+abbrev pub is_item_above : Option Item → ℕ → Bool
+is_item_above None ts = false
+is_item_above (Some v) ts = nat_lt ts v.sort_key.ts

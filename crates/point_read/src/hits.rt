@@ -3,9 +3,9 @@ ghost use Rattle.std.specs.Prelude.{◌≡◌, ℕ, List, map};
 ghost use Rattle.std.specs.List.{flat_map};
 ghost use Rattle.std.specs.Arc.{arc_value};
 ghost use Rattle.ts_key.specs.Items.{found, hit_at};
-ghost use Rattle.ts_key.specs.Visible.{is_newer, newer, visible};
+ghost use Rattle.ts_key.specs.Visible.{is_item_newer, newer_item, visible_item};
 ghost use Rattle.super_version.specs.Contents.{items_of_level, items_of_memtable, items_of_table};
-ghost use Rattle.point_read.specs.Tells.{is_above as stands_above};
+ghost use Rattle.point_read.specs.Tells.{is_item_above};
 
 use memtable::Mem;
 use std::sync::Arc;
@@ -14,14 +14,14 @@ use ts_key::{Hit, Seq, Ts};
 
 /// Whether the first is newer: by timestamp, then by sequence.
 fn is_newer_than(a: &Hit<'_>, b: &Hit<'_>) -> bool
-    ensures { (key : List ℕ) → result ≡ is_newer (hit_at key a.now) (hit_at key b.now) }
+    ensures { (key : List ℕ) → result ≡ is_item_newer (hit_at key a.now) (hit_at key b.now) }
 {
     b.ts.0 < a.ts.0 || (a.ts.0 == b.ts.0 && b.seq.0 < a.seq.0)
 }
 
 /// The newer of the best so far and what an older list has, the best where neither is.
 fn newer_of<'a>(best: Option<Hit<'a>>, other: Option<Hit<'a>>) -> Option<Hit<'a>>
-    ensures { (key : List ℕ) → found key result ≡ newer (found key best.entry) (found key other.entry) }
+    ensures { (key : List ℕ) → found key result ≡ newer_item (found key best.entry) (found key other.entry) }
 {
     let Some(a) = best else {
         return other;
@@ -34,7 +34,7 @@ fn newer_of<'a>(best: Option<Hit<'a>>, other: Option<Hit<'a>>) -> Option<Hit<'a>
 
 /// Whether the best so far is above every timestamp of a list.
 fn is_above(best: Option<Hit<'_>>, latest: Ts) -> bool
-    ensures { (key : List ℕ) → result ≡ stands_above (found key best.entry) latest.0 }
+    ensures { (key : List ℕ) → result ≡ is_item_above (found key best.entry) latest.0 }
 {
     match best {
         None => false,
@@ -44,7 +44,7 @@ fn is_above(best: Option<Hit<'_>>, latest: Ts) -> bool
 
 /// What a read sees in a memtable.
 fn hit_in<'a>(mem: &'a Mem, key: &[u8], t: Ts, s: Seq) -> Option<Hit<'a>>
-    ensures { found key.now result ≡ visible (items_of_memtable mem.now) key.now t.0 s.0 }
+    ensures { found key.now result ≡ visible_item (items_of_memtable mem.now) key.now t.0 s.0 }
 {
     match mem.find(key, t, s) {
         None => None,
@@ -60,7 +60,7 @@ pub fn newer_in_mem<'a>(
     t: Ts,
     s: Seq,
 ) -> Option<Hit<'a>>
-    ensures { found key.now result ≡ newer (found key.now best.entry) (visible (items_of_memtable mem.now) key.now t.0 s.0) }
+    ensures { found key.now result ≡ newer_item (found key.now best.entry) (visible_item (items_of_memtable mem.now) key.now t.0 s.0) }
 {
     if is_above(best, mem.latest()) {
         return best;
@@ -77,7 +77,7 @@ pub fn newer_in_mems<'a>(
     s: Seq,
 ) -> Option<Hit<'a>>
     ensures { found key.now result
-        ≡ newer (found key.now best.entry) (visible (flat_map items_of_memtable (map arc_value mems.now)) key.now t.0 s.0) }
+        ≡ newer_item (found key.now best.entry) (visible_item (flat_map items_of_memtable (map arc_value mems.now)) key.now t.0 s.0) }
 {
     let mut newest = best;
     for mem in mems {
@@ -94,7 +94,7 @@ fn newer_in_table<'a>(
     t: Ts,
     s: Seq,
 ) -> Option<Hit<'a>>
-    ensures { found key.now result ≡ newer (found key.now best.entry) (visible (items_of_table table.now) key.now t.0 s.0) }
+    ensures { found key.now result ≡ newer_item (found key.now best.entry) (visible_item (items_of_table table.now) key.now t.0 s.0) }
 {
     if is_above(best, table.latest()) {
         return best;
@@ -111,7 +111,7 @@ fn newer_in_level<'a>(
     s: Seq,
 ) -> Option<Hit<'a>>
     ensures { found key.now result
-        ≡ newer (found key.now best.entry) (visible (items_of_level (map arc_value tables.now)) key.now t.0 s.0) }
+        ≡ newer_item (found key.now best.entry) (visible_item (items_of_level (map arc_value tables.now)) key.now t.0 s.0) }
 {
     let mut newest = best;
     for table in tables {
@@ -129,7 +129,7 @@ pub fn newer_in_levels<'a>(
     s: Seq,
 ) -> Option<Hit<'a>>
     ensures { found key.now result
-        ≡ newer (found key.now best.entry) (visible (flat_map items_of_level (map arc_value levels.now)) key.now t.0 s.0) }
+        ≡ newer_item (found key.now best.entry) (visible_item (flat_map items_of_level (map arc_value levels.now)) key.now t.0 s.0) }
 {
     let mut newest = best;
     for tables in levels {

@@ -2,11 +2,11 @@
 ghost use Rattle.std.specs.Prelude.{◌≡◌, ℕ, ◌<◌, List, length, slice_get, Some};
 ghost use Rattle.ts_key.specs.declared.numbers.Family.{Family as FamilyOf};
 ghost use Rattle.ts_key.specs.Items.{found};
-ghost use Rattle.ts_key.specs.Visible.{visible};
+ghost use Rattle.ts_key.specs.Visible.{visible_item};
 ghost use Rattle.udt_model.specs.Reads.{read, stamp_of};
 ghost use Rattle.super_version.specs.declared.family.FamilyState.{FamilyState as StateOf};
-ghost use Rattle.super_version.specs.Contents.{items_in, versions_in};
-ghost use Rattle.point_read.specs.Tells.{answered, told};
+ghost use Rattle.super_version.specs.Contents.{items_of_family, versions_in};
+ghost use Rattle.point_read.specs.Tells.{answered, model_read};
 
 use crate::hits::{newer_in_levels, newer_in_mem, newer_in_mems};
 use super_version::{FamilyState, SuperVersion};
@@ -36,7 +36,7 @@ fn stamp(floor: Ts, ts: Ts) -> Stamp
 
 /// The newest version of the key with a timestamp up to `t` and a sequence up to `s`, in all lists of a family.
 fn find<'a>(state: &'a FamilyState, key: &[u8], t: Ts, s: Seq) -> Option<Hit<'a>>
-    ensures { found key.now result ≡ visible (items_in state.now) key.now t.0 s.0 }
+    ensures { found key.now result ≡ visible_item (items_of_family state.now) key.now t.0 s.0 }
 {
     let best = newer_in_mem(None, &state.active, key, t, s);
     let best = newer_in_mems(best, state.sealed.as_slice(), key, t, s);
@@ -45,7 +45,7 @@ fn find<'a>(state: &'a FamilyState, key: &[u8], t: Ts, s: Seq) -> Option<Hit<'a>
 
 /// What the newest version that it sees answers to a read: a put its value, a delete nothing.
 fn answer(floor: Ts, newest: Option<Hit<'_>>) -> Read<'_>
-    ensures { (family : FamilyOf) (key : List ℕ) → told result ≡ answered floor family key newest.entry }
+    ensures { (family : FamilyOf) (key : List ℕ) → model_read result ≡ answered floor family key newest.entry }
 {
     let Some(hit) = newest else {
         return Read::Absent;
@@ -61,7 +61,7 @@ fn answer(floor: Ts, newest: Option<Hit<'_>>) -> Read<'_>
 
 /// The read of a key of a family in this state.
 fn read_in<'a>(state: &'a FamilyState, key: &[u8], t: Ts, s: Seq) -> Read<'a>
-    ensures { (family : FamilyOf) → told result ≡ read (versions_in family state.now) state.now.floor family key.now t s }
+    ensures { (family : FamilyOf) → model_read result ≡ read (versions_in family state.now) state.now.floor family key.now t s }
 {
     if t.0 < state.floor.0 {
         return Read::Collapsed { floor: state.floor };
@@ -74,7 +74,7 @@ fn read_in<'a>(state: &'a FamilyState, key: &[u8], t: Ts, s: Seq) -> Read<'a>
 pub fn get<'a>(now: &'a SuperVersion, family: Family, key: &[u8], t: Ts, s: Seq) -> Read<'a>
     requires { family.0 < length now.now.families }
     ensures { (f : StateOf) → slice_get now.now.families family.0 ≡ Some f
-        → told result ≡ read (versions_in family f) f.floor family key.now t s }
+        → model_read result ≡ read (versions_in family f) f.floor family key.now t s }
 {
     match now.family(family) {
         None => Read::Absent,

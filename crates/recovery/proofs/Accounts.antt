@@ -13,7 +13,7 @@ use Rattle.engine_laws.proofs.Fixed.{reads_once}
 use Rattle.engine_laws.proofs.Keeping.{same_holds}
 use Rattle.engine_laws.proofs.Opened.{opened_holds}
 use Rattle.recovery.specs.Laws.{OpenedHolds, OpenedReads, account_of, said_in}
-use Rattle.recovery.specs.Places.{AreOpened, IsTableIn, place_in, place_of}
+use Rattle.recovery.specs.Places.{AreOpened, IsTableIn, place_in, table_place_of}
 use Rattle.recovery.specs.Tables.{ReadsAsTable, says_of}
 use Rattle.recovery.specs.declared.live.TablePlace.{TablePlace}
 use Rattle.recovery.specs.declared.tables.Opened.{Opened}
@@ -39,7 +39,7 @@ said_reads folder (x ∷ opened) n each o held is = elim (cases_Bool (x.table.nu
 -- the file of each table that was read held it
 each_held : (folder : Folder) (fold : Folded) (opened : List Opened) → AreOpened folder fold opened → (o : Opened) → In o opened → IsTableIn (folder (Table o.table.number)) o.table.table
 each_held folder fold opened all o held =
-    let live = all.places.each (place_of o) (In-contains (map place_of opened) (place_of o) (In-map place_of o opened held)) in
+    let live = all.places.each (table_place_of o) (In-contains (map table_place_of opened) (table_place_of o) (In-map table_place_of o opened held)) in
     (all.each o live.0 (In-contains opened o held) live.1.family).held
 
 pub opened_reads : OpenedReads
@@ -47,7 +47,7 @@ opened_reads folder fold version means shown = record {
   means = means;
   logs = shown.read;
   tables = λ family f t live.
-      let at = map-In place_of (place_in family t) shown.opened (contains_In (map place_of shown.opened) (place_in family t) (shown.tables.places.all (place_in family t) (f, live))) in
+      let at = map-In table_place_of (place_in family t) shown.opened (contains_In (map table_place_of shown.opened) (place_in family t) (shown.tables.places.all (place_in family t) (f, live))) in
       said_reads folder shown.opened t.number (each_held folder fold shown.opened shown.tables) at.0 at.1 (ap (λ (p : TablePlace). p.table.number) at.2);
 }
 

@@ -15,14 +15,14 @@ use Rattle.engine_laws.specs.Standing.{TableReads}
 use Rattle.recovery.specs.Opening.{IsShown, RefusesFiles}
 use Rattle.recovery.specs.Places.{IsTableOpened, IsTableIn}
 use Rattle.recovery.specs.Refusals.{AreReplayed, IsBadLog, IsBadLogFile, IsBadTable, IsMissingTable}
-use Rattle.recovery.specs.Tables.{AreInOrder, AreInOrderBelow, IsInOrder, ReadsAsTable}
+use Rattle.recovery.specs.Tables.{AreTablesInOrder, AreInOrderBelow, IsTableInOrder, ReadsAsTable}
 use Rattle.recovery.specs.declared.fault.OpenFault.{OpenFault}
 use Rattle.recovery.specs.declared.fault.OpenFault.TheVariants.{NoStore, BadManifest, MissingTable, BadTable, BadLog, DiskFault, NoMemory}
 use Rattle.recovery.specs.declared.tables.Opened.{Opened}
 
 -- each table that is in order there is here
 module _ (there here : Folder) (tables : (n : ℕ) → here (Table n) ≡ there (Table n)) where
-  pub order_here : (family : Family) (f : FamilyFold) (t : TableAt) → IsInOrder there family f t → IsInOrder here family f t
+  pub order_here : (family : Family) (f : FamilyFold) (t : TableAt) → IsTableInOrder there family f t → IsTableInOrder here family f t
   order_here family f t order = record {
     says = order.says;
     reads = subst (λ (image : Image). TableReads ReadsAsTable image order.says) (sym (tables t.number)) order.reads;
@@ -34,7 +34,7 @@ module _ (there here : Folder) (tables : (n : ℕ) → here (Table n) ≡ there 
   below_here : (fold : Folded) (n : ℕ) → AreInOrderBelow fold there n → AreInOrderBelow fold here n
   below_here fold n order family f t live less = order_here family f t (order family f t live less)
 
-  all_here : (fold : Folded) → AreInOrder fold there → AreInOrder fold here
+  all_here : (fold : Folded) → AreTablesInOrder fold there → AreTablesInOrder fold here
   all_here fold order family f t live = order_here family f t (order family f t live)
 
   opened_here : (f : FamilyFold) (o : Opened) → IsTableOpened there f o → IsTableOpened here f o

@@ -11,7 +11,7 @@ use Rattle.block_table.specs.Tables.{IsTable}
 use Rattle.engine_laws.specs.Manifests.{IsLive}
 use Rattle.recovery.specs.Fault.{IsStop}
 use Rattle.recovery.specs.Meeting.{IsFirstFault}
-use Rattle.recovery.specs.Places.{AreLivePlaces, HoldsTable, IsFitting, IsTableIn, RefusesPlace, RefusesReading, RefusesTables, number_at, place_of}
+use Rattle.recovery.specs.Places.{AreLivePlaces, HoldsTable, IsFitting, IsTableIn, RefusesPlace, RefusesReading, RefusesTables, number_at, table_place_of}
 use Rattle.recovery.specs.declared.fault.OpenFault.{OpenFault}
 use Rattle.recovery.specs.declared.fault.OpenFault.TheVariants.{NoStore, BadManifest, MissingTable, BadTable, BadLog, DiskFault, NoMemory}
 use Rattle.recovery.specs.declared.live.TablePlace.{TablePlace}
@@ -65,7 +65,7 @@ there_from image held stood missing = let is = stood.stood in cc
 -- ---- all tables
 
 pub place_tables : (folder : Folder) (fold : Folded) (places : List TablePlace) (live : AreLivePlaces fold places) (i : ℕ) (within : i < length places) (p : TablePlace) (at : p ≡ get_or places i p)
-    (opened : List Opened) (are : map place_of opened ≡ take i places) (each : EachOpened folder fold opened) (order : AreInOrderAt folder fold (take i places)) (f : FamilyFold) → IsLive fold p.family f p.table
+    (opened : List Opened) (are : map table_place_of opened ≡ take i places) (each : EachOpened folder fold opened) (order : AreInOrderAt folder fold (take i places)) (f : FamilyFold) → IsLive fold p.family f p.table
     → (e : OpenFault) → RefusesPlace folder f p e → RefusesTables fold folder e
 place_tables folder fold places live i within p at opened are each order f islive NoStore refused = refused
 place_tables folder fold places live i within p at opened are each order f islive (BadManifest offset) refused = refused
@@ -101,7 +101,7 @@ stop_tables folder fold NoMemory stop = tt
 
 -- what is told where the table at this place isn't opened
 pub first_tables : (folder : Folder) (fold : Folded) (places : List TablePlace) (live : AreLivePlaces fold places) (i : ℕ) (within : i < length places) (p : TablePlace) (at : p ≡ get_or places i p)
-    (opened : List Opened) (are : map place_of opened ≡ take i places) (each : EachOpened folder fold opened) (f : FamilyFold) → IsLive fold p.family f p.table
+    (opened : List Opened) (are : map table_place_of opened ≡ take i places) (each : EachOpened folder fold opened) (f : FamilyFold) → IsLive fold p.family f p.table
     → (fault e : OpenFault) → RefusesPlace folder f p fault → IsFirstFault (length fold.families) opened fault e → RefusesTables fold folder e
 first_tables folder fold places live i within p at opened are each f islive fault e refused (inl itself) =
     subst (RefusesTables fold folder) (sym itself.0) (⊎_elim (λ stop. stop_tables folder fold fault stop)

@@ -19,7 +19,7 @@ use Rattle.floor_laws.proofs.Members.{In}
 use Rattle.floor_laws.proofs.Tables.{Sorted}
 use Rattle.engine_laws.specs.Logs.{batches_of, last_of, versions_of}
 use Rattle.engine_laws.proofs.Ascending.{newest_last, rising_sorted, sorted_apart}
-use Rattle.recovery.specs.Replayed.{AreInLine, IsGap, IsGathered, IsJudged, IsNewestLog, IsNewestOf, IsReplayed, RefusesLog, RefusesLogs, RefusesOldest, gap_behind, is_ahead, next_behind, above_through}
+use Rattle.recovery.specs.Replayed.{AreInLine, IsGap, IsGathered, IsJudged, IsNewestLog, IsNewestOf, IsReplayed, RefusesLog, RefusesLogs, RefusesOldest, gap_behind, is_last_ahead, next_behind, above_through}
 use Rattle.recovery.specs.declared.fault.OpenFault.{OpenFault}
 use Rattle.recovery.specs.declared.fault.OpenFault.TheVariants.{NoStore, BadManifest, MissingTable, BadTable, BadLog, DiskFault, NoMemory}
 use Rattle.recovery.specs.declared.gathered.Gathered.{Gathered}
@@ -39,17 +39,17 @@ some_next : (b : Numbered) (bs : List Numbered) → (n : ℕ) × (next_sequence 
 some_next b [] = (sequence_after b, refl)
 some_next b (c ∷ bs) = some_next c bs
 
-behind_from : (last : ℕ) (bs : List Numbered) → is_ahead last (next_sequence bs) ≡ false → last ≤ last_of last bs
+behind_from : (last : ℕ) (bs : List Numbered) → is_last_ahead last (next_sequence bs) ≡ false → last ≤ last_of last bs
 behind_from last [] clear = omega arith
 behind_from last (b ∷ bs) clear =
     let n = some_next b bs in
-    omega (arith, next_last last (b ∷ bs) n.0 n.1, ltb-false (n.0 - 1) last (ap (is_ahead last) (sym n.1) ∙ clear))
+    omega (arith, next_last last (b ∷ bs) n.0 n.1, ltb-false (n.0 - 1) last (ap (is_last_ahead last) (sym n.1) ∙ clear))
 
-ahead_from : (last : ℕ) (bs : List Numbered) → is_ahead last (next_sequence bs) ≡ true → last ≤ last_of last bs → ⊥
+ahead_from : (last : ℕ) (bs : List Numbered) → is_last_ahead last (next_sequence bs) ≡ true → last ≤ last_of last bs → ⊥
 ahead_from last [] ahead behind = absurd cc
 ahead_from last (b ∷ bs) ahead behind =
     let n = some_next b bs in
-    absurd (omega (arith, behind, next_last last (b ∷ bs) n.0 n.1, ltb-true (n.0 - 1) last (ap (is_ahead last) (sym n.1) ∙ ahead)))
+    absurd (omega (arith, behind, next_last last (b ∷ bs) n.0 n.1, ltb-true (n.0 - 1) last (ap (is_last_ahead last) (sym n.1) ∙ ahead)))
 
 -- ---- the newest log
 
@@ -64,11 +64,11 @@ module _ (fold : Folded) (folder : Folder) (oldest : List ℕ) (newest : ℕ) (b
   sequence_all : g.gap ≡ None → IsInSequence (batches_of gathered_all.logs fold.logs)
   sequence_all none = subst (IsGap gathered_all.logs fold.logs) none gathered_all.gap
 
-  pub in_line : g.gap ≡ None → is_ahead fold.last.0 g.next ≡ false → AreInLine fold folder g
+  pub in_line : g.gap ≡ None → is_last_ahead fold.last.0 g.next ≡ false → AreInLine fold folder g
   in_line none clear = record {
     gathered = gathered_all;
     sequence = sequence_all none;
-    behind = behind_from fold.last.0 (batches_of gathered_all.logs fold.logs) (ap (is_ahead fold.last.0) (sym gathered_all.next) ∙ clear);
+    behind = behind_from fold.last.0 (batches_of gathered_all.logs fold.logs) (ap (is_last_ahead fold.last.0) (sym gathered_all.next) ∙ clear);
   }
 
   pub judged_refused : (e : OpenFault) → IsJudged fold.last.0 newest g e → RefusesLogs fold folder e
@@ -82,7 +82,7 @@ module _ (fold : Folded) (folder : Folder) (oldest : List ℕ) (newest : ℕ) (b
     read = gathered_all.read;
     why = inr (record {
       sequence = sequence_all ahead.0;
-      ahead = ahead_from fold.last.0 (batches_of gathered_all.logs fold.logs) (ap (is_ahead fold.last.0) (sym gathered_all.next) ∙ ahead.1);
+      ahead = ahead_from fold.last.0 (batches_of gathered_all.logs fold.logs) (ap (is_last_ahead fold.last.0) (sym gathered_all.next) ∙ ahead.1);
       newest = ahead.2 ∙ sym (newest_last oldest newest) ∙ ap newest_log (sym all.logs);
     });
     place = place;

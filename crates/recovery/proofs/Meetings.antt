@@ -13,19 +13,19 @@ use Rattle.floor_laws.proofs.Members.{In, In-append, In-contains, In-filter, In-
 use Rattle.super_version.specs.Levels.{stands_before}
 use Rattle.super_version.specs.Live.{Live}
 use Rattle.super_version.specs.declared.family.TheConstants.{LEVELS}
-use Rattle.recovery.specs.Meeting.{AreOfFiles, AreOnLevels, ClashesAmong, ClashesBelow, ClashesIn, ClashesOn, IsFirst, IsMet, IsUpto, Meets, kept_of, least_of, live_number, number_met, opened_number, span_at, table_in}
-use Rattle.recovery.specs.Versions.{is_on, tables_of}
+use Rattle.recovery.specs.Meeting.{AreOfFiles, AreOnLevels, ClashesAmong, ClashesBelow, ClashesIn, ClashesOn, IsFirst, IsMet, IsUpto, Meets, kept_of_two, lesser_of, live_number, number_met, opened_number, span_at, table_in}
+use Rattle.recovery.specs.Versions.{is_on, level_tables}
 use Rattle.recovery.specs.declared.tables.Opened.{Opened}
 use Rattle.recovery.proofs.Stating.{least_order}
 
 -- ---- the lesser of two
 
-upto_left : (f g : Option ℕ) (n : ℕ) → IsUpto f n → IsUpto (least_of f g) n
+upto_left : (f g : Option ℕ) (n : ℕ) → IsUpto f n → IsUpto (lesser_of f g) n
 upto_left None g n up = absurd up
 upto_left (Some m) None n up = up
 upto_left (Some m) (Some k) n up = elim (cases_Bool (nat_lt k m)) [ inl less ↦ rw less (omega (arith, up, ltb-true k m less)) | inr other ↦ rw other up ]
 
-upto_right : (f g : Option ℕ) (n : ℕ) → IsUpto g n → IsUpto (least_of f g) n
+upto_right : (f g : Option ℕ) (n : ℕ) → IsUpto g n → IsUpto (lesser_of f g) n
 upto_right None g n up = up
 upto_right (Some m) None n up = absurd up
 upto_right (Some m) (Some k) n up = elim (cases_Bool (nat_lt k m)) [ inl less ↦ rw less up | inr other ↦ rw other (omega (arith, up, ltb-false k m other)) ]
@@ -34,7 +34,7 @@ upto_more : (f : Option ℕ) (m n : ℕ) → m ≤ n → IsUpto f m → IsUpto f
 upto_more None m n more up = absurd up
 upto_more (Some k) m n more up = omega (arith, more, up)
 
-one_of_two : (f g : Option ℕ) (n : ℕ) → least_of f g ≡ Some n → (f ≡ Some n) ⊎ (g ≡ Some n)
+one_of_two : (f g : Option ℕ) (n : ℕ) → lesser_of f g ≡ Some n → (f ≡ Some n) ⊎ (g ≡ Some n)
 one_of_two None g n is = inr is
 one_of_two (Some m) None n is = inl is
 one_of_two (Some m) (Some k) n is =
@@ -45,7 +45,7 @@ one_of_two (Some m) (Some k) n is =
 
 module _ {X : Type 0} (number : X → ℕ) (R S T : X → X → Type 0) (xs : List X) where
   -- of two kinds of meeting together
-  pub first_of_both : (f g : Option ℕ) → ((a b : X) → Contains xs b → T a b → R a b ⊎ S a b) → ((a b : X) → R a b → T a b) → ((a b : X) → S a b → T a b) → IsFirst number R xs f → IsFirst number S xs g → IsFirst number T xs (least_of f g)
+  pub first_of_both : (f g : Option ℕ) → ((a b : X) → Contains xs b → T a b → R a b ⊎ S a b) → ((a b : X) → R a b → T a b) → ((a b : X) → S a b → T a b) → IsFirst number R xs f → IsFirst number S xs g → IsFirst number T xs (lesser_of f g)
   first_of_both f g split left right p q = record {
     least = λ a b has_a has_b met. ⊎_elim (λ r. upto_left f g (number b) (p.least a b has_a has_b r)) (λ s. upto_right f g (number b) (q.least a b has_a has_b s)) (split a b has_b met);
     met = λ n is. ⊎_elim
@@ -186,7 +186,7 @@ module _ (ts : List Live) (sorted : IsSortedBy (stands_before 1) ts) where
       later x (inr q) = inr (inr (stands x q))
 
     -- where it meets the last one, whose number is smaller
-    past_greater : meets (span_at last) (span_at t) ≡ true → last.number < t.number → Step last (least_of first (Some t.number))
+    past_greater : meets (span_at last) (span_at t) ≡ true → last.number < t.number → Step last (lesser_of first (Some t.number))
     past_greater met less = record {
       held = so_far.held;
       ahead = ahead_still;
@@ -206,7 +206,7 @@ module _ (ts : List Live) (sorted : IsSortedBy (stands_before 1) ts) where
     }
 
     -- whose number is greater
-    past_smaller : meets (span_at last) (span_at t) ≡ true → t.number < last.number → Step t (least_of first (Some last.number))
+    past_smaller : meets (span_at last) (span_at t) ≡ true → t.number < last.number → Step t (lesser_of first (Some last.number))
     past_smaller met less = record {
       held = here;
       ahead = ahead_here;
@@ -224,17 +224,17 @@ module _ (ts : List Live) (sorted : IsSortedBy (stands_before 1) ts) where
         is = (let same : Some last.number ≡ Some n = r in cc);
       }) (one_of_two first (Some last.number) n is);
     } where
-      later : (x : Live) → Passed first last x → Passed (least_of first (Some last.number)) t x
+      later : (x : Live) → Passed first last x → Passed (lesser_of first (Some last.number)) t x
       later x (inl old) = inl (upto_left first (Some last.number) x.number old)
       later x (inr (inl same)) = (let is = same.0 in inl (upto_right first (Some last.number) x.number (omega (arith, is))))
       later x (inr (inr below)) = inr (inr (below_to (span_at x).high (span_at last).low (span_at t).low below up))
 
-      behind_it : (x : Live) → Passed first last x → Meets x t → IsUpto (least_of first (Some last.number)) t.number
+      behind_it : (x : Live) → Passed first last x → Meets x t → IsUpto (lesser_of first (Some last.number)) t.number
       behind_it x (inl old) clash = (let more = clash.before in upto_left first (Some last.number) t.number (upto_more first x.number t.number (omega (arith, more)) old))
       behind_it x (inr (inl same)) clash = (let more = clash.before in let is = same.0 in absurd (omega (arith, more, is, less)))
       behind_it x (inr (inr below)) clash = absurd (apart_before (span_at x) (span_at t) (below_to (span_at x).high (span_at last).low (span_at t).low below up) clash.meet)
 
-      before_it : (x : Live) → Passed first last x → Meets t x → IsUpto (least_of first (Some last.number)) x.number
+      before_it : (x : Live) → Passed first last x → Meets t x → IsUpto (lesser_of first (Some last.number)) x.number
       before_it x (inl old) clash = upto_left first (Some last.number) x.number old
       before_it x (inr (inl same)) clash = (let is = same.0 in upto_right first (Some last.number) x.number (omega (arith, is)))
       before_it x (inr (inr below)) clash = absurd (apart_behind (span_at x) (span_at t) (below_to (span_at x).high (span_at last).low (span_at t).low below up) clash.meet)
@@ -264,12 +264,12 @@ module _ (ts : List Live) (sorted : IsSortedBy (stands_before 1) ts) where
       before_it x (inr (inl same)) clash = (let more = clash.before in let one = same.0 in absurd (omega (arith, more, one, is)))
       before_it x (inr (inr below)) clash = absurd (apart_behind (span_at x) (span_at last) below (subst (λ (s : KeySpan). meets s (span_at x) ≡ true) (sym span) clash.meet))
 
-    none_more : (f : Option ℕ) → least_of f None ≡ f
+    none_more : (f : Option ℕ) → lesser_of f None ≡ f
     none_more None = refl
     none_more (Some m) = refl
 
     -- the step that is taken
-    walked_more : Walked ts (i + 1) (kept_of last t) (least_of first (number_met last t))
+    walked_more : Walked ts (i + 1) (kept_of_two last t) (lesser_of first (number_met last t))
     walked_more =
         elim (cases_Bool (meets (span_at last) (span_at t))) [
           | inl met ↦ elim (cases_order last.number t.number) [
@@ -278,11 +278,11 @@ module _ (ts : List Live) (sorted : IsSortedBy (stands_before 1) ts) where
                 (rw (met, le-ltb last.number t.number (omega (arith, is)), le-ltb t.number last.number (omega (arith, is))) (none_more first))
                 (past_same met is)
             | inr order ↦ elim order [
-              | inl less ↦ walked_as last (least_of first (Some t.number))
+              | inl less ↦ walked_as last (lesser_of first (Some t.number))
                   (rw (met, le-ltb t.number last.number (omega (arith, less))) refl)
                   (rw (met, lt-ltb last.number t.number less) refl)
                   (past_greater met less)
-              | inr more ↦ walked_as t (least_of first (Some last.number))
+              | inr more ↦ walked_as t (lesser_of first (Some last.number))
                   (rw (met, lt-ltb t.number last.number more) refl)
                   (rw (met, le-ltb last.number t.number (omega (arith, more)), lt-ltb t.number last.number more) refl)
                   (past_smaller met more)
@@ -291,9 +291,9 @@ module _ (ts : List Live) (sorted : IsSortedBy (stands_before 1) ts) where
           | inr apart ↦ walked_as t first (rw apart refl) (rw apart (none_more first)) (past_apart apart)
         ]
       where
-        walked_as : (kept : Live) (next : Option ℕ) → kept_of last t ≡ kept → least_of first (number_met last t) ≡ next → Step kept next → Walked ts (i + 1) (kept_of last t) (least_of first (number_met last t))
+        walked_as : (kept : Live) (next : Option ℕ) → kept_of_two last t ≡ kept → lesser_of first (number_met last t) ≡ next → Step kept next → Walked ts (i + 1) (kept_of_two last t) (lesser_of first (number_met last t))
         walked_as kept next one two step =
-            subst (λ (f : Option ℕ). Walked ts (i + 1) (kept_of last t) f) (sym two) (subst (λ (k : Live). Walked ts (i + 1) k next) (sym one) (walked_by kept next step))
+            subst (λ (f : Option ℕ). Walked ts (i + 1) (kept_of_two last t) f) (sym two) (subst (λ (k : Live). Walked ts (i + 1) k next) (sym one) (walked_by kept next step))
 
   -- behind the last table
   walked_all : (i : ℕ) (last : Live) (first : Option ℕ) → length ts ≤ i → Walked ts i last first → IsFirst live_number Meets ts first
@@ -317,7 +317,7 @@ module _ {A : Type 0} (f : A → Live) (xs : List A) (sorted : IsSortedBy (stand
       let some = at.0 in
       walked_none (map f xs) sorted (f x) (omega (arith, some, length-map xs f)) (sym (get_or-map f xs 0 x (f x) some ∙ ap f (sym at.1)))
 
-  pub walked_next : AreOfFiles (map f xs) → (i : ℕ) (x : A) (last : Live) (first : Option ℕ) → i < length xs → x ≡ get_or xs i x → Walked (map f xs) i last first → Walked (map f xs) (i + 1) (kept_of last (f x)) (least_of first (number_met last (f x)))
+  pub walked_next : AreOfFiles (map f xs) → (i : ℕ) (x : A) (last : Live) (first : Option ℕ) → i < length xs → x ≡ get_or xs i x → Walked (map f xs) i last first → Walked (map f xs) (i + 1) (kept_of_two last (f x)) (lesser_of first (number_met last (f x)))
   walked_next files i x last first within at so_far = walked_more (map f xs) sorted files i (omega (arith, within, length-map xs f)) (f x) (sym (get_or-map f xs i x (f x) within ∙ ap f (sym at))) last first so_far
 
   pub walked_end : (i : ℕ) (last : Live) (first : Option ℕ) → length xs ≤ i → Walked (map f xs) i last first → IsFirst live_number Meets (map f xs) first
@@ -331,7 +331,7 @@ files_within ts us within files = record {
   same = λ t u has_t has_u is. files.same t u (In-contains us t (within t (contains_In ts t has_t))) (In-contains us u (within u (contains_In ts u has_u))) is;
 }
 
-module _ (family : Family) (level : ℕ) (opened : List Opened) (tables shown : List Live) (are : tables ≡ tables_of family level opened) (moved : IsPermutation tables shown) where
+module _ (family : Family) (level : ℕ) (opened : List Opened) (tables shown : List Live) (are : tables ≡ level_tables family level opened) (moved : IsPermutation tables shown) where
   opened_on : (x : Live) → In x shown → (o : Opened) × In o opened × (is_on family level o ≡ true) × (o.table ≡ x)
   opened_on x held =
       let there = contains_In tables x (Contains-permutation shown tables x (IsPermutation-sym tables shown moved) (In-contains shown x held)) in
@@ -383,7 +383,7 @@ module _ (opened : List Opened) where
   clash_nowhere family = first_of_none opened_number (ClashesBelow family 1) opened (λ a b has_b clash. (let deep = clash.0.deep in let below = clash.2 in absurd (omega (arith, deep, below))))
 
   -- one level more
-  pub first_more : (family : Family) (level : ℕ) (f g : Option ℕ) → IsFirst opened_number (ClashesBelow family level) opened f → IsFirst opened_number (ClashesOn family level) opened g → IsFirst opened_number (ClashesBelow family (level + 1)) opened (least_of f g)
+  pub first_more : (family : Family) (level : ℕ) (f g : Option ℕ) → IsFirst opened_number (ClashesBelow family level) opened f → IsFirst opened_number (ClashesOn family level) opened g → IsFirst opened_number (ClashesBelow family (level + 1)) opened (lesser_of f g)
   first_more family level f g p q = first_of_both opened_number (ClashesBelow family level) (ClashesOn family level) (ClashesBelow family (level + 1)) opened f g
       (λ a b has_b clash. (let below = clash.2 in ⊎_elim (λ less. inl (clash.0, clash.1, less)) (λ other. inr (clash.0, clash.1, omega (arith, below, other))) (cases_lt b.level level)))
       (λ a b clash. (let below = clash.2 in (clash.0, clash.1, omega (arith, below))))
@@ -401,7 +401,7 @@ module _ (opened : List Opened) where
   clash_in_none = first_of_none opened_number (ClashesAmong 0) opened (λ a b has_b clash. (let below = clash.1 in absurd (omega (arith, below))))
 
   -- one family more
-  pub first_among_more : (count : ℕ) (f g : Option ℕ) → IsFirst opened_number (ClashesAmong count) opened f → IsFirst opened_number (ClashesIn (record { 0 = count })) opened g → IsFirst opened_number (ClashesAmong (count + 1)) opened (least_of f g)
+  pub first_among_more : (count : ℕ) (f g : Option ℕ) → IsFirst opened_number (ClashesAmong count) opened f → IsFirst opened_number (ClashesIn (record { 0 = count })) opened g → IsFirst opened_number (ClashesAmong (count + 1)) opened (lesser_of f g)
   first_among_more count f g p q = first_of_both opened_number (ClashesAmong count) (ClashesIn (record { 0 = count })) (ClashesAmong (count + 1)) opened f g
       (λ a b has_b clash. (let below = clash.1 in ⊎_elim (λ less. inl (clash.0, less)) (λ other. inr (clash.0, omega (arith, below, other))) (cases_lt b.family.0 count)))
       (λ a b clash. (let below = clash.1 in (clash.0, omega (arith, below))))

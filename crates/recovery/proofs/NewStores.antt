@@ -25,7 +25,7 @@ use Rattle.floor_laws.proofs.Members.{contains_In}
 use Rattle.engine_laws.specs.Standing.{FolderStands, TableSays, fresh_says, new_state}
 use Rattle.engine_laws.proofs.Folding.{head_dead}
 use Rattle.engine_laws.proofs.Opened.{new_stands as new_is_new}
-use Rattle.recovery.specs.Making.{IsMakingName, IsNoneOrNew, KeepsOthers}
+use Rattle.recovery.specs.Making.{IsMakingName, IsNewStore, IsNoneOrNew, KeepsOthers}
 use Rattle.recovery.specs.Tables.{ReadsAsTable}
 
 -- ---- a new store
@@ -42,7 +42,7 @@ first_alone : (n : ℕ) → Contains (1 ∷ []) n → n ≡ 1
 first_alone n is = ⊎_elim (λ one. sym one) (λ none. absurd none) (contains_In (1 ∷ []) n is)
 
 -- a new manifest beside a log without batches
-pub new_stands : (folder : Folder) (families : List FamilyHead) → Means folder (store (fold_of families)) → folder (Log 1) ≡ Some (90 ∷ []) → FolderStands ReadsAsTable folder (new_state families)
+new_stands : (folder : Folder) (families : List FamilyHead) → Means folder (store (fold_of families)) → folder (Log 1) ≡ Some (90 ∷ []) → FolderStands ReadsAsTable folder (new_state families)
 new_stands folder families means log =
     let sizes = sizes_of (fold_of families) in
     let first : ReadsAs sizes [] (folder (Log 1)) = subst (ReadsAs sizes []) (sym log) (empty_log sizes) in
@@ -55,6 +55,9 @@ new_stands folder families means log =
       };
       stands = new_is_new families no_tables;
     }
+
+pub new_store : (folder : Folder) (families : List FamilyHead) → Means folder (store (fold_of families)) → folder (Log 1) ≡ Some (90 ∷ []) → IsNewStore families folder
+new_store folder families means log = record { means = means; stands = new_stands folder families means log }
 
 -- what stands once the manifest is given back
 pub made_means : (families : List FamilyHead) (folder : Folder) (bytes : List ℕ) → folder Made ≡ Some [] → chosen_by (folder Current) ≡ Manifest0 → folder Manifest0 ≡ Some bytes → HasFold (Some bytes) (fold_of families) → Means folder (store (fold_of families))
@@ -109,12 +112,12 @@ module _ {D F : Type 0} (d : disk.Ghosts D F) (f : file.Ghosts F) where
         manifest_step manifest =
             ran_on d f (IsNoneOrNew families) (alone old) (alone mid) (alone new) log_step
             (ran_more d f (IsNoneOrAll d mid families) (IsNoneOrNew families) (λ folder all. ⊎_elim (λ none. inl none)
-            (λ means. inr (new_stands folder families means (durable (folder (Log 1)) (all.others (Log 1) log_isn't_touched)))) all.store) (alone mid) (alone new) (manifest (still_unmade old mid unmade touches)))
+            (λ means. inr (new_store folder families means (durable (folder (Log 1)) (all.others (Log 1) log_isn't_touched)))) all.store) (alone mid) (alone new) (manifest (still_unmade old mid unmade touches)))
 
         -- and on the disk
-        pub all_there : Touches d IsStoreName mid new → LeavesNow d f (λ (folder : Folder). Means folder (store (fold_of families))) (alone new) → LeavesNow d f (λ (folder : Folder). FolderStands ReadsAsTable folder (new_state families)) (alone new)
+        pub all_there : Touches d IsStoreName mid new → LeavesNow d f (λ (folder : Folder). Means folder (store (fold_of families))) (alone new) → LeavesNow d f (IsNewStore families) (alone new)
         all_there run means folder image =
-            new_stands folder families (means folder image) (durable (folder (Log 1)) (run.no_more (Log 1) (folder (Log 1)) log_isn't_touched (image.others (Log 1) (λ x held. absurd held))))
+            new_store folder families (means folder image) (durable (folder (Log 1)) (run.no_more (Log 1) (folder (Log 1)) log_isn't_touched (image.others (Log 1) (λ x held. absurd held))))
 
   -- ---- behind the look for a store
 

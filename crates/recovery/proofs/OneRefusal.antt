@@ -21,7 +21,7 @@ use Rattle.engine_laws.specs.Logs.{batches_of}
 use Rattle.engine_laws.proofs.Batches.{batches_append, batches_same}
 use Rattle.recovery.specs.Laws.{OneRefusal}
 use Rattle.recovery.specs.Refusals.{AreRefused, AreReplayed, IsAhead, IsBadLog, IsBadLogFile, IsBadTable, IsFirstBadLog, IsFirstGap, IsMissingTable, IsReached}
-use Rattle.recovery.specs.Tables.{AreInOrder, IsInOrder}
+use Rattle.recovery.specs.Tables.{AreTablesInOrder, IsTableInOrder}
 use Rattle.recovery.specs.declared.fault.OpenFault.TheVariants.{NoStore, BadManifest, MissingTable, BadTable, BadLog, DiskFault, NoMemory}
 use Rattle.recovery.proofs.FirstBad.{bad_file_holds_none, bad_file_once}
 use Rattle.recovery.proofs.Openings.{usable_from}
@@ -59,7 +59,7 @@ module _ (folder : Folder) (fold : Folded) where
     table : TableAt
     number : table.number ≡ n
     reached : IsReached fold folder family f table
-    bad : IsInOrder folder family f table → ⊥
+    bad : IsTableInOrder folder family f table → ⊥
 
   missing_first : (n : ℕ) → IsMissingTable fold folder n → IsFirst n
   missing_first n missing = record {
@@ -83,7 +83,7 @@ module _ (folder : Folder) (fold : Folded) where
     | inr rest ↦ elim rest [ inl less ↦ absurd (not_before n m p q less) | inr more ↦ absurd (not_before m n q p more) ]
   ]
 
-  no_first_in_order : (n : ℕ) → IsFirst n → AreInOrder fold folder → ⊥
+  no_first_in_order : (n : ℕ) → IsFirst n → AreTablesInOrder fold folder → ⊥
   no_first_in_order n p order = p.bad (order p.family p.f p.table p.reached.live)
 
   -- ---- logs

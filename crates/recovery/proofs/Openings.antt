@@ -1,10 +1,12 @@
 -- The parts of an opening together.
-use Rattle.std.proofs.Common.{◌≡◌, ◌≢◌, ℕ, ◌-◌, ◌≤◌, List, [], ◌∷◌, length, map, max, Some, None, sym, ap, ◌∙◌, subst, arith, inl, inr, ⊎_elim}
+use Rattle.std.proofs.Common.{◌≡◌, ◌≢◌, ℕ, ◌-◌, ◌≤◌, ◌==◌, List, [], ◌∷◌, length, map, max, Some, None, refl, sym, ap, ◌∙◌, subst, arith, inl, inr, ⊎_elim}
+use Rattle.std.proofs.lemmas.Bool.{cases_Bool}
 use Rattle.std.proofs.lemmas.List.{length-map}
 use Rattle.ts_key.specs.declared.numbers.Seq.{Seq}
 use Rattle.ts_key.specs.declared.version.Version.{Version}
+use Rattle.udt_disk.specs.Crash.{Image}
 use Rattle.udt_disk.specs.Joint.{Folder, IsFree, IsHeld}
-use Rattle.udt_disk.specs.Moments.{holding}
+use Rattle.udt_disk.specs.Moments.{IsClean, holding}
 use Rattle.udt_disk.specs.Touches.{Touches}
 use Rattle.udt_disk.specs.declared.file.DiskFile as file
 use Rattle.udt_disk.specs.declared.disk.Disk as disk
@@ -19,18 +21,19 @@ use Rattle.manifest_fold.specs.Bodies.{LeadAll}
 use Rattle.manifest_fold.specs.Folds.{newest_log}
 use Rattle.manifest.specs.Folds.{IsManifest, IsManifestFold, family_fold, fold_of, sizes_of}
 use Rattle.manifest.specs.Making.{IsReadName}
-use Rattle.manifest.specs.Folders.{IsManifestName, Means}
+use Rattle.manifest.specs.Folders.{IsManifestName, Means, chosen_by}
 use Rattle.manifest.specs.Folders.Meaning.{store}
 use Rattle.super_version.specs.declared.version.SuperVersion.{SuperVersion}
 use Rattle.engine_laws.specs.Logs.{batches_of, last_over, versions_of}
 use Rattle.engine_laws.specs.Manifests.{IsWell}
+use Rattle.engine_laws.specs.Moves.{IsLiveName}
 use Rattle.engine_laws.proofs.Folding.{families_length}
 use Rattle.engine_laws.proofs.Opened.{manifest_well}
-use Rattle.recovery.specs.Opening.{IsShown, IsUsable, RefusesFiles, RefusesOpening}
+use Rattle.recovery.specs.Opening.{AreLiveClean, IsShown, IsUsable, RefusesFiles, RefusesOpening}
 use Rattle.recovery.specs.Versions.{ShowsVersion}
 use Rattle.recovery.specs.Places.{AreOpened, HasPlaces, IsTableName, RefusesTables}
 use Rattle.recovery.specs.Replayed.{AreInLine, IsLogName, IsNewestLog, RefusesLogs, above_through}
-use Rattle.recovery.specs.Tables.{AreInOrder}
+use Rattle.recovery.specs.Tables.{AreTablesInOrder}
 use Rattle.recovery.specs.declared.fault.OpenFault.{OpenFault}
 use Rattle.recovery.specs.declared.fault.OpenFault.TheVariants.{NoStore, BadManifest, MissingTable, BadTable, BadLog, DiskFault, NoMemory}
 use Rattle.recovery.specs.declared.gathered.Gathered.{Gathered}
@@ -48,7 +51,7 @@ tables_files fold folder (BadLog n at) refused = absurd refused
 tables_files fold folder DiskFault refused = tt
 tables_files fold folder NoMemory refused = tt
 
-pub logs_files : (fold : Folded) (folder : Folder) → AreInOrder fold folder → (e : OpenFault) → RefusesLogs fold folder e → RefusesFiles fold folder e
+pub logs_files : (fold : Folded) (folder : Folder) → AreTablesInOrder fold folder → (e : OpenFault) → RefusesLogs fold folder e → RefusesFiles fold folder e
 logs_files fold folder order NoStore refused = refused
 logs_files fold folder order (BadManifest at) refused = refused
 logs_files fold folder order (MissingTable n) refused = absurd refused
@@ -124,6 +127,12 @@ usable_from fold (bodies, means) = usable_of bodies fold means
 
 -- ---- names
 
+-- the chosen manifest is live
+pub chosen_is_live : (current : Image) (fold : Folded) → IsLiveName (chosen_by current) fold (chosen_by current)
+chosen_is_live None fold = refl
+chosen_is_live (Some []) fold = refl
+chosen_is_live (Some (byte ∷ bytes)) fold = elim (cases_Bool (byte == 165)) [ inl y ↦ rw y refl | inr y ↦ rw y refl ]
+
 log_isn't_read : (number : ℕ) → ¬ IsReadName (Log number)
 log_isn't_read number (inl (inl (inl is))) = cc
 log_isn't_read number (inl (inl (inr is))) = cc
@@ -148,6 +157,10 @@ module _ {F : Type 0} where
   -- a file among one
   pub only_held : (a z : F) → IsHeld (a ∷ []) z → a ≡ z
   only_held a z held = ⊎_elim (λ is. is) (λ none. absurd none) held
+
+-- where a crash leaves nothing else under any name, so it is under live names
+pub clean_live : {D F : Type 0} (d : disk.Ghosts D F) (disk : D) (fold : Folded) → IsClean d disk → AreLiveClean d disk fold
+clean_live d disk fold clean n c live left = clean n c left
 
 module _ {D F : Type 0} (d : disk.Ghosts D F) (f : file.Ghosts F) where
   -- no table and no log is held beside the manifest

@@ -22,15 +22,15 @@ use Rattle.block_table.specs.Held.{Held}
 use Rattle.block_table.specs.Tables.{IsTable}
 use Rattle.floor_laws.proofs.Members.{In, In-append, In-contains, In-left, In-map, In-right, contains_In, map-In}
 use Rattle.floor_laws.proofs.Tables.{Sorted}
-use Rattle.engine_laws.specs.Manifests.{IsLive, number_of}
+use Rattle.engine_laws.specs.Manifests.{IsLive, table_number}
 use Rattle.engine_laws.proofs.Ascending.{rising_sorted}
 use Rattle.engine_laws.specs.Standing.{Fits, TableReads, TableSays}
 use Rattle.super_version.specs.Live.{Live}
 use Rattle.super_version.specs.declared.family.TheConstants.{LEVELS}
 use Rattle.recovery.specs.Meeting.{AreOfFiles, AreOnLevels, Clashes, ClashesAmong, IsFirst, IsUpto, opened_number, span_at, table_in}
-use Rattle.recovery.specs.Places.{AreLivePlaces, AreOpened, HasPlaces, HoldsTable, IsFitting, IsLivePlace, IsTableOpened, IsTableIn, number_at, place_in, place_of, places_from, span_in}
+use Rattle.recovery.specs.Places.{AreLivePlaces, AreOpened, HasPlaces, HoldsTable, IsFitting, IsLivePlace, IsTableOpened, IsTableIn, number_at, place_in, table_place_of, places_from, span_in}
 use Rattle.recovery.specs.Refusals.{IsBadTable}
-use Rattle.recovery.specs.Tables.{AreInOrderBelow, IsFlushed, IsInOrder, ReadsAsTable, says_of}
+use Rattle.recovery.specs.Tables.{AreInOrderBelow, IsTableFlushed, IsTableInOrder, ReadsAsTable, says_of}
 use Rattle.recovery.specs.declared.live.TablePlace.{TablePlace}
 use Rattle.recovery.specs.declared.tables.Opened.{Opened}
 use Rattle.recovery.proofs.Spans.{span_of_table, span_rises}
@@ -101,13 +101,13 @@ all_in : {X : Type 0} (P : X → Type 0) (xs : List X) → ((x : X) → In x xs 
 all_in P [] each = tt
 all_in P (x ∷ xs) each = (each x (inl refl), all_in P xs (λ y held. each y (inr held)))
 
-numbers_in : (family : Family) (n : ℕ) (ts : List TableAt) (q : TablePlace) → ((m : ℕ) → In m (map number_of ts) → n < m) → In q (map (place_in family) ts) → n ≡ number_at q → ⊥
+numbers_in : (family : Family) (n : ℕ) (ts : List TableAt) (q : TablePlace) → ((m : ℕ) → In m (map table_number ts) → n < m) → In q (map (place_in family) ts) → n ≡ number_at q → ⊥
 numbers_in family n ts q above held is =
     let t = map-In (place_in family) q ts held in
-    let more = above t.0.number (In-map number_of t.0 ts t.1) in
+    let more = above t.0.number (In-map table_number t.0 ts t.1) in
     absurd (omega (arith, more, is, ap number_at t.2))
 
-once_more : (family : Family) (ts : List TableAt) (rest : List TablePlace) → Sorted (map number_of ts) → IsDistinct nat_eq (map number_at rest) → ((t : TableAt) (q : TablePlace) → In t ts → In q rest → t.number ≡ number_at q → ⊥)
+once_more : (family : Family) (ts : List TableAt) (rest : List TablePlace) → Sorted (map table_number ts) → IsDistinct nat_eq (map number_at rest) → ((t : TableAt) (q : TablePlace) → In t ts → In q rest → t.number ≡ number_at q → ⊥)
     → IsDistinct nat_eq (map number_at (map (place_in family) ts ++ rest))
 unfolding IsDistinct
 once_more family [] rest sorted once apart = once
@@ -122,12 +122,12 @@ once_more family (t ∷ ts) rest sorted once apart = (
       (In-append q.0 (map (place_in family) ts) rest q.1))
 
 -- the tables of families, where each family's numbers rise and no two families share one
-places_once : (i : ℕ) (fs : List FamilyFold) → ((k : ℕ) (f : FamilyFold) → slice_get fs k ≡ Some f → IsStrictlyIncreasing (map number_of f.tables))
+places_once : (i : ℕ) (fs : List FamilyFold) → ((k : ℕ) (f : FamilyFold) → slice_get fs k ≡ Some f → IsStrictlyIncreasing (map table_number f.tables))
     → ((k m : ℕ) (f g : FamilyFold) (t u : TableAt) → slice_get fs k ≡ Some f → slice_get fs m ≡ Some g → In t f.tables → In u g.tables → t.number ≡ u.number → k ≡ m) → IsDistinct nat_eq (map number_at (places_from i fs))
 unfolding IsDistinct
 places_once i [] rising apart = tt
 places_once i (f ∷ fs) rising apart =
-    once_more (family_at i) f.tables (places_from (i + 1) fs) (rising_sorted (map number_of f.tables) (rising 0 f refl))
+    once_more (family_at i) f.tables (places_from (i + 1) fs) (rising_sorted (map table_number f.tables) (rising 0 f refl))
     (places_once (i + 1) fs (λ k g there. rising (suc k) g there) (λ k m g h t u at_g at_h held_t held_u same. (let one = apart (suc k) (suc m) g h t u at_g at_h held_t held_u same in omega (arith, one))))
     (λ t q held there same. (let r = places_in (i + 1) fs q there in let one = apart 0 (suc r.k) f r.f t q.table refl r.there held r.table same in absurd (omega (arith, one))))
 
@@ -180,7 +180,7 @@ live_places fold well listed places are moved ascending = record {
 
 -- the tables at these places are in order
 abbrev pub AreInOrderAt : Folder → Folded → List TablePlace → Type 0
-AreInOrderAt folder fold places = (p : TablePlace) (f : FamilyFold) → In p places → IsLive fold p.family f p.table → IsInOrder folder p.family f p.table
+AreInOrderAt folder fold places = (p : TablePlace) (f : FamilyFold) → In p places → IsLive fold p.family f p.table → IsTableInOrder folder p.family f p.table
 
 abbrev pub EachOpened : Folder → Folded → List Opened → Type 0
 EachOpened folder fold opened = (o : Opened) (f : FamilyFold) → In o opened → slice_get fold.families o.family.0 ≡ Some f → IsTableOpened folder f o
@@ -223,7 +223,7 @@ false_from : (b : Bool) → (b ≡ true → ⊥) → b ≡ false
 false_from true h = absurd (h refl)
 false_from false h = refl
 
-module _ (folder : Folder) (fold : Folded) (places : List TablePlace) (live : AreLivePlaces fold places) (i : ℕ) (upto : i ≤ length places) (opened : List Opened) (are : map place_of opened ≡ take i places) (each : EachOpened folder fold opened) where
+module _ (folder : Folder) (fold : Folded) (places : List TablePlace) (live : AreLivePlaces fold places) (i : ℕ) (upto : i ≤ length places) (opened : List Opened) (are : map table_place_of opened ≡ take i places) (each : EachOpened folder fold opened) where
   -- live tables with smaller numbers than one of these, or than the next one, were read
   earlier : (k : ℕ) → k ≤ i → k < length places → (p : TablePlace) → p ≡ get_or places k p → (q : TablePlace) → IsLivePlace fold q → number_at q < number_at p → In q (take i places)
   earlier k below within p at q islive less =
@@ -233,22 +233,22 @@ module _ (folder : Folder) (fold : Folded) (places : List TablePlace) (live : Ar
       let front : held.0 < k = ⊎_elim (λ less. less) (λ above. absurd (later above)) (cases_lt held.0 k) in
       contains_In (take i places) q (held.0, omega (arith, front, below, upto, length-take-le i places upto), get_or-take i places held.0 q (omega (arith, front, below)) ∙ held.2)
 
-  opened_at : (q : TablePlace) → In q (take i places) → (o : Opened) × In o opened × (place_of o ≡ q)
-  opened_at q there = map-In place_of q opened (subst (In q) (sym are) there)
+  opened_at : (q : TablePlace) → In q (take i places) → (o : Opened) × In o opened × (table_place_of o ≡ q)
+  opened_at q there = map-In table_place_of q opened (subst (In q) (sym are) there)
 
-  place_at : (o : Opened) → In o opened → In (place_of o) (take i places)
-  place_at o held = subst (In (place_of o)) are (In-map place_of o opened held)
+  place_at : (o : Opened) → In o opened → In (table_place_of o) (take i places)
+  place_at o held = subst (In (table_place_of o)) are (In-map table_place_of o opened held)
 
-  pub live_of : (o : Opened) → In o opened → IsLivePlace fold (place_of o)
-  live_of o held = live.each (place_of o) (Contains-take places i (place_of o) (In-contains (take i places) (place_of o) (place_at o held)))
+  pub live_of : (o : Opened) → In o opened → IsLivePlace fold (table_place_of o)
+  live_of o held = live.each (table_place_of o) (Contains-take places i (table_place_of o) (In-contains (take i places) (table_place_of o) (place_at o held)))
 
   earlier_than : (o : Opened) → In o opened → (q : TablePlace) → IsLivePlace fold q → number_at q < o.table.number → In q (take i places)
   earlier_than o held q islive less =
-      let there = In-contains (take i places) (place_of o) (place_at o held) in
+      let there = In-contains (take i places) (table_place_of o) (place_at o held) in
       let short = length-take-le i places upto in
       let k = there.0 in
       let first : k < i = (let within = there.1 in omega (arith, within, short)) in
-      earlier k (omega (arith, first)) (omega (arith, first, upto)) (place_of o) (sym (sym (get_or-take i places k (place_of o) first) ∙ there.2)) q islive less
+      earlier k (omega (arith, first)) (omega (arith, first, upto)) (table_place_of o) (sym (sym (get_or-take i places k (table_place_of o) first) ∙ there.2)) q islive less
 
   opened_in : (f : FamilyFold) (o : Opened) → In o opened → slice_get fold.families o.family.0 ≡ Some f → IsTableOpened folder f o
   opened_in f o held family = each o f held family
@@ -277,7 +277,7 @@ module _ (folder : Folder) (fold : Folded) (places : List TablePlace) (live : Ar
         sym (span_held image a.table.table at_a) ∙ ap (λ (s : TableSays). span_of s.versions) (read_once image b.table.table (says_of a.table.table.contents) at_b (reads_held image a.table.table at_a)) ∙ span_held image b.table.table at_b
 
   pub on_levels : ((p : TablePlace) → IsLivePlace fold p → p.table.level < LEVELS) → AreOnLevels opened
-  on_levels levels = record { files = rising_files; levels = λ o has. levels (place_of o) (live_of o (contains_In opened o has)) }
+  on_levels levels = record { files = rising_files; levels = λ o has. levels (table_place_of o) (live_of o (contains_In opened o has)) }
 
   -- what clashes does so among the families of the fold
   pub among_all : (first : Option ℕ) → IsFirst opened_number (ClashesAmong (length fold.families)) opened first → (a b : Opened) → In a opened → In b opened → Clashes a b → IsUpto first b.table.number
@@ -286,7 +286,7 @@ module _ (folder : Folder) (fold : Folded) (places : List TablePlace) (live : Ar
       f.least a b (In-contains opened a held_a) (In-contains opened b held_b) (clash, get_below fold.families b.family.0 l.0 l.1.family)
 
   -- one that no table with a smaller number clashes with is in order
-  in_order : (o : Opened) → In o opened → (f : FamilyFold) → IsLive fold o.family f (place_of o).table → ((a : Opened) → In a opened → Clashes a o → ⊥) → IsInOrder folder o.family f (place_of o).table
+  in_order : (o : Opened) → In o opened → (f : FamilyFold) → IsLive fold o.family f (table_place_of o).table → ((a : Opened) → In a opened → Clashes a o → ⊥) → IsTableInOrder folder o.family f (table_place_of o).table
   in_order o held f islive none =
       let known = opened_in f o held islive.family in
       let image = folder (Table o.table.number) in
@@ -310,10 +310,10 @@ module _ (folder : Folder) (fold : Folded) (places : List TablePlace) (live : Ar
             ∙ ap (meets (span_at a.table)) (span_held image o.table.table known.held) ∙ free;
       }
 
-  at_place : (p : TablePlace) (f : FamilyFold) → In p (take i places) → IsLive fold p.family f p.table → ((a b : Opened) → In a opened → In b opened → place_of b ≡ p → Clashes a b → ⊥) → IsInOrder folder p.family f p.table
+  at_place : (p : TablePlace) (f : FamilyFold) → In p (take i places) → IsLive fold p.family f p.table → ((a b : Opened) → In a opened → In b opened → table_place_of b ≡ p → Clashes a b → ⊥) → IsTableInOrder folder p.family f p.table
   at_place p f there islive none =
       let o = opened_at p there in
-      subst (λ (q : TablePlace). IsInOrder folder q.family f q.table) o.2 (in_order o.0 o.1 f (subst (λ (q : TablePlace). IsLive fold q.family f q.table) (sym o.2) islive) (λ a held. none a o.0 held o.1 o.2))
+      subst (λ (q : TablePlace). IsTableInOrder folder q.family f q.table) o.2 (in_order o.0 o.1 f (subst (λ (q : TablePlace). IsLive fold q.family f q.table) (sym o.2) islive) (λ a held. none a o.0 held o.1 o.2))
 
   -- where none clash all are in order
   pub none_clash : IsFirst opened_number (ClashesAmong (length fold.families)) opened None → AreInOrderAt folder fold (take i places)
@@ -333,7 +333,7 @@ module _ (folder : Folder) (fold : Folded) (places : List TablePlace) (live : Ar
       record {
         family = m.b.family;
         f = f;
-        table = (place_of m.b).table;
+        table = (table_place_of m.b).table;
         number = number;
         reached = record {
           live = there.1;
@@ -345,17 +345,17 @@ module _ (folder : Folder) (fold : Folded) (places : List TablePlace) (live : Ar
             let family : m.a.family.0 ≡ m.b.family.0 = clash.family in
             let live_a = live_of m.a held_a in
             let same : live_a.0 ≡ f = one_of live_a.0 f (slice_get fold.families m.a.family.0) live_a.1.family (subst (λ (k : ℕ). slice_get fold.families k ≡ Some f) (sym family) there.1.family) in
-            let held : Contains f.tables (place_of m.a).table = subst (λ (x : FamilyFold). Contains x.tables (place_of m.a).table) same live_a.1.table in
+            let held : Contains f.tables (table_place_of m.a).table = subst (λ (x : FamilyFold). Contains x.tables (table_place_of m.a).table) same live_a.1.table in
             let at_a = (opened_in live_a.0 m.a held_a live_a.1.family).held in
             let image = folder (Table m.b.table.number) in
-            let free = order.apart (place_of m.a).table (says_of m.a.table.table.contents) held clash.meet.before clash.level clash.deep (reads_held (folder (Table m.a.table.number)) m.a.table.table at_a) in
+            let free = order.apart (table_place_of m.a).table (says_of m.a.table.table.contents) held clash.meet.before clash.level clash.deep (reads_held (folder (Table m.a.table.number)) m.a.table.table at_a) in
             let says : order.says ≡ says_of m.b.table.table.contents = read_once image m.b.table.table order.says stood order.reads in
             not_both (meets (span_at m.a.table) (span_at m.b.table)) clash.meet.meet
             (sym (ap (λ (s : KeySpan). meets s (span_at m.b.table)) (span_held (folder (Table m.a.table.number)) m.a.table.table at_a)) ∙ sym (ap (meets (span_of (says_of m.a.table.table.contents).versions)) (ap (λ (s : TableSays). span_of s.versions) says ∙ span_held image m.b.table.table stood)) ∙ free);
       }
 
 module _ (folder : Folder) (fold : Folded) (places : List TablePlace) (live : AreLivePlaces fold places) (i : ℕ) (within : i < length places) (p : TablePlace) (at : p ≡ get_or places i p)
-    (opened : List Opened) (are : map place_of opened ≡ take i places) (each : EachOpened folder fold opened) where
+    (opened : List Opened) (are : map table_place_of opened ≡ take i places) (each : EachOpened folder fold opened) where
   pub below_in_order : AreInOrderAt folder fold (take i places) → AreInOrderBelow fold folder (number_at p)
   below_in_order order family f t islive less =
       order (place_in family t) f (earlier folder fold places live i (omega (arith, within)) opened are each i (omega arith) within p at (place_in family t) (f, islive) less) islive
@@ -363,7 +363,7 @@ module _ (folder : Folder) (fold : Folded) (places : List TablePlace) (live : Ar
   -- ---- one table more
 
   module _ (f : FamilyFold) (islive : IsLive fold p.family f p.table) where
-    pub each_more : (o : Opened) → place_of o ≡ p → IsTableOpened folder f o → EachOpened folder fold (opened ++ o ∷ [])
+    pub each_more : (o : Opened) → table_place_of o ≡ p → IsTableOpened folder f o → EachOpened folder fold (opened ++ o ∷ [])
     each_more o is known other x held there = ⊎_elim (λ before. each other x before there) (λ last. last_one last) (In-append other opened (o ∷ []) held)
       where
         last_one : In other (o ∷ []) → IsTableOpened folder x other
@@ -374,16 +374,16 @@ module _ (folder : Folder) (fold : Folded) (places : List TablePlace) (live : Ar
         last_one (inr none) = absurd none
 
 -- what a table says fits, or its file isn't in order
-pub not_in_order : (folder : Folder) (family : Family) (f : FamilyFold) (t : TableAt) (k : ℕ) → k ≡ t.number → ((c : Contents) → HoldsTable (folder (Table k)) c → IsFitting family f c → ⊥) → IsInOrder folder family f t → ⊥
+pub not_in_order : (folder : Folder) (family : Family) (f : FamilyFold) (t : TableAt) (k : ℕ) → k ≡ t.number → ((c : Contents) → HoldsTable (folder (Table k)) c → IsFitting family f c → ⊥) → IsTableInOrder folder family f t → ⊥
 not_in_order folder family f t k number bad order =
     let r = reads_at (folder (Table t.number)) order.says order.reads in
     let says : order.says ≡ says_of r.0 = r.1.is in
-    bad r.0 (subst (λ (n : ℕ). HoldsTable (folder (Table n)) r.0) (sym number) r.1.holds) (record { fits = subst (Fits family f) says order.fits; flushed = subst (IsFlushed f) says order.flushed })
+    bad r.0 (subst (λ (n : ℕ). HoldsTable (folder (Table n)) r.0) (sym number) r.1.holds) (record { fits = subst (Fits family f) says order.fits; flushed = subst (IsTableFlushed f) says order.flushed })
 
 -- the places of one table more
-pub places_are : (places : List TablePlace) (i : ℕ) (p : TablePlace) (opened : List Opened) (o : Opened) → i < length places → p ≡ get_or places i p → map place_of opened ≡ take i places → place_of o ≡ p → map place_of (opened ++ o ∷ []) ≡ take (i + 1) places
+pub places_are : (places : List TablePlace) (i : ℕ) (p : TablePlace) (opened : List Opened) (o : Opened) → i < length places → p ≡ get_or places i p → map table_place_of opened ≡ take i places → table_place_of o ≡ p → map table_place_of (opened ++ o ∷ []) ≡ take (i + 1) places
 places_are places i p opened o within at are is =
-    map-append place_of opened (o ∷ []) ∙ ap (λ (ps : List TablePlace). ps ++ place_of o ∷ []) are ∙ ap (λ (q : TablePlace). take i places ++ q ∷ []) is
+    map-append table_place_of opened (o ∷ []) ∙ ap (λ (ps : List TablePlace). ps ++ table_place_of o ∷ []) are ∙ ap (λ (q : TablePlace). take i places ++ q ∷ []) is
     ∙ sym (take_more places i p within ∙ ap (λ (q : TablePlace). take i places ++ q ∷ []) (sym at))
 
 -- a place that was read is that of a live table of the family that stands there
@@ -396,7 +396,7 @@ pub live_place : (fold : Folded) (places : List TablePlace) (i : ℕ) (p : Table
 live_place fold places i p live within at = live.each p (i, within, sym at)
 
 -- all places were read
-pub all_opened : (folder : Folder) (fold : Folded) (places : List TablePlace) (opened : List Opened) → AreLivePlaces fold places → map place_of opened ≡ places → EachOpened folder fold opened → AreInOrderAt folder fold places → AreOpened folder fold opened
+pub all_opened : (folder : Folder) (fold : Folded) (places : List TablePlace) (opened : List Opened) → AreLivePlaces fold places → map table_place_of opened ≡ places → EachOpened folder fold opened → AreInOrderAt folder fold places → AreOpened folder fold opened
 all_opened folder fold places opened live are each order = record {
   places = subst (AreLivePlaces fold) (sym are) live;
   each = λ o f held there. each o f (contains_In opened o held) there;

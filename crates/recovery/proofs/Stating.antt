@@ -1,19 +1,23 @@
 -- Lists that get one more.
-use Rattle.std.proofs.Common.{◌≡◌, ◌⊎◌, inl, inr, ℕ, zero, suc, ◌+◌, ◌<◌, Bool, List, [], ◌∷◌, ◌++◌, length, map, get_or, Some, refl, sym, ap, ◌∙◌, subst, arith, length-append}
-use Rattle.std.specs.Prelude.{nat_lt, slice_get}
+use Rattle.std.proofs.Common.{◌≡◌, ◌⊎◌, inl, inr, ℕ, zero, suc, ◌+◌, ◌<◌, ◌≤◌, Bool, true, List, [], ◌∷◌, ◌++◌, length, map, get_or, Some, refl, sym, ap, ◌∙◌, subst, arith, length-append}
+use Rattle.std.specs.Prelude.{IfOk, Result, Ok, Err, nat_lt, slice_get}
 use Rattle.std.specs.Cmp.{IsStrictWeakOrder}
+use Rattle.std.specs.List.{list_all}
 use Rattle.std.specs.List.Sorted.{IsSortedBy, IsPermutation}
-use Rattle.std.proofs.lemmas.Bool.{ne_eqb}
+use Rattle.std.proofs.lemmas.Bool.{and_parts, ne_eqb}
 use Rattle.std.proofs.lemmas.Cmp.{nat_list_cmp_total}
 use Rattle.std.proofs.lemmas.List.{get_or-map, length-map, map-append}
 use Rattle.std.proofs.lemmas.List.Sorted.{IsPermutation-map}
 use Rattle.std.proofs.lemmas.List.MinMax.{ranks_by, IsStrictWeakOrder-flip, IsStrictWeakOrder-by_number}
 use Rattle.ts_key.specs.declared.version.Version.{Version}
+use Rattle.sorted_run.specs.Sorts.{sorted}
+use Rattle.memtable.specs.Memtables.{KeepsRuns, Memtable}
 use Rattle.manifest_fold.specs.declared.fold.FamilyFold.{FamilyFold}
-use Rattle.super_version.specs.Levels.{properties, stands_before}
+use Rattle.super_version.specs.Levels.{table_properties, stands_before}
 use Rattle.super_version.specs.Live.{Live}
+use Rattle.super_version.specs.Writes.{of_family}
 use Rattle.super_version.specs.declared.family.FamilyState.{FamilyState}
-use Rattle.recovery.specs.Versions.{AreLevels, AreStates, IsLevel, ShowsFamily, family_number, tables_of}
+use Rattle.recovery.specs.Versions.{AreLevels, AreStates, IsLevel, ShowsFamily, family_number, is_own, level_tables}
 use Rattle.recovery.specs.declared.tables.Opened.{Opened}
 use Rattle.ts_key.specs.declared.numbers.Family.{Family}
 
@@ -32,13 +36,13 @@ length_push : {X : Type 0} (xs : List X) (x : X) (n : ℕ) → length xs ≡ n �
 length_push xs x n e = length-append xs (x ∷ []) ∙ ap (λ (k : ℕ). k + 1) e
 
 -- one level more
-pub level_more : (family : Family) (opened : List Opened) (n : ℕ) (levels : List (List Live)) (shown : List Live) → AreLevels family opened n levels → IsLevel n (tables_of family n opened) shown → AreLevels family opened (n + 1) (levels ++ shown ∷ [])
+pub level_more : (family : Family) (opened : List Opened) (n : ℕ) (levels : List (List Live)) (shown : List Live) → AreLevels family opened n levels → IsLevel n (level_tables family n opened) shown → AreLevels family opened (n + 1) (levels ++ shown ∷ [])
 level_more family opened n levels shown so_far level = record {
   all = length_push levels shown n so_far.all;
   each = λ l other there.
       elim (get_push levels shown other l there) [
         | inl before ↦ so_far.each l other before
-        | inr last ↦ subst (λ (k : ℕ). IsLevel k (tables_of family k opened) other) (sym (last.0 ∙ so_far.all)) (subst (IsLevel n (tables_of family n opened)) last.1 level)
+        | inr last ↦ subst (λ (k : ℕ). IsLevel k (level_tables family k opened) other) (sym (last.0 ∙ so_far.all)) (subst (IsLevel n (level_tables family n opened)) last.1 level)
       ];
 }
 
@@ -67,10 +71,10 @@ get_at (y ∷ ys) (suc i) x within is = get_at ys i x (omega (arith, within)) is
 -- ---- the order of a level
 
 newest_order : IsStrictWeakOrder (stands_before 0)
-newest_order = IsStrictWeakOrder-flip (λ (x : Live) (y : Live). nat_lt (properties x).greatest_seq.0 (properties y).greatest_seq.0) (IsStrictWeakOrder-by_number (λ (t : Live). (properties t).greatest_seq.0))
+newest_order = IsStrictWeakOrder-flip (λ (x : Live) (y : Live). nat_lt (table_properties x).greatest_seq.0 (table_properties y).greatest_seq.0) (IsStrictWeakOrder-by_number (λ (t : Live). (table_properties t).greatest_seq.0))
 
 pub least_order : IsStrictWeakOrder (stands_before 1)
-least_order = ranks_by nat_list_cmp_total (λ (t : Live). (properties t).least)
+least_order = ranks_by nat_list_cmp_total (λ (t : Live). (table_properties t).least)
 
 pulled : {A : Type 0} (f : A → Live) (lt : Live → Live → Bool) → IsStrictWeakOrder lt → IsStrictWeakOrder (λ (a : A) (b : A). lt (f a) (f b))
 pulled f lt o = record { one_way = λ x y. o.one_way (f x) (f y); chain = λ x y z. o.chain (f x) (f y) (f z) }
@@ -110,3 +114,22 @@ on_deeper level apart a b = rw (ne_eqb level 0 apart) refl
 
 pub shared_push : {A X : Type 0} (f : A → X) (xs ys : List A) (a : A) (x : X) → ys ≡ xs ++ a ∷ [] → f a ≡ x → map f ys ≡ map f xs ++ x ∷ []
 shared_push f xs ys a x is one = ap (map f) is ∙ map-append f xs (a ∷ []) ∙ ap (λ z. map f xs ++ z ∷ []) one
+
+-- where all versions are of one family, they are its own
+pub own_alone : (family : Family) (vs : List Version) → list_all (is_own family) vs ≡ true → of_family family vs ≡ vs
+own_alone family [] all = refl
+own_alone family (v ∷ vs) all =
+    let both = and_parts (is_own family v) (list_all (is_own family) vs) all in
+    let own = both.0 in
+    rw own (ap (λ r. v ∷ r) (own_alone family vs both.1))
+
+-- a memtable of versions alone has them in one run
+pub one_run : {E : Type 0} (vs : List Version) (old : Memtable) (r : Result Memtable E) → old.runs ≡ [] → (vs ≡ [] → IfOk r (λ m. m ≡ old)) → (1 ≤ length vs → IfOk r (λ m. KeepsRuns vs old.runs m.runs)) → IfOk r (λ m. length m.runs ≤ 1)
+one_run vs old (Err e) none copy keeps = tt
+one_run [] old (Ok m) none copy keeps =
+    let count : length m.runs ≡ 0 = ap (λ (k : Memtable). length k.runs) (copy refl) ∙ ap (λ (rs : List (List Version)). length rs) none in
+    omega (arith, count)
+one_run (v ∷ vs) old (Ok m) none copy keeps =
+    let runs : m.runs ≡ sorted (v ∷ vs) ∷ [] = subst (λ (rs : List (List Version)). KeepsRuns (v ∷ vs) rs m.runs) none (keeps (omega arith)) in
+    let count : length m.runs ≡ 1 = ap (λ (rs : List (List Version)). length rs) runs in
+    omega (arith, count)

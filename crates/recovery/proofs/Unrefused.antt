@@ -11,7 +11,7 @@ use Rattle.ts_key.specs.declared.version.Version.{Version}
 use Rattle.udt_disk.specs.Crash.{Image}
 use Rattle.udt_disk.specs.Joint.{Folder}
 use Rattle.udt_disk.specs.declared.name.FileName.TheVariants.{Log, Table}
-use Rattle.udt_model.specs.Standing.{HasSource, IsImage}
+use Rattle.udt_model.specs.Standing.{HasSource, IsVersionImage}
 use Rattle.udt_model.specs.State.{FamilyState, LiveTable, State, family_at}
 use Rattle.udt_model.specs.Orders.{meets, span_of}
 use Rattle.udt_model.specs.Versions.{up_to}
@@ -39,7 +39,7 @@ use Rattle.recovery.specs.Fault.{IsStop}
 use Rattle.recovery.specs.Laws.{NoneRefused}
 use Rattle.recovery.specs.Opening.{RefusesOpening}
 use Rattle.recovery.specs.Refusals.{AreReplayed, IsAhead, IsBadLog, IsBadLogFile, IsBadTable, IsFirstBadLog, IsFirstGap, IsMissingTable}
-use Rattle.recovery.specs.Tables.{AreInOrder, IsApart, IsFlushed, ReadsAsTable}
+use Rattle.recovery.specs.Tables.{AreTablesInOrder, IsApart, IsTableFlushed, ReadsAsTable}
 use Rattle.recovery.specs.declared.fault.OpenFault.{OpenFault}
 use Rattle.recovery.specs.declared.fault.OpenFault.TheVariants.{NoStore, BadManifest, MissingTable, BadTable, BadLog, DiskFault, NoMemory}
 use Rattle.recovery.proofs.Accounts.{one_said}
@@ -57,7 +57,7 @@ contents_In (x ∷ tables) t v (inl same) within = In-left v x.versions (content
 contents_In (x ∷ tables) t v (inr there) within = In-right v x.versions (contents tables) (contents_In tables t v there within)
 
 -- an image has the sequence of its source
-image_seq : (form : Form) (floor : Ts) (v w : Version) → IsImage form floor v w → v.seq.0 ≡ w.seq.0
+image_seq : (form : Form) (floor : Ts) (v w : Version) → IsVersionImage form floor v w → v.seq.0 ≡ w.seq.0
 image_seq Persist floor v w is = ap (λ (z : Version). z.seq.0) is
 image_seq Strip floor v w (inl is) = ap (λ (z : Version). z.seq.0) is
 image_seq Strip floor v w (inr (below, is)) = ap (λ (z : Version). z.seq.0) is
@@ -98,7 +98,7 @@ module _ (folder : Folder) (m : State) (h : FolderStands ReadsAsTable folder m) 
   live_in : (f : FamilyFold) (t : TableAt) → Contains f.tables t → In (table_of h.says.tables t) (family_said h.says.tables f).tables
   live_in f t held = In-map (table_of h.says.tables) t f.tables (contains_In f.tables t held)
 
-  is_flushed : (family : Family) (f : FamilyFold) (t : TableAt) → IsLive h.says.fold family f t → IsFlushed f (h.says.tables t.number)
+  is_flushed : (family : Family) (f : FamilyFold) (t : TableAt) → IsLive h.says.fold family f t → IsTableFlushed f (h.says.tables t.number)
   is_flushed family f t live = All-from (λ (v : Version). v.seq.0 ≤ f.through.0) (h.says.tables t.number).versions (λ v within.
       let tables = (family_said h.says.tables f).tables in
       let source = All-In (HasSource family f.form f.floor (up_to f.through.0 m.versions)) (contents tables) v (sound_tables family f live.family).stand.images (contents_In tables (table_of h.says.tables t) v (live_in f t live.table) within) in
@@ -114,7 +114,7 @@ module _ (folder : Folder) (m : State) (h : FolderStands ReadsAsTable folder m) 
       ap (λ (z : TableSays). meets (span_of z.versions) (span_of (h.says.tables t.number).versions)) same
       ∙ (sound_tables family f live.family).ordered.spread (table_of h.says.tables u) (table_of h.says.tables t) (In-contains tables (table_of h.says.tables u) (live_in f u held)) (In-contains tables (table_of h.says.tables t) (live_in f t live.table)) level (omega (arith, level, deep)) apart
 
-  in_order_all : AreInOrder h.says.fold folder
+  in_order_all : AreTablesInOrder h.says.fold folder
   in_order_all family f t live = record {
     says = h.says.tables t.number;
     reads = h.reads.tables family f t live;

@@ -8,8 +8,8 @@ use Rattle.manifest_fold.specs.declared.fold.Folded.{Folded}
 use Rattle.manifest.specs.Folders.{Means}
 use Rattle.manifest.specs.Folders.Meaning.{store}
 use Rattle.super_version.specs.declared.version.SuperVersion.{SuperVersion}
-use Rattle.engine_laws.specs.Engine.{Holds}
-use Rattle.engine_laws.specs.Standing.{FolderStands, Reads, Says, TableSays}
+use Rattle.engine_laws.specs.Engine.{HoldsState}
+use Rattle.engine_laws.specs.Standing.{FolderStands, FolderSays, Says, TableSays}
 use Rattle.recovery.specs.Fault.{IsStop}
 use Rattle.recovery.specs.Opening.{IsShown, RefusesOpening}
 use Rattle.recovery.specs.Tables.{ReadsAsTable, says_of}
@@ -30,11 +30,11 @@ account_of fold shown = record { fold = fold; logs = shown.logs; tables = said_i
 
 -- the folder says it
 abbrev pub OpenedReads : Type 0
-OpenedReads = (folder : Folder) (fold : Folded) (version : SuperVersion) → Means folder (store fold) → (shown : IsShown folder fold version) → Reads ReadsAsTable folder (account_of fold shown)
+OpenedReads = (folder : Folder) (fold : Folded) (version : SuperVersion) → Means folder (store fold) → (shown : IsShown folder fold version) → FolderSays ReadsAsTable folder (account_of fold shown)
 
 -- each state that the folder stands for is held, with this account of the files and nothing that waits
 abbrev pub OpenedHolds : Type 0
-OpenedHolds = (folder : Folder) (fold : Folded) (version : SuperVersion) (m : State) → Means folder (store fold) → (shown : IsShown folder fold version) → FolderStands ReadsAsTable folder m → Holds m (course_start m) (account_of fold shown) []
+OpenedHolds = (folder : Folder) (fold : Folded) (version : SuperVersion) (m : State) → Means folder (store fold) → (shown : IsShown folder fold version) → FolderStands ReadsAsTable folder m → HoldsState m (course_start m) (account_of fold shown) []
 
 -- a folder that stands for a state is refused by nothing: its opening stops at most
 abbrev pub NoneRefused : Type 0

@@ -7,6 +7,7 @@ use Rattle.udt_disk.specs.declared.name.FileName.TheVariants.{Log}
 use Rattle.udt_disk.specs.declared.disk.Disk as disk
 use Rattle.udt_model.specs.declared.line.FamilyHead.{FamilyHead}
 use Rattle.manifest_fold.specs.declared.fold.Folded.{Folded}
+use Rattle.manifest.specs.Folds.{fold_of}
 use Rattle.manifest.specs.Folders.{Means}
 use Rattle.manifest.specs.Folders.Meaning.{bad_at, no_store, store}
 use Rattle.manifest.specs.Making.{IsStoreName}
@@ -24,9 +25,14 @@ pub record KeepsOthers {D F : Type 0} (d : disk.Ghosts D F) (old new : D) : Type
   pub stands : (n : FileName) → ¬ IsMakingName n → d.stands new n ≡ d.stands old n
   pub no_more : (n : FileName) (c : Image) → ¬ IsMakingName n → d.may_leave new n c → d.may_leave old n c
 
--- there is no store, or the one of these families in which nothing was written
+-- the store of these families in which nothing was written, and whose file numbers are all to come but the first log's
+pub record IsNewStore (families : List FamilyHead) (folder : Folder) : Type 0 where
+  pub means : Means folder (store (fold_of families))
+  pub stands : FolderStands ReadsAsTable folder (new_state families)
+
+-- there is no store, or the new one of these families
 abbrev pub IsNoneOrNew : List FamilyHead → Folder → Type 0
-IsNoneOrNew families folder = Means folder no_store ⊎ FolderStands ReadsAsTable folder (new_state families)
+IsNoneOrNew families folder = Means folder no_store ⊎ IsNewStore families folder
 
 -- in this folder a store isn't made for this reason
 abbrev pub RefusesMaking : Folder → InitFault → Type 0

@@ -66,10 +66,10 @@ abbrev pub opened_number : Opened → ℕ
 opened_number o = o.table.number
 
 -- the lesser, where there are two
-abbrev pub least_of : Option ℕ → Option ℕ → Option ℕ
-least_of None b = b
-least_of (Some m) None = Some m
-least_of (Some m) (Some n) = Some (if nat_lt n m then n else m)
+abbrev pub lesser_of : Option ℕ → Option ℕ → Option ℕ
+lesser_of None b = b
+lesser_of (Some m) None = Some m
+lesser_of (Some m) (Some n) = Some (if nat_lt n m then n else m)
 
 -- ---- the walk along a level
 
@@ -78,8 +78,8 @@ abbrev pub number_met : Live → Live → Option ℕ
 number_met a b = if meets (span_at a) (span_at b) then (if nat_lt a.number b.number then Some b.number else (if nat_lt b.number a.number then Some a.number else None)) else None
 
 -- of two that meet the one with the smaller number, and otherwise the second
-abbrev pub kept_of : Live → Live → Live
-kept_of a b = if meets (span_at a) (span_at b) then (if nat_lt b.number a.number then b else a) else b
+abbrev pub kept_of_two : Live → Live → Live
+kept_of_two a b = if meets (span_at a) (span_at b) then (if nat_lt b.number a.number then b else a) else b
 
 -- ---- what holds of tables that files hold
 

@@ -2,8 +2,9 @@
 use Rattle.std.specs.Prelude.{◌≡◌, ℕ, ◌≤◌, List, length, ⊤, Result, Ok, Err}
 use Rattle.std.specs.List.Sorted.{IsStrictlyIncreasing}
 use Rattle.ts_key.specs.declared.limits.TheConstants.{FAMILY_LIMIT, SEQUENCE_LIMIT}
+use Rattle.udt_disk.specs.Crash.{Image}
 use Rattle.udt_disk.specs.Joint.{Folder}
-use Rattle.udt_disk.specs.Moments.{IsClean}
+use Rattle.udt_disk.specs.declared.name.FileName.{FileName}
 use Rattle.udt_disk.specs.declared.file.DiskFile as file
 use Rattle.udt_disk.specs.declared.disk.Disk as disk
 use Rattle.wal.specs.declared.numbered.Numbered.{Numbered}
@@ -15,6 +16,7 @@ use Rattle.manifest.specs.Folds.{sizes_of}
 use Rattle.manifest.specs.Manifest.{manifest_file, manifest_folded, ShowsFold, FoldRests}
 use Rattle.super_version.specs.declared.version.SuperVersion.{SuperVersion}
 use Rattle.engine_laws.specs.Logs.{batches_of, last_of, last_over, versions_of}
+use Rattle.engine_laws.specs.Moves.{IsLiveName}
 use Rattle.recovery.specs.Versions.{ShowsVersion}
 use Rattle.recovery.specs.Places.{AreOpened, HasPlaces}
 use Rattle.recovery.specs.Refusals.{AreReplayed, IsBadLog, IsBadTable, IsMissingTable}
@@ -45,15 +47,20 @@ pub record IsShown (folder : Folder) (fold : Folded) (version : SuperVersion) : 
   pub behind : fold.last.0 ≤ last_of fold.last.0 (batches_of logs fold.logs)
   pub shows : ShowsVersion fold opened (above_through fold.families (versions_of (batches_of logs fold.logs))) (record { 0 = last_over fold.last.0 (batches_of logs fold.logs) }) version
 
--- The folder was opened as a store, as it stood: its manifest and its newest live log are held. Where a crash left nothing else, both
--- rest.
+-- Under each live name of this fold a crash leaves what stands there, and nothing else. Whatever it leaves under other names doesn't
+-- count: a table that no manifest names, say.
+abbrev pub AreLiveClean : {D F : Type 0} → disk.Ghosts D F → D → Folded → Type 0
+AreLiveClean d disk fold = (n : FileName) (c : Image) → IsLiveName (chosen (d.stands disk)) fold n → d.may_leave disk n c → c ≡ d.stands disk n
+
+-- The folder was opened as a store, as it stood: its manifest and its newest live log are held. Where a crash left nothing else under
+-- live names, both rest.
 pub record IsOpenedAs {D F : Type 0} (d : disk.Ghosts D F) (f : file.Ghosts F) (old : D) (parts : Parts D F f) : Type 0 where
   pub means : Means (d.stands old) (store (manifest_folded parts.manifest))
   pub shown : IsShown (d.stands old) (manifest_folded parts.manifest) parts.version
   -- the manifest
   pub manifest_name : f.name (manifest_file parts.manifest) ≡ chosen (d.stands old)
   pub manifest_shows : ShowsFold f parts.manifest
-  pub manifest_rests : IsClean d old → FoldRests f parts.manifest
+  pub manifest_rests : AreLiveClean d old (manifest_folded parts.manifest) → FoldRests f parts.manifest
   -- the newest log
   pub wal : IsNewestLog d f old (manifest_folded parts.manifest) parts.wal
 

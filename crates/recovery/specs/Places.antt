@@ -14,15 +14,22 @@ use Rattle.block_table.specs.Contents.{Contents, first_key, last_user_key}
 use Rattle.block_table.specs.Held.{Held}
 use Rattle.block_table.specs.Reads.{IsOnlyTable}
 use Rattle.block_table.specs.Tables.{IsTable}
-use Rattle.engine_laws.specs.Manifests.{IsLive, number_of}
+use Rattle.engine_laws.specs.Manifests.{IsLive, table_number}
 use Rattle.engine_laws.specs.Standing.{Fits}
 use Rattle.super_version.specs.declared.family.TheConstants.{LEVELS}
 use Rattle.recovery.specs.Refusals.{IsBadTable, IsMissingTable}
-use Rattle.recovery.specs.Tables.{AreInOrder, IsFlushed, says_of}
+use Rattle.recovery.specs.Tables.{AreTablesInOrder, IsTableFlushed, says_of}
 use Rattle.recovery.specs.declared.fault.OpenFault.{OpenFault}
 use Rattle.recovery.specs.declared.fault.OpenFault.TheVariants as faults
 use Rattle.recovery.specs.declared.live.TablePlace.{TablePlace}
 use Rattle.recovery.specs.declared.tables.Opened.{Opened}
+
+-- the records of an opening's tables, by names that other crates can use
+abbrev pub OpenedTable : Type 0
+OpenedTable = Opened
+
+abbrev pub PlacedTable : Type 0
+PlacedTable = TablePlace
 
 abbrev pub IsTableName : FileName → Type 0
 IsTableName n = (number : ℕ) × (n ≡ Table number)
@@ -45,7 +52,7 @@ IsLivePlace fold p = (f : FamilyFold) × IsLive fold p.family f p.table
 
 -- each live table has a number of its own, and stands on a level that there is
 pub record HasPlaces (fold : Folded) : Type 0 where
-  pub rising : (family : Family) (f : FamilyFold) → slice_get fold.families family.0 ≡ Some f → IsStrictlyIncreasing (map number_of f.tables)
+  pub rising : (family : Family) (f : FamilyFold) → slice_get fold.families family.0 ≡ Some f → IsStrictlyIncreasing (map table_number f.tables)
   pub apart : (p q : TablePlace) → IsLivePlace fold p → IsLivePlace fold q → p.table.number ≡ q.table.number → p.family ≡ q.family
   pub levels : (p : TablePlace) → IsLivePlace fold p → p.table.level < LEVELS
 
@@ -77,8 +84,8 @@ RefusesReading image n (faults.BadLog k at) = ⊥
 RefusesReading image n faults.DiskFault = ⊤
 RefusesReading image n faults.NoMemory = ⊤
 
-abbrev pub place_of : Opened → TablePlace
-place_of o = record { family = o.family; table = record { level = o.level; number = o.table.number } }
+abbrev pub table_place_of : Opened → TablePlace
+table_place_of o = record { family = o.family; table = record { level = o.level; number = o.table.number } }
 
 -- the span of its keys, as its properties say it
 abbrev pub span_in : Contents → KeySpan
@@ -87,7 +94,7 @@ span_in t = record { low = first_key t.items; high = last_user_key t.items }
 -- it fits the family, and has nothing above `through`
 pub record IsFitting (family : Family) (f : FamilyFold) (t : Contents) : Type 0 where
   pub fits : Fits family f (says_of t)
-  pub flushed : IsFlushed f (says_of t)
+  pub flushed : IsTableFlushed f (says_of t)
 
 -- the file of this live table held what was read, and that fits the family
 pub record IsTableOpened (folder : Folder) (f : FamilyFold) (o : Opened) : Type 0 where
@@ -106,9 +113,9 @@ RefusesPlace folder f p faults.NoMemory = ⊤
 
 -- the live tables of the fold were read, and are in order
 pub record AreOpened (folder : Folder) (fold : Folded) (opened : List Opened) : Type 0 where
-  pub places : AreLivePlaces fold (map place_of opened)
+  pub places : AreLivePlaces fold (map table_place_of opened)
   pub each : (o : Opened) (f : FamilyFold) → Contains opened o → slice_get fold.families o.family.0 ≡ Some f → IsTableOpened folder f o
-  pub order : AreInOrder fold folder
+  pub order : AreTablesInOrder fold folder
 
 -- why the live tables aren't opened
 abbrev pub RefusesTables : Folded → Folder → OpenFault → Type 0

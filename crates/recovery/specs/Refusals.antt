@@ -14,7 +14,7 @@ use Rattle.manifest_fold.specs.Folds.{newest_log}
 use Rattle.manifest.specs.Folds.{sizes_of}
 use Rattle.engine_laws.specs.Logs.{batches_of, last_of}
 use Rattle.engine_laws.specs.Manifests.{IsLive}
-use Rattle.recovery.specs.Tables.{AreInOrder, AreInOrderBelow, IsInOrder}
+use Rattle.recovery.specs.Tables.{AreTablesInOrder, AreInOrderBelow, IsTableInOrder}
 
 -- ---- tables
 
@@ -40,7 +40,7 @@ pub record IsBadTable (fold : Folded) (folder : Folder) (n : ℕ) : Type 0 where
   pub number : table.number ≡ n
   pub reached : IsReached fold folder family f table
   pub there : folder (Table n) ≢ None
-  pub bad : IsInOrder folder family f table → ⊥
+  pub bad : IsTableInOrder folder family f table → ⊥
 
 -- ---- logs
 
@@ -85,5 +85,5 @@ pub record AreRefused (fold : Folded) (folder : Folder) (n at : ℕ) : Type 0 wh
 
 -- the live tables are in order, and the live logs are refused
 pub record IsBadLog (fold : Folded) (folder : Folder) (n at : ℕ) : Type 0 where
-  pub tables : AreInOrder fold folder
+  pub tables : AreTablesInOrder fold folder
   pub why : IsFirstBadLog fold folder n at ⊎ AreRefused fold folder n at

@@ -115,9 +115,9 @@ pub record IsReplayed {D F : Type 0} (d : disk.Ghosts D F) (f : file.Ghosts F) (
 -- ---- all live logs
 
 -- the sequence that comes next is one above a last sequence that is below this one
-abbrev pub is_ahead : ℕ → Option ℕ → Bool
-is_ahead last None = false
-is_ahead last (Some n) = nat_lt (n - 1) last
+abbrev pub is_last_ahead : ℕ → Option ℕ → Bool
+is_last_ahead last None = false
+is_last_ahead last (Some n) = nat_lt (n - 1) last
 
 -- The live logs of the fold were read: they have no gap, and the manifest's last sequence isn't above theirs.
 pub record AreInLine (fold : Folded) (folder : Folder) (g : Gathered) : Type 0 where
@@ -149,7 +149,7 @@ IsJudged last newest g faults.NoStore = ⊥
 IsJudged last newest g (faults.BadManifest at) = ⊥
 IsJudged last newest g (faults.MissingTable k) = ⊥
 IsJudged last newest g (faults.BadTable k) = ⊥
-IsJudged last newest g (faults.BadLog k at) = (at ≡ 0) × ((g.gap ≡ Some k) ⊎ ((g.gap ≡ None) × (is_ahead last g.next ≡ true) × (k ≡ newest)))
+IsJudged last newest g (faults.BadLog k at) = (at ≡ 0) × ((g.gap ≡ Some k) ⊎ ((g.gap ≡ None) × (is_last_ahead last g.next ≡ true) × (k ≡ newest)))
 IsJudged last newest g faults.DiskFault = ⊥
 IsJudged last newest g faults.NoMemory = ⊥
 

@@ -14,12 +14,12 @@ use Rattle.super_version.specs.Contents.{version_of_item}
 use Rattle.engine_laws.specs.Manifests.{IsLive}
 use Rattle.engine_laws.specs.Standing.{Fits, TableReads, TableSays}
 
-abbrev pub family_of : Contents → Family
-family_of t = record { 0 = t.family }
+abbrev pub family_of_table : Contents → Family
+family_of_table t = record { 0 = t.family }
 
 -- what contents say
 abbrev pub says_of : Contents → TableSays
-says_of t = record { family = family_of t; form = t.form; collected_by = record { 0 = t.collected_by }; versions = map (version_of_item (family_of t)) t.items }
+says_of t = record { family = family_of_table t; form = t.form; collected_by = record { 0 = t.collected_by }; versions = map (version_of_item (family_of_table t)) t.items }
 
 -- the bytes are a table that says this: the grammar of tables
 pub record ReadsAsTable (bytes : List ℕ) (says : TableSays) : Type 0 where
@@ -29,8 +29,8 @@ pub record ReadsAsTable (bytes : List ℕ) (says : TableSays) : Type 0 where
   pub is : says ≡ says_of contents
 
 -- it has nothing above the family's `through`
-abbrev pub IsFlushed : FamilyFold → TableSays → Type 0
-IsFlushed f says = All (λ (v : Version). v.seq.0 ≤ f.through.0) says.versions
+abbrev pub IsTableFlushed : FamilyFold → TableSays → Type 0
+IsTableFlushed f says = All (λ (v : Version). v.seq.0 ≤ f.through.0) says.versions
 
 -- on a level from 1 on its span meets that of none of the family's tables with smaller numbers
 abbrev pub IsApart : FamilyFold → Folder → TableAt → TableSays → Type 0
@@ -39,17 +39,17 @@ IsApart f folder t says = (u : TableAt) (other : TableSays) → Contains f.table
 
 -- The file of a live table is in order: it is there, in the grammar, fits its family, has nothing above `through`, and is apart from
 -- those with smaller numbers.
-pub record IsInOrder (folder : Folder) (family : Family) (f : FamilyFold) (t : TableAt) : Type 0 where
+pub record IsTableInOrder (folder : Folder) (family : Family) (f : FamilyFold) (t : TableAt) : Type 0 where
   pub says : TableSays
   pub reads : TableReads ReadsAsTable (folder (Table t.number)) says
   pub fits : Fits family f says
-  pub flushed : IsFlushed f says
+  pub flushed : IsTableFlushed f says
   pub apart : IsApart f folder t says
 
 -- so are all live tables with numbers below this one
 abbrev pub AreInOrderBelow : Folded → Folder → ℕ → Type 0
-AreInOrderBelow fold folder n = (family : Family) (f : FamilyFold) (t : TableAt) → IsLive fold family f t → t.number < n → IsInOrder folder family f t
+AreInOrderBelow fold folder n = (family : Family) (f : FamilyFold) (t : TableAt) → IsLive fold family f t → t.number < n → IsTableInOrder folder family f t
 
 -- so are all live tables
-abbrev pub AreInOrder : Folded → Folder → Type 0
-AreInOrder fold folder = (family : Family) (f : FamilyFold) (t : TableAt) → IsLive fold family f t → IsInOrder folder family f t
+abbrev pub AreTablesInOrder : Folded → Folder → Type 0
+AreTablesInOrder fold folder = (family : Family) (f : FamilyFold) (t : TableAt) → IsLive fold family f t → IsTableInOrder folder family f t

@@ -6,7 +6,7 @@ use Rattle.ts_key.specs.declared.numbers.Family.{Family}
 use Rattle.ts_key.specs.declared.numbers.Seq.{Seq}
 use Rattle.ts_key.specs.declared.version.Version.{Version}
 use Rattle.sorted_run.specs.Sorts.{sorted}
-use Rattle.memtable.specs.Memtables.{versions_of}
+use Rattle.memtable.specs.Memtables.{versions_of_memtable}
 use Rattle.manifest_fold.specs.declared.fold.FamilyFold.{FamilyFold}
 use Rattle.manifest_fold.specs.declared.fold.Folded.{Folded}
 use Rattle.super_version.specs.Levels.{stands_before}
@@ -17,12 +17,16 @@ use Rattle.super_version.specs.declared.family.TheConstants.{LEVELS}
 use Rattle.super_version.specs.declared.version.SuperVersion.{SuperVersion}
 use Rattle.recovery.specs.declared.tables.Opened.{Opened}
 
+-- the version is of the family
+abbrev pub is_own : Family → Version → Bool
+is_own family v = v.family.0 == family.0
+
 -- the opened tables of a family on a level
 abbrev pub is_on : Family → ℕ → Opened → Bool
 is_on family level o = o.family.0 == family.0 && o.level == level
 
-abbrev pub tables_of : Family → ℕ → List Opened → List Live
-tables_of family level opened = map (λ (o : Opened). o.table) (filter (is_on family level) opened)
+abbrev pub level_tables : Family → ℕ → List Opened → List Live
+level_tables family level opened = map (λ (o : Opened). o.table) (filter (is_on family level) opened)
 
 -- these tables, in the order of the level
 pub record IsLevel (level : ℕ) (tables shown : List Live) : Type 0 where
@@ -32,16 +36,17 @@ pub record IsLevel (level : ℕ) (tables shown : List Live) : Type 0 where
 -- so many levels, each with the family's tables
 pub record AreLevels (family : Family) (opened : List Opened) (count : ℕ) (levels : List (List Live)) : Type 0 where
   pub all : length levels ≡ count
-  pub each : (level : ℕ) (shown : List Live) → slice_get levels level ≡ Some shown → IsLevel level (tables_of family level opened) shown
+  pub each : (level : ℕ) (shown : List Live) → slice_get levels level ≡ Some shown → IsLevel level (level_tables family level opened) shown
 
--- The family is as the manifest has it. Its active memtable holds its versions of these, no other memtable is there, and its levels have
--- its tables.
+-- The family is as the manifest has it. Its active memtable holds its versions of these in one run, no other memtable is there, and its
+-- levels have its tables.
 pub record ShowsFamily (family : Family) (opened : List Opened) (versions : List Version) (f : FamilyFold) (state : FamilyState) : Type 0 where
   pub form : state.form ≡ f.form
   pub floor : state.floor ≡ f.floor
   pub through : state.through ≡ f.through
   pub number : state.active.family ≡ family
-  pub active : versions_of state.active ≡ sorted (of_family family versions)
+  pub active : versions_of_memtable state.active ≡ sorted (of_family family versions)
+  pub runs : length state.active.runs ≤ 1
   pub sealed : state.sealed ≡ []
   pub levels : AreLevels family opened LEVELS state.levels
 

@@ -15,7 +15,7 @@ ghost use Rattle.manifest.specs.Folds.{sizes_of};
 ghost use Rattle.manifest_fold.specs.Folds.{newest_log};
 ghost use Rattle.recovery.specs.Fault.{is_open_disk_fault};
 ghost use Rattle.recovery.specs.Looks.{Looks};
-ghost use Rattle.recovery.specs.Replayed.{AreInLine, IsGathered, IsJudged, IsLogName, IsNewestLog, IsNewestOf, IsNextWithin, IsReplayed, RefusesLog, RefusesLogs, RefusesOldest, files_taken, is_ahead as stands_ahead};
+ghost use Rattle.recovery.specs.Replayed.{AreInLine, IsGathered, IsJudged, IsLogName, IsNewestLog, IsNewestOf, IsNextWithin, IsReplayed, RefusesLog, RefusesLogs, RefusesOldest, files_taken, is_last_ahead};
 
 use crate::gathered::Gathered;
 use crate::{NoMemory, OpenFault};
@@ -149,7 +149,7 @@ pub(crate) fn read_logs<D: Disk>(
 
 /// Whether the manifest's last sequence is above that of the logs, where these have a batch.
 fn is_ahead(last: Seq, next: Option<u64>) -> bool
-    ensures { result ≡ stands_ahead last.0 next }
+    ensures { result ≡ is_last_ahead last.0 next }
 {
     match next {
         None => false,
@@ -160,7 +160,7 @@ fn is_ahead(last: Seq, next: Option<u64>) -> bool
 /// Judges the live logs together, each of which was read.
 fn judge(gathered: &Gathered, fold: &Folded, newest: u64) -> Result<(), OpenFault>
     ensures whole { OnOk result (gathered.now.gap ≡ None) }
-    ensures behind { OnOk result (stands_ahead fold.now.last.0 gathered.now.next ≡ false) }
+    ensures behind { OnOk result (is_last_ahead fold.now.last.0 gathered.now.next ≡ false) }
     ensures refused { IfErr result (IsJudged fold.now.last.0 newest gathered.now) }
 {
     if let Some(number) = gathered.gap {

@@ -14,9 +14,7 @@ ghost use Rattle.manifest.specs.Folders.Meaning.{no_store, store};
 ghost use Rattle.manifest.specs.Folds.{fold_of};
 ghost use Rattle.manifest.specs.Heads.{AreNew};
 ghost use Rattle.manifest.specs.Making.{IsEarlyName, IsStoreName, IsUnmade, IsNoneOrAll};
-ghost use Rattle.engine_laws.specs.Standing.{FolderStands, new_state};
-ghost use Rattle.recovery.specs.Making.{is_init_disk_fault, RefusesMaking, IsMakingRefusal, IsMakingName, IsNoneOrNew, KeepsOthers};
-ghost use Rattle.recovery.specs.Tables.{ReadsAsTable};
+ghost use Rattle.recovery.specs.Making.{is_init_disk_fault, RefusesMaking, IsMakingRefusal, IsMakingName, IsNewStore, IsNoneOrNew, KeepsOthers};
 
 use crate::InitFault;
 use gate_log::LogFault;
@@ -30,7 +28,7 @@ use wal::{Sizes, Wal};
 /// written.
 pub fn make_store<D: Disk>(alloc: Global, disk: &mut D, head: &Head) -> Result<(), InitFault>
     requires { AreNew head.now.families }
-    ensures made { OnOk result (IsTrue (D.is_told disk.old) → FolderStands ReadsAsTable (D.stands disk.new) (new_state head.now.families)) }
+    ensures made { OnOk result (IsTrue (D.is_told disk.old) → IsNewStore head.now.families (D.stands disk.new)) }
     ensures none { OnOk result (IsTrue (D.is_told disk.old) → Means (D.stands disk.old) no_store) }
     // Where it wasn't made, there is no store still, or all of it.
     ensures stopped { OnErr result (IsTrue (D.is_told disk.old) → Means (D.stands disk.old) no_store → IsNoneOrNew head.now.families (D.stands disk.new)) }
@@ -46,7 +44,7 @@ pub fn make_store<D: Disk>(alloc: Global, disk: &mut D, head: &Head) -> Result<(
     ensures stopped_crash { IsUnmade D.Disk disk.old
         → (folder : Folder) → MayLeaveFolder D.Disk disk.new folder → IsNoneOrNew head.now.families folder }
     ensures durable { OnOk result (IsUnmade D.Disk disk.old
-        → (folder : Folder) → MayLeaveFolder D.Disk disk.new folder → FolderStands ReadsAsTable folder (new_state head.now.families)) }
+        → (folder : Folder) → MayLeaveFolder D.Disk disk.new folder → IsNewStore head.now.families folder) }
     ensures no_memory_crash { IsErrOf result InitFault.NoMemory → IsUnmade D.Disk disk.old
         → (folder : Folder) → MayLeaveFolder D.Disk disk.new folder → Means folder no_store }
     ensures unmade { IsErrOf result InitFault.NoMemory → IsUnmade D.Disk disk.old → IsUnmade D.Disk disk.new }
@@ -94,14 +92,14 @@ fn find_none<D: Disk>(alloc: Global, disk: &mut D) -> Result<(), InitFault>
 /// Makes the first log, and then the manifest, in a folder that has no store.
 fn make_files<D: Disk>(alloc: Global, disk: &mut D, head: &Head) -> Result<(), LogFault>
     requires { AreNew head.now.families }
-    ensures made { OnOk result (IsTrue (D.is_told disk.old) → FolderStands ReadsAsTable (D.stands disk.new) (new_state head.now.families)) }
+    ensures made { OnOk result (IsTrue (D.is_told disk.old) → IsNewStore head.now.families (D.stands disk.new)) }
     ensures stopped { OnErr result (IsTrue (D.is_told disk.old) → Means (D.stands disk.old) no_store → IsNoneOrNew head.now.families (D.stands disk.new)) }
     ensures touches { IsTrue (D.is_told disk.old) → Touches D.Disk IsMakingName disk.old disk.new }
     ensures no_memory { IsErrOf result LogFault.NoMemory → D.stands disk.new Made ≡ D.stands disk.old Made }
     ensures no_memory_crash { IsErrOf result LogFault.NoMemory → NoMore (D.may_leave disk.old Made) (D.may_leave disk.new Made) }
     ensures unmade { IsErrOf result LogFault.NoMemory → IsUnmade D.Disk disk.old → IsUnmade D.Disk disk.new }
     ensures moments { IsUnmade D.Disk disk.old → Ran D.Disk D.File.DiskFile (IsNoneOrNew head.now.families) (alone disk.old) (alone disk.new) }
-    ensures durable { IsUnmade D.Disk disk.old → OnOk result (LeavesNow D.Disk D.File.DiskFile (λ (folder : Folder). FolderStands ReadsAsTable folder (new_state head.now.families)) (alone disk.new)) }
+    ensures durable { IsUnmade D.Disk disk.old → OnOk result (LeavesNow D.Disk D.File.DiskFile (IsNewStore head.now.families) (alone disk.new)) }
     ensures told { D.is_told disk.new ≡ D.is_told disk.old }
     ensures model { D.keeps_model disk.new ≡ D.keeps_model disk.old }
     ensures no_fault { OnOk result (D.faults disk.new ≡ D.faults disk.old) }

@@ -6,7 +6,7 @@ ghost use Rattle.std.specs.List.Sorted.{IsSortedBy};
 ghost use Rattle.ts_key.specs.declared.limits.TheConstants.{FAMILY_LIMIT};
 ghost use Rattle.udt_model.specs.Orders.{meets as spans_meet};
 ghost use Rattle.super_version.specs.Levels.{stands_before};
-ghost use Rattle.recovery.specs.Meeting.{AreOfFiles, AreOnLevels, ClashesAmong, ClashesIn, ClashesOn, IsFirst, Meets, kept_of, least_of, live_number, number_met as number_met_by, opened_number, span_at, table_in};
+ghost use Rattle.recovery.specs.Meeting.{AreOfFiles, AreOnLevels, ClashesAmong, ClashesIn, ClashesOn, IsFirst, Meets, kept_of_two, lesser_of, live_number, number_met as number_met_by, opened_number, span_at, table_in};
 
 use crate::NoMemory;
 use crate::tables::Opened;
@@ -44,7 +44,7 @@ fn number_met(a: &LiveTable, b: &LiveTable) -> Option<u64>
 
 /// Of two tables that meet the one with the smaller number, and otherwise the second.
 fn kept<'a>(a: &'a LiveTable, b: &'a LiveTable) -> &'a LiveTable
-    ensures { result.now ≡ kept_of a.now b.now }
+    ensures { result.now ≡ kept_of_two a.now b.now }
 {
     if meets(a, b) && a.number() <= b.number() {
         a
@@ -55,7 +55,7 @@ fn kept<'a>(a: &'a LiveTable, b: &'a LiveTable) -> &'a LiveTable
 
 /// The lesser, where there are two.
 fn least(a: Option<u64>, b: Option<u64>) -> Option<u64>
-    ensures { result ≡ least_of a b }
+    ensures { result ≡ lesser_of a b }
 {
     match (a, b) {
         (Some(a), Some(b)) => Some(a.min(b)),

@@ -9,7 +9,7 @@ ghost use Rattle.udt_disk.specs.declared.name.FileName.TheVariants.{Table as Tab
 ghost use Rattle.recovery.specs.Fault.{is_open_disk_fault};
 ghost use Rattle.recovery.specs.Looks.{Looks};
 ghost use Rattle.recovery.specs.Meeting.{AreOnLevels, IsFirstFault};
-ghost use Rattle.recovery.specs.Places.{AreOpened, HasPlaces, IsFitting, IsLivePlace, IsTableOpened, IsTableIn, IsTableName, RefusesPlace, RefusesReading, RefusesTables, place_of};
+ghost use Rattle.recovery.specs.Places.{AreOpened, HasPlaces, IsFitting, IsLivePlace, IsTableOpened, IsTableIn, IsTableName, RefusesPlace, RefusesReading, RefusesTables, table_place_of};
 
 use crate::OpenFault;
 use crate::file::read_image;
@@ -80,7 +80,7 @@ fn open_table<D: Disk>(
     place: TablePlace,
 ) -> Result<Opened, OpenFault>
     ensures opened { IfOk result (λ o. IsTrue (D.is_told disk.old) → IsTableOpened (D.stands disk.old) family.now o) }
-    ensures place { IfOk result (λ o. place_of o ≡ place) }
+    ensures place { IfOk result (λ o. table_place_of o ≡ place) }
     ensures refused { IfErr result (λ e. IsTrue (D.is_told disk.old) → RefusesPlace (D.stands disk.old) family.now place e) }
     ensures looks { Looks D.Disk D.File.DiskFile IsTableName disk.old disk.new }
     ensures kept { OnOk result (D.faults disk.new ≡ D.faults disk.old) }

@@ -2,14 +2,15 @@
 //! tables.
 
 ghost use Rattle.std.specs.Prelude.{◌≡◌, ◌≤◌, length, map, IfOk};
+ghost use Rattle.std.specs.List.{list_all};
 ghost use Rattle.std.specs.Arc.{arc_value};
 ghost use Rattle.std.specs.Ordering.{is_lt};
 ghost use Rattle.ts_key.specs.declared.limits.TheConstants.{FAMILY_LIMIT};
 ghost use Rattle.sorted_run.specs.Sorts.{sorted};
-ghost use Rattle.memtable.specs.Memtables.{versions_of};
+ghost use Rattle.memtable.specs.Memtables.{versions_of_memtable};
 ghost use Rattle.super_version.specs.Levels.{stands_before};
 ghost use Rattle.super_version.specs.Writes.{of_family};
-ghost use Rattle.recovery.specs.Versions.{AreLevels, AreStates, IsLevel, ShowsFamily, ShowsVersion, tables_of};
+ghost use Rattle.recovery.specs.Versions.{AreLevels, AreStates, IsLevel, ShowsFamily, ShowsVersion, is_own, level_tables};
 
 use crate::NoMemory;
 use crate::tables::Opened;
@@ -38,11 +39,22 @@ fn own_versions(
     Ok(own)
 }
 
-/// The memtable of a family: one run of its versions, where it has any.
+/// Whether all versions are of a family.
+fn are_own(family: Family, versions: &[Version]) -> bool
+    ensures { result ≡ list_all (is_own family) versions.now }
+{
+    versions.iter().all(|version| version.family.0 == family.0)
+}
+
+/// The memtable of a family: one run of its versions, where it has any. They are listed apart only where others have some too.
 fn memtable_of(alloc: Global, family: Family, versions: &[Version]) -> Result<Mem, NoMemory>
     ensures family { IfOk result (λ mem. mem.family ≡ family) }
-    ensures versions { IfOk result (λ mem. versions_of mem ≡ sorted (of_family family versions.now)) }
+    ensures versions { IfOk result (λ mem. versions_of_memtable mem ≡ sorted (of_family family versions.now)) }
+    ensures runs { IfOk result (λ mem. length mem.runs ≤ 1) }
 {
+    if are_own(family, versions) {
+        return Mem::empty(alloc, family).with(versions);
+    }
     let own = own_versions(alloc, family, versions)?;
     Mem::empty(alloc, family).with(&own)
 }
@@ -54,7 +66,7 @@ pub(crate) fn tables_on(
     level: u32,
     opened: &[Opened],
 ) -> Result<Vec<Arc<LiveTable>>, NoMemory>
-    ensures { IfOk result (λ tables. map arc_value tables.items ≡ tables_of family level opened.now) }
+    ensures { IfOk result (λ tables. map arc_value tables.items ≡ level_tables family level opened.now) }
 {
     let mut tables = Vec::new(alloc);
     for table in opened {
@@ -108,7 +120,7 @@ fn level_of(
     level: u32,
     opened: &[Opened],
 ) -> Result<SharedList<LiveTable>, NoMemory>
-    ensures { IfOk result (IsLevel level (tables_of family level opened.now)) }
+    ensures { IfOk result (IsLevel level (level_tables family level opened.now)) }
 {
     let tables = tables_on(alloc, family, level, opened)?;
     if level == 0 {

@@ -3,3 +3,4 @@
 mod making;
 mod plain;
 mod small;
+mod wide;

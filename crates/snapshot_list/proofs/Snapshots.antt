@@ -8,7 +8,7 @@ use Rattle.std.proofs.lemmas.Bool.Decides.{nat_tests}
 use Rattle.std.proofs.lemmas.List.Edits.{length-remove, get_or-remove_below, get_or-remove_above}
 use Rattle.ts_key.specs.declared.numbers.Seq.{Seq}
 use Rattle.ts_key.specs.Ascending.{AreAscending}
-use Rattle.snapshot_list.specs.Registered.{Registered, has_id, with_snapshot, without_id, seqs_of, paired, AreDistinct}
+use Rattle.snapshot_list.specs.Registered.{Registered, has_id, with_snapshot, without_id, registered_seqs, paired, AreDistinct}
 
 pub length_paired : (ids : List ℕ) (seqs : List Seq) → length ids ≡ length seqs → length (paired ids seqs) ≡ length seqs
 length_paired [] [] e = refl
@@ -16,7 +16,7 @@ length_paired [] (s ∷ seqs) e = absurd (omega (arith, e))
 length_paired (id ∷ ids) [] e = absurd (omega (arith, e))
 length_paired (id ∷ ids) (s ∷ seqs) e = ap suc (length_paired ids seqs (omega (arith, e)))
 
-pub seqs_paired : (ids : List ℕ) (seqs : List Seq) → length ids ≡ length seqs → seqs_of (paired ids seqs) ≡ seqs
+pub seqs_paired : (ids : List ℕ) (seqs : List Seq) → length ids ≡ length seqs → registered_seqs (paired ids seqs) ≡ seqs
 seqs_paired [] [] e = refl
 seqs_paired [] (s ∷ seqs) e = absurd (omega (arith, e))
 seqs_paired (id ∷ ids) [] e = absurd (omega (arith, e))

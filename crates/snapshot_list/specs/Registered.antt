@@ -24,8 +24,8 @@ abbrev pub without_id : List Registered → ℕ → List Registered
 without_id rs id = filter (λ r. not (r.id == id)) rs
 
 -- their sequences
-abbrev pub seqs_of : List Registered → List Seq
-seqs_of rs = map (λ r. r.seq) rs
+abbrev pub registered_seqs : List Registered → List Seq
+registered_seqs rs = map (λ r. r.seq) rs
 
 -- ---- the two lists that hold them
 

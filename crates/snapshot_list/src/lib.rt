@@ -3,7 +3,7 @@
 
 ghost use Rattle.std.specs.Prelude.{◌≡◌, ◌<◌, ◌≤◌, true, false, [], length, IfOk, MatchResult, position, ◌==◌};
 ghost use Rattle.ts_key.specs.Ascending.{AreAscending};
-ghost use Rattle.snapshot_list.specs.Registered.{has_id, seqs_of, with_snapshot, without_id};
+ghost use Rattle.snapshot_list.specs.Registered.{has_id, registered_seqs, with_snapshot, without_id};
 
 use std::alloc::Global;
 use std::marker::Model;
@@ -89,7 +89,7 @@ impl Snaps {
 
     /// The sequences of the registered snapshots, ascending, each as often as snapshots have it.
     pub fn seqs(&self) -> &[Seq]
-        ensures seqs { result.now ≡ seqs_of self.now }
+        ensures seqs { result.now ≡ registered_seqs self.now }
         ensures ascending { AreAscending result.now }
         ensures within { length self.now ≤ SNAPSHOT_LIMIT }
     {

@@ -171,10 +171,10 @@ reply_agrees_back height m names Sync reply low built (inr free) = ⊎_elim (λ 
 reply_agrees_back height m names event reply low built it = absurd built
 
 -- what a write that is taken leaves
-write_leaves : (m : State) (names : Names) (number last : ℕ) (os : List NamedOp) (sync : Bool) → lines.after m number names (Write os sync) (OkAt last) ≡ named.after m number (Write os sync) (OkAt last)
+write_leaves : (m : State) (names : Names) (number last : ℕ) (os : List NamedOp) (sync : Bool) → lines.after_event m number names (Write os sync) (OkAt last) ≡ named.after m number (Write os sync) (OkAt last)
 write_leaves m names number last os sync = ap (λ (vs : List Version). let n : State = record m { versions = m.versions ++ vs; last = record { 0 = last } } in n) (same_made m os m.last.0)
 
-pub after_agrees : (m : State) (names : Names) (number : ℕ) (event : Event) (reply : Reply) → IsBuilt event → lines.after m number names event reply ≡ named.after m number event reply
+pub after_agrees : (m : State) (names : Names) (number : ℕ) (event : Event) (reply : Reply) → IsBuilt event → lines.after_event m number names event reply ≡ named.after m number event reply
 after_agrees m names number (Write os sync) (OkAt last) built = write_leaves m names number last os sync
 after_agrees m names number (Write os sync) reply built = refl
 after_agrees m names number (Get family key t None) Fault built = refl

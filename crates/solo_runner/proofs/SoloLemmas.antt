@@ -13,7 +13,7 @@ use Rattle.udt_model.specs.declared.line.Who.TheVariants.{Client, Runner}
 use Rattle.udt_model.specs.State.{State, heads_of}
 use Rattle.solo_runner.specs.Named.{IsReply, after}
 use Rattle.udt_model.specs.Lines.{is_step, says_fault}
-use Rattle.udt_model.specs.Histories.{Point, start, IsLegal, IsSound, next_mark, behind, Leads, is_same, own}
+use Rattle.udt_model.specs.Histories.{Point, start, IsLegal, IsSound, next_mark, behind, Leads, is_same, own_lines}
 use Rattle.udt_model.specs.Crashes.{Course, course_behind}
 use Rattle.client_lang.specs.declared.command.Command.TheVariants as kinds
 use Rattle.udt_model.specs.declared.event.Event.{Event}
@@ -37,7 +37,7 @@ Expand-append : (cs ds : List Command) (xs ys : List Line) → Expand cs xs → 
 Expand-append [] ds xs ys p q = rw p q
 Expand-append (c ∷ cs) ds xs ys p q = (p.0, p.1 ++ ys, p.2, Expand-append cs ds p.1 ys p.3 q, rw p.4 (append_assoc p.0 p.1 ys))
 
-own-append : (who : Who) (xs ys : List Line) → own who (xs ++ ys) ≡ own who xs ++ own who ys
+own-append : (who : Who) (xs ys : List Line) → own_lines who (xs ++ ys) ≡ own_lines who xs ++ own_lines who ys
 own-append who [] ys = refl
 own-append who (x ∷ xs) ys =
     elim (cases_Bool (is_same x.who who)) [
@@ -72,7 +72,7 @@ pub record IsNextLine (store : State) (who : Who) (number : ℕ) (last : Mark) (
   pub after_is : new ≡ after store (number + 1) line.event line.reply
   pub printed : IsBuiltLine line
 
-own_line : (line : Line) → line.who ≡ Client 1 → own (Client 1) (line ∷ []) ≡ line ∷ []
+own_line : (line : Line) → line.who ≡ Client 1 → own_lines (Client 1) (line ∷ []) ≡ line ∷ []
 own_line line e = rw e refl
 
 mark_is : (p : Point) (who : Who) (number : ℕ) (last : Mark) (line : Line) → p.number ≡ number → p.last who ≡ last → line.who ≡ who → mark_behind number last line.event line.reply ≡ next_mark p line
@@ -119,13 +119,13 @@ pub ran_more : (m : State) (commands : List Command) (lines : List Line) (store 
     → HasRun m commands lines store last → IsNextLine store (Client 1) last.number last event line new → HasRun m (commands ++ kinds.Line event ∷ []) (lines ++ line ∷ []) new line.mark
 ran_more m cs lines store new last event line r n =
     let legal_line = legal_next r.end (Client 1) last.number last store new event line (height_kept (start m) r.end lines r.run.legal) r.state_is r.number_is r.last_is n in
-    let own_new : own (Client 1) (line ∷ []) ≡ line ∷ [] = own_line line n.who_is in
+    let own_new : own_lines (Client 1) (line ∷ []) ≡ line ∷ [] = own_line line n.who_is in
     record {
       end = behind r.end line;
       run = record {
         legal = Leads-append (start m) r.end (behind r.end line) lines (line ∷ []) r.run.legal (legal_line, refl);
-        once = rw (own-append (Client 1) lines (line ∷ []), own_new) (lines_more cs event (own (Client 1) lines) line n.event_is r.run.once);
-        alone = own-append (Client 1) lines (line ∷ []) ∙ ap (λ (ls : List Line). ls ++ own (Client 1) (line ∷ [])) r.run.alone ∙ ap (λ (ls : List Line). lines ++ ls) own_new;
+        once = rw (own-append (Client 1) lines (line ∷ []), own_new) (lines_more cs event (own_lines (Client 1) lines) line n.event_is r.run.once);
+        alone = own-append (Client 1) lines (line ∷ []) ∙ ap (λ (ls : List Line). ls ++ own_lines (Client 1) (line ∷ [])) r.run.alone ∙ ap (λ (ls : List Line). lines ++ ls) own_new;
       };
       state_is = state_next r.end (Client 1) last.number last store new event line r.state_is r.number_is n;
       number_is = number_behind r.end last line r.number_is ∙ ap (λ (k : Mark). k.number) (sym n.mark);
@@ -147,26 +147,26 @@ pub whole_history : (m : State) (commands : List Command) (lines : List Line) (s
 whole_history m commands lines store last r = record {
   end = r.end;
   legal = r.run.legal;
-  once = lines_client commands (own (Client 1) lines) (subst (All IsBuiltLine) (sym r.run.alone) r.printed) r.run.once;
+  once = lines_client commands (own_lines (Client 1) lines) (subst (All IsBuiltLine) (sym r.run.alone) r.printed) r.run.once;
   alone = r.run.alone;
 }
 
 -- ---- the runner's sync
 
-not_own : (line : Line) → line.who ≡ Runner → own (Client 1) (line ∷ []) ≡ []
+not_own : (line : Line) → line.who ≡ Runner → own_lines (Client 1) (line ∷ []) ≡ []
 not_own line e = rw e refl
 
 pub synced_last : (m : State) (commands : List Command) (lines : List Line) (store new : State) (last : Mark) (line : Line)
     → HasRun m commands lines store last → IsNextLine store Runner last.number no_mark Sync line new → HasSynced m commands (lines ++ line ∷ []) new
 synced_last m cs lines store new last line r n =
     let legal_line = legal_next r.end Runner last.number no_mark store new Sync line (height_kept (start m) r.end lines r.run.legal) r.state_is r.number_is r.runner_is n in
-    let mine : own (Client 1) (lines ++ line ∷ []) ≡ lines =
-    own-append (Client 1) lines (line ∷ []) ∙ ap (λ (ls : List Line). own (Client 1) lines ++ ls) (not_own line n.who_is) ∙ append-nil (own (Client 1) lines) ∙ r.run.alone in
+    let mine : own_lines (Client 1) (lines ++ line ∷ []) ≡ lines =
+    own-append (Client 1) lines (line ∷ []) ∙ ap (λ (ls : List Line). own_lines (Client 1) lines ++ ls) (not_own line n.who_is) ∙ append-nil (own_lines (Client 1) lines) ∙ r.run.alone in
     record {
       end = behind r.end line;
       history = record {
         legal = Leads-append (start m) r.end (behind r.end line) lines (line ∷ []) r.run.legal (legal_line, refl);
-        once = subst (λ (ls : List Line). IsClient cs ls) (r.run.alone ∙ sym mine) (lines_client cs (own (Client 1) lines) (subst (All IsBuiltLine) (sym r.run.alone) r.printed) r.run.once);
+        once = subst (λ (ls : List Line). IsClient cs ls) (r.run.alone ∙ sym mine) (lines_client cs (own_lines (Client 1) lines) (subst (All IsBuiltLine) (sym r.run.alone) r.printed) r.run.once);
         sync = line;
         is_sync = n.event_is;
         is_runner = n.who_is;

@@ -11,7 +11,7 @@ use Rattle.udt_model.specs.declared.line.Who.{Who}
 use Rattle.udt_model.specs.declared.line.Who.TheVariants.{Client, Flusher, Compactor, Runner}
 use Rattle.udt_model.specs.State.{State}
 use Rattle.udt_model.specs.Lines.{is_step}
-use Rattle.udt_model.specs.Histories.{Point, start, start_of, Leads, own}
+use Rattle.udt_model.specs.Histories.{Point, start, start_of, Leads, own_lines}
 use Rattle.client_lang.specs.declared.command.Command.{Command}
 use Rattle.client_lang.specs.declared.command.Command.TheVariants as commands
 
@@ -88,24 +88,24 @@ IsClient commands ls = (front : List Line) × (rest : List Line) × Expand comma
 -- far, and no others.
 pub record IsSoloRun (m : State) (commands : List Command) (lines : List Line) (end : Point) : Type 0 where
   pub legal : Leads (start m) lines end
-  pub once : Expand commands (own (Client 1) lines)
-  pub alone : own (Client 1) lines ≡ lines
+  pub once : Expand commands (own_lines (Client 1) lines)
+  pub alone : own_lines (Client 1) lines ≡ lines
 
 -- A legal history from the state on, whose lines are those of client 1, its last releases included, and no others.
 pub record IsSoloHistory (m : State) (commands : List Command) (lines : List Line) : Type 0 where
   pub end : Point
   pub legal : Leads (start m) lines end
-  pub once : IsClient commands (own (Client 1) lines)
-  pub alone : own (Client 1) lines ≡ lines
+  pub once : IsClient commands (own_lines (Client 1) lines)
+  pub alone : own_lines (Client 1) lines ≡ lines
 
 -- A legal history from the state on to this end, whose lines are those of client 1, and then one sync of the runner.
 pub record IsRunHistory (m : State) (commands : List Command) (lines : List Line) (end : Point) : Type 0 where
   pub legal : Leads (start m) lines end
-  pub once : IsClient commands (own (Client 1) lines)
+  pub once : IsClient commands (own_lines (Client 1) lines)
   pub sync : Line
   pub is_sync : sync.event ≡ Sync
   pub is_runner : sync.who ≡ Runner
-  pub rest : lines ≡ own (Client 1) lines ++ sync ∷ []
+  pub rest : lines ≡ own_lines (Client 1) lines ++ sync ∷ []
 
 -- ---- several clients
 
@@ -135,7 +135,7 @@ IsAskedBy clients Runner event = ⊥
 pub record IsJointHistory (m : State) (files : List (List Command)) (lines : List Line) (end : Point) : Type 0 where
   pub legal : Leads (start_of end.height m) lines end
   pub whole : end.height ≡ end.number
-  pub once : EachIndex files (λ i. IsClient (slice_index_or files i []) (own (Client (i + 1)) lines))
+  pub once : EachIndex files (λ i. IsClient (slice_index_or files i []) (own_lines (Client (i + 1)) lines))
   pub front : List Line
   pub actors : All (λ (l : Line). IsAskedBy (length files) l.who l.event) front
   pub sync : Line

@@ -1,6 +1,6 @@
 -- The versions of a key stand together in the stored order, the larger timestamps first.
-use Rattle.std.proofs.Common.{◌≡◌, ℕ, zero, suc, ◌+◌, ◌-◌, ◌<◌, ◌≤◌, Bool, true, false, not, ◌&&◌, cond, List, [], ◌∷◌, length, get_or, take, drop, map, Option, Some, None, refl, sym, ap, subst, ◌∙◌, ◌⊎◌, inl, inr, arith}
-use Rattle.std.specs.Prelude.{find, slice_get, nat_le, nat_lt, ◌==◌, ◌||◌}
+use Rattle.std.proofs.Common.{◌≡◌, ℕ, zero, suc, ◌-◌, ◌<◌, ◌≤◌, Bool, true, false, ◌&&◌, List, [], ◌∷◌, length, get_or, take, drop, Some, refl, sym, ap, subst, ◌∙◌, inl, inr, arith}
+use Rattle.std.specs.Prelude.{slice_get, nat_le, nat_lt, ◌==◌, ◌||◌}
 use Rattle.std.specs.List.{AllByRecursion, AllWithin}
 use Rattle.std.specs.List.Sorted.{IsPartitionedBy}
 use Rattle.std.specs.Str.{bytes_eq}
@@ -8,7 +8,7 @@ use Rattle.std.specs.Ordering.{is_ge, is_lt, nat_cmp}
 use Rattle.std.specs.Cmp.Lexicographic.{slice_cmp, nat_list_cmp_total}
 use Rattle.std.specs.declared.cmp.Ordering.{Ordering}
 use Rattle.std.specs.declared.cmp.Ordering.TheVariants.{Less, Equal, Greater}
-use Rattle.std.proofs.lemmas.Bool.{cases_Bool, cases_lt, cases_eq}
+use Rattle.std.proofs.lemmas.Bool.{cases_eq}
 use Rattle.std.proofs.lemmas.Bool.Decides.{nat_tests}
 use Rattle.std.proofs.lemmas.Slice.Eq.{bytes_eq-Decides}
 use Rattle.ts_key.specs.declared.version.Version.{Version}
@@ -18,7 +18,7 @@ use Rattle.ts_key.specs.Items.{item_of, items_of}
 use Rattle.ts_key.specs.Lists.{IsOrdered}
 use Rattle.ts_key.specs.Firsts.{slice_self, key_upto, later_not_newer}
 use Rattle.sorted_run.proofs.Finds.{at_index}
-use Rattle.sorted_run.specs.Runs.{is_below, has_key, sees, stamps_of}
+use Rattle.sorted_run.specs.Runs.{has_key_below, has_key, sees}
 
 abbrev sort_key : Version → SortKey
 sort_key v = (item_of v).sort_key
@@ -49,37 +49,37 @@ ordered-drop (v ∷ vs) (suc n) so = ordered-drop vs n so.1
 
 -- ---- tests of one key
 
-is_below_Less : (key : List ℕ) (v : Version) → is_below key v ≡ true → slice_cmp nat_cmp v.key key ≡ Less
+is_below_Less : (key : List ℕ) (v : Version) → has_key_below key v ≡ true → slice_cmp nat_cmp v.key key ≡ Less
 is_below_Less key v e = is_Less (slice_cmp nat_cmp v.key key) e
 
-pub below_other : (key : List ℕ) (v : Version) → is_below key v ≡ true → has_key key v ≡ false
-below_other key v e = not_so (has_key key v) (λ y. both (is_below key v) e (ap (λ k. is_lt (slice_cmp nat_cmp k key)) ((bytes_eq-Decides v.key key).0 y) ∙ ap is_lt (slice_self key)))
+pub below_other : (key : List ℕ) (v : Version) → has_key_below key v ≡ true → has_key key v ≡ false
+below_other key v e = not_so (has_key key v) (λ y. both (has_key_below key v) e (ap (λ k. is_lt (slice_cmp nat_cmp k key)) ((bytes_eq-Decides v.key key).0 y) ∙ ap is_lt (slice_self key)))
 
 -- no key that is below comes after one that isn't
-below_back : (key : List ℕ) (v w : Version) → is_before (sort_key w) (sort_key v) ≡ false → is_below key w ≡ true → is_below key v ≡ true
+below_back : (key : List ℕ) (v w : Version) → is_before (sort_key w) (sort_key v) ≡ false → has_key_below key w ≡ true → has_key_below key v ≡ true
 below_back key v w upto e =
     elim (key_upto (sort_key v) (sort_key w) upto) [
       | inl l ↦ ap is_lt (nat_list_cmp_total.trans v.key w.key key l (is_below_Less key w e))
       | inr q ↦ ap (λ k. is_lt (slice_cmp nat_cmp k key)) q ∙ e
     ]
 
-pub below_parts : (key : List ℕ) (vs : List Version) → IsOrdered (items_of vs) → IsPartitionedBy (is_below key) vs
+pub below_parts : (key : List ℕ) (vs : List Version) → IsOrdered (items_of vs) → IsPartitionedBy (has_key_below key) vs
 below_parts key vs so i j d o l e =
     elim (cases_eq i j) [
-      | inl q ↦ subst (λ k. is_below key (get_or vs k d) ≡ true) (sym q) e
+      | inl q ↦ subst (λ k. has_key_below key (get_or vs k d) ≡ true) (sym q) e
       | inr n ↦ below_back key (get_or vs i d) (get_or vs j d) (later_upto vs so i j d (omega (arith, n, o)) l) e
     ]
 
 -- where none is below, the versions of the key come first
-key_back : (key : List ℕ) (v w : Version) → is_before (sort_key w) (sort_key v) ≡ false → is_below key v ≡ false → has_key key w ≡ true → has_key key v ≡ true
+key_back : (key : List ℕ) (v w : Version) → is_before (sort_key w) (sort_key v) ≡ false → has_key_below key v ≡ false → has_key key w ≡ true → has_key key v ≡ true
 key_back key v w upto n e =
     let q : w.key ≡ key = (bytes_eq-Decides w.key key).0 e in
     elim (key_upto (sort_key v) (sort_key w) upto) [
-      | inl l ↦ absurd (both (is_below key v) (ap (λ k. is_lt (slice_cmp nat_cmp v.key k)) (sym q) ∙ ap is_lt l) n)
+      | inl l ↦ absurd (both (has_key_below key v) (ap (λ k. is_lt (slice_cmp nat_cmp v.key k)) (sym q) ∙ ap is_lt l) n)
       | inr r ↦ ap (λ k. bytes_eq k key) r ∙ e
     ]
 
-pub key_parts : (key : List ℕ) (vs : List Version) → IsOrdered (items_of vs) → AllWithin (λ v. is_below key v ≡ false) vs 0 (length vs) → IsPartitionedBy (has_key key) vs
+pub key_parts : (key : List ℕ) (vs : List Version) → IsOrdered (items_of vs) → AllWithin (λ v. has_key_below key v ≡ false) vs 0 (length vs) → IsPartitionedBy (has_key key) vs
 key_parts key vs so from i j d o l e =
     elim (cases_eq i j) [
       | inl q ↦ subst (λ k. has_key key (get_or vs k d) ≡ true) (sym q) e
@@ -134,13 +134,13 @@ not_ge Less e = absurd cc
 not_ge Equal e = refl
 not_ge Greater e = refl
 
-pub all_below : (key : List ℕ) (vs : List Version) (v : Version) → IsOrdered (items_of vs) → Some v ≡ slice_get vs (length vs - 1) → is_lt (slice_cmp nat_cmp v.key key) ≡ true → AllWithin (λ w. is_below key w ≡ true) vs 0 (length vs)
-all_below key vs v so e h k d l m = below_parts key vs so k (length vs - 1) d (omega (arith, m)) (omega (arith, m)) (ap (is_below key) (at_index vs (length vs - 1) v d e) ∙ h)
+pub all_below : (key : List ℕ) (vs : List Version) (v : Version) → IsOrdered (items_of vs) → Some v ≡ slice_get vs (length vs - 1) → is_lt (slice_cmp nat_cmp v.key key) ≡ true → AllWithin (λ w. has_key_below key w ≡ true) vs 0 (length vs)
+all_below key vs v so e h k d l m = below_parts key vs so k (length vs - 1) d (omega (arith, m)) (omega (arith, m)) (ap (has_key_below key) (at_index vs (length vs - 1) v d e) ∙ h)
 
-pub none_below : (key : List ℕ) (vs : List Version) (v : Version) → IsOrdered (items_of vs) → Some v ≡ slice_get vs 0 → is_ge (slice_cmp nat_cmp v.key key) ≡ true → AllWithin (λ w. is_below key w ≡ false) vs 0 (length vs)
+pub none_below : (key : List ℕ) (vs : List Version) (v : Version) → IsOrdered (items_of vs) → Some v ≡ slice_get vs 0 → is_ge (slice_cmp nat_cmp v.key key) ≡ true → AllWithin (λ w. has_key_below key w ≡ false) vs 0 (length vs)
 none_below key vs v so e h k d l m =
-    not_so (is_below key (get_or vs k d)) (λ y. both (is_below key v) (ap (is_below key) (sym (at_index vs 0 v d e)) ∙ below_parts key vs so 0 k d (omega arith) m y) (not_ge (slice_cmp nat_cmp v.key key) h))
+    not_so (has_key_below key (get_or vs k d)) (λ y. both (has_key_below key v) (ap (has_key_below key) (sym (at_index vs 0 v d e)) ∙ below_parts key vs so 0 k d (omega arith) m y) (not_ge (slice_cmp nat_cmp v.key key) h))
 
-pub none_of_key : (key : List ℕ) (vs : List Version) (v : Version) → IsOrdered (items_of vs) → AllWithin (λ w. is_below key w ≡ false) vs 0 (length vs) → Some v ≡ slice_get vs 0 → has_key key v ≡ false → AllWithin (λ w. has_key key w ≡ false) vs 0 (length vs)
+pub none_of_key : (key : List ℕ) (vs : List Version) (v : Version) → IsOrdered (items_of vs) → AllWithin (λ w. has_key_below key w ≡ false) vs 0 (length vs) → Some v ≡ slice_get vs 0 → has_key key v ≡ false → AllWithin (λ w. has_key key w ≡ false) vs 0 (length vs)
 none_of_key key vs v so from e h k d l m =
     not_so (has_key key (get_or vs k d)) (λ y. both (has_key key v) (ap (has_key key) (sym (at_index vs 0 v d e)) ∙ key_parts key vs so from 0 k d (omega arith) m y) h)

@@ -1,5 +1,5 @@
 -- A look-up by the part of a key, then by timestamps, then by sequences.
-use Rattle.std.proofs.Common.{◌≡◌, ℕ, zero, suc, ◌+◌, ◌<◌, ◌≤◌, Bool, true, false, not, cond, List, [], ◌∷◌, length, get_or, take, drop, map, Option, Some, None, refl, sym, ap, subst, ◌∙◌, inl, inr, arith}
+use Rattle.std.proofs.Common.{◌≡◌, ℕ, zero, suc, ◌≤◌, Bool, true, false, cond, List, [], ◌∷◌, length, get_or, take, drop, Some, None, refl, sym, ap, subst, ◌∙◌, inl, inr, arith}
 use Rattle.std.specs.Prelude.{find, nat_le, nat_lt, slice_get, option_map}
 use Rattle.std.specs.List.{AllWithin, position, position_or_len}
 use Rattle.std.proofs.lemmas.Bool.{cases_Bool}
@@ -8,9 +8,9 @@ use Rattle.std.proofs.lemmas.List.{length-map}
 use Rattle.ts_key.specs.declared.version.Version.{Version}
 use Rattle.ts_key.specs.Items.{item_of, items_of}
 use Rattle.ts_key.specs.Lists.{IsOrdered}
-use Rattle.ts_key.specs.Visible.{is_of, newest_ts}
+use Rattle.ts_key.specs.Visible.{is_item_of, newest_ts}
 use Rattle.ts_key.specs.Firsts.{newest_is_first}
-use Rattle.sorted_run.specs.Runs.{first_seen, has_key, is_below, sees, stamps_of}
+use Rattle.sorted_run.specs.Runs.{first_seen, has_key, has_key_below, sees, stamps_of}
 use Rattle.sorted_run.proofs.Finds.{find-drop, find_none, find-take, find_alike, find_items, head_none, head_some, drop_past, option_map-twice}
 use Rattle.sorted_run.proofs.Keys.{below_other, key_parts, none_of_key, other_unseen, above_unseen, upto_seen, stamps_fall, ordered-take}
 
@@ -109,19 +109,19 @@ module _ (key : List ℕ) (t s : ℕ) where
             cons P v vs p h (suc k) d a b = h k d (omega arith) (omega arith)
 
   -- from the key on
-  pub from_key : (vs : List Version) (n : ℕ) → AllWithin (λ v. is_below key v ≡ true) vs 0 n → first_seen (drop n vs) key t s ≡ first_seen vs key t s
+  pub from_key : (vs : List Version) (n : ℕ) → AllWithin (λ v. has_key_below key v ≡ true) vs 0 n → first_seen (drop n vs) key t s ≡ first_seen vs key t s
   from_key vs n below = find-drop seen vs n (λ k d l m. other_unseen key t s (get_or vs k d) (below_other key (get_or vs k d) (below k d l m)))
 
   -- where the first version from the key on is of another key
-  pub none_there : (vs : List Version) (v : Version) → IsOrdered (items_of vs) → AllWithin (λ v. is_below key v ≡ false) vs 0 (length vs) → Some v ≡ slice_get vs 0 → has_key key v ≡ false → first_seen vs key t s ≡ None
+  pub none_there : (vs : List Version) (v : Version) → IsOrdered (items_of vs) → AllWithin (λ v. has_key_below key v ≡ false) vs 0 (length vs) → Some v ≡ slice_get vs 0 → has_key key v ≡ false → first_seen vs key t s ≡ None
   none_there vs v so from e h = find_none seen vs (λ k d l m. other_unseen key t s (get_or vs k d) (none_of_key key vs v so from e h k d l m))
 
 -- ---- the newest of a key
 
-module _ (key : List ℕ) (vs : List Version) (n : ℕ) (so : IsOrdered (items_of vs)) (below : AllWithin (λ v. is_below key v ≡ true) vs 0 n) where
+module _ (key : List ℕ) (vs : List Version) (n : ℕ) (so : IsOrdered (items_of vs)) (below : AllWithin (λ v. has_key_below key v ≡ true) vs 0 n) where
   newest_found : newest_ts (items_of vs) key ≡ option_map (λ (v : Version). v.ts.0) (find (has_key key) (drop n vs))
   newest_found =
-      ap (option_map (λ v. v.sort_key.ts)) (newest_is_first (items_of vs) key so ∙ sym (find_items (is_of key) vs))
+      ap (option_map (λ v. v.sort_key.ts)) (newest_is_first (items_of vs) key so ∙ sym (find_items (is_item_of key) vs))
       ∙ option_map-twice (λ v. v.sort_key.ts) item_of (find (has_key key) vs)
       ∙ ap (option_map (λ (v : Version). v.ts.0)) (sym (find-drop (has_key key) vs n (λ k d l m. below_other key (get_or vs k d) (below k d l m))))
 
@@ -131,7 +131,7 @@ module _ (key : List ℕ) (vs : List Version) (n : ℕ) (so : IsOrdered (items_o
   pub newest_head : (v : Version) → Some v ≡ slice_get (drop n vs) 0 → has_key key v ≡ true → Some v.ts.0 ≡ newest_ts (items_of vs) key
   newest_head v e h = sym (newest_found ∙ ap (option_map (λ (v : Version). v.ts.0)) (head_some (has_key key) (drop n vs) v e h))
 
-  pub newest_other : (v : Version) → IsOrdered (items_of (drop n vs)) → AllWithin (λ v. is_below key v ≡ false) (drop n vs) 0 (length (drop n vs)) → Some v ≡ slice_get (drop n vs) 0 → has_key key v ≡ false → None ≡ newest_ts (items_of vs) key
+  pub newest_other : (v : Version) → IsOrdered (items_of (drop n vs)) → AllWithin (λ v. has_key_below key v ≡ false) (drop n vs) 0 (length (drop n vs)) → Some v ≡ slice_get (drop n vs) 0 → has_key key v ≡ false → None ≡ newest_ts (items_of vs) key
   newest_other v to from e h = sym (newest_found ∙ ap (option_map (λ (v : Version). v.ts.0)) (none_of_key (drop n vs) v to from e h))
     where
       not_so : (b : Bool) → (b ≡ true → ⊥) → b ≡ false
@@ -145,5 +145,5 @@ module _ (key : List ℕ) (vs : List Version) (n : ℕ) (so : IsOrdered (items_o
       head_is [] v d e = absurd cc
       head_is (w ∷ ws) v d e = cc
 
-      none_of_key : (ws : List Version) (v : Version) → IsOrdered (items_of ws) → AllWithin (λ v. is_below key v ≡ false) ws 0 (length ws) → Some v ≡ slice_get ws 0 → has_key key v ≡ false → find (has_key key) ws ≡ None
+      none_of_key : (ws : List Version) (v : Version) → IsOrdered (items_of ws) → AllWithin (λ v. has_key_below key v ≡ false) ws 0 (length ws) → Some v ≡ slice_get ws 0 → has_key key v ≡ false → find (has_key key) ws ≡ None
       none_of_key ws v to from e h = find_none (has_key key) ws (λ k d l m. not_so (has_key key (get_or ws k d)) (λ y. both (has_key key v) (ap (has_key key) (sym (head_is ws v d e)) ∙ key_parts key ws to from 0 k d l m y) h))

@@ -6,18 +6,18 @@ use Rattle.std.specs.Cmp.Lexicographic.{slice_cmp}
 use Rattle.ts_key.specs.declared.version.Version.{Version}
 use Rattle.ts_key.specs.Items.{item_of, items_of}
 use Rattle.ts_key.specs.Lists.{IsOrdered}
-use Rattle.ts_key.specs.Visible.{is_seen}
+use Rattle.ts_key.specs.Visible.{is_item_seen}
 
 -- its key is below this one
-abbrev pub is_below : List ℕ → Version → Bool
-is_below key v = is_lt (slice_cmp nat_cmp v.key key)
+abbrev pub has_key_below : List ℕ → Version → Bool
+has_key_below key v = is_lt (slice_cmp nat_cmp v.key key)
 
 abbrev pub has_key : List ℕ → Version → Bool
 has_key key v = bytes_eq v.key key
 
 -- a read of the key at this timestamp and this sequence may see it
 abbrev pub sees : List ℕ → ℕ → ℕ → Version → Bool
-sees key t s v = is_seen key t s (item_of v)
+sees key t s v = is_item_seen key t s (item_of v)
 
 -- the first version that the read sees
 abbrev pub first_seen : List Version → List ℕ → ℕ → ℕ → Option Version

@@ -2,14 +2,14 @@
 ghost use Rattle.std.specs.Prelude.{◌≡◌, ◌<◌, ◌≤◌, ◌++◌, length, IfOk, OnOk};
 ghost use Rattle.ts_key.specs.Items.{items_of};
 ghost use Rattle.ts_key.specs.Lists.{IsOrdered};
-ghost use Rattle.sorted_run.specs.Sorts.{is_before as stands_before, sorted as sorted_of};
+ghost use Rattle.sorted_run.specs.Sorts.{is_sorted_before, sorted as sorted_of};
 
 use std::alloc::Global;
 use ts_key::{NoMemory, Version, compare};
 
 /// Whether `a` stands before `b` in the stored order.
 fn is_before(a: &Version, b: &Version) -> bool
-    ensures { result ≡ stands_before a.now b.now }
+    ensures { result ≡ is_sorted_before a.now b.now }
 {
     compare(&a.key_ref(), &b.key_ref()).is_lt()
 }
@@ -49,17 +49,12 @@ pub fn merged(alloc: Global, a: &[Version], b: &[Version]) -> Result<Vec<Version
     Ok(out)
 }
 
-/// The versions in the stored order; of two with one sort key the first comes first.
+/// The versions in the stored order; of two with one sort key the first comes first. Each is copied once.
 pub fn sorted(alloc: Global, versions: &[Version]) -> Result<Vec<Version>, NoMemory>
     ensures { IfOk result (λ vs. vs.items ≡ sorted_of versions.now) }
 {
-    if versions.len() < 2 {
-        let mut out = Vec::with_capacity(alloc, versions.len())?;
-        copy_all(&mut out, versions)?;
-        return Ok(out);
-    }
-    let (front, back) = versions.split_at(versions.len() / 2);
-    let front = sorted(alloc, front)?;
-    let back = sorted(alloc, back)?;
-    merged(alloc, &front, &back)
+    let mut out = Vec::with_capacity(alloc, versions.len())?;
+    copy_all(&mut out, versions)?;
+    out.sort_by(|a, b| compare(&a.key_ref(), &b.key_ref()))?;
+    Ok(out)
 }

@@ -3,7 +3,7 @@ ghost use Rattle.std.specs.Prelude.{◌≡◌, ◌+◌, ◌++◌, ◌==◌, leng
 ghost use Rattle.std.specs.Option.{option_copied};
 ghost use Rattle.ts_key.specs.Items.{item_of, items_of};
 ghost use Rattle.ts_key.specs.Lists.{IsOrdered};
-ghost use Rattle.ts_key.specs.Visible.{newest_ts, visible};
+ghost use Rattle.ts_key.specs.Visible.{newest_ts, visible_item};
 ghost use Rattle.sorted_run.specs.Runs.{latest_of, stamps_of};
 ghost use Rattle.sorted_run.specs.Sorts.{sorted as sorted_versions};
 
@@ -76,7 +76,7 @@ impl Run {
     /// The newest version of the key, by timestamp and then by sequence, among those with a timestamp up to `t` and a
     /// sequence up to `s`.
     pub fn find(&self, key: &[u8], t: Ts, s: Seq) -> Option<&Version>
-        ensures visible { option_map item_of (option_copied result) ≡ visible (items_of self.now) key.now t.0 s.0 }
+        ensures visible { option_map item_of (option_copied result) ≡ visible_item (items_of self.now) key.now t.0 s.0 }
         ensures among { IfSome result (λ v. Contains self.now v.now) }
     {
         search::find_in(
@@ -97,7 +97,7 @@ impl Run {
         s: Seq,
         steps: &mut Steps<L>,
     ) -> Option<&Version>
-        ensures visible { option_map item_of (option_copied result) ≡ visible (items_of self.now) key.now t.0 s.0 }
+        ensures visible { option_map item_of (option_copied result) ≡ visible_item (items_of self.now) key.now t.0 s.0 }
         ensures among { IfSome result (λ v. Contains self.now v.now) }
         ensures steps { steps.new ≡ steps.old + 1 }
     {

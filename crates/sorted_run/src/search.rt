@@ -6,7 +6,7 @@ ghost use Rattle.std.specs.Str.{bytes_eq};
 ghost use Rattle.ts_key.specs.Items.{items_of};
 ghost use Rattle.ts_key.specs.Lists.{IsOrdered};
 ghost use Rattle.ts_key.specs.Visible.{newest_ts};
-ghost use Rattle.sorted_run.specs.Runs.{first_seen, has_key, is_below, sees as sees_version, stamps_of};
+ghost use Rattle.sorted_run.specs.Runs.{first_seen, has_key, has_key_below, sees as sees_version, stamps_of};
 
 use ts_key::{Seq, Ts, Version};
 use ts_lanes::first_at_most;
@@ -15,8 +15,8 @@ use ts_lanes::first_at_most;
 pub fn count_below(versions: &[Version], key: &[u8]) -> usize
     requires { IsOrdered (items_of versions.now) }
     ensures bound { result ≤ length versions.now }
-    ensures below { AllWithin (λ v. is_below key.now v ≡ true) versions.now 0 result }
-    ensures from { AllWithin (λ v. is_below key.now v ≡ false) versions.now result (length versions.now) }
+    ensures below { AllWithin (λ v. has_key_below key.now v ≡ true) versions.now 0 result }
+    ensures from { AllWithin (λ v. has_key_below key.now v ≡ false) versions.now result (length versions.now) }
 {
     versions.partition_point(|v| v.key.bytes().cmp(&key).is_lt())
 }
@@ -24,7 +24,7 @@ pub fn count_below(versions: &[Version], key: &[u8]) -> usize
 /// Whether all keys are below this one, as told by the last.
 fn ends_below(versions: &[Version], key: &[u8]) -> bool
     requires { IsOrdered (items_of versions.now) }
-    ensures { result ≡ true → AllWithin (λ v. is_below key.now v ≡ true) versions.now 0 (length versions.now) }
+    ensures { result ≡ true → AllWithin (λ v. has_key_below key.now v ≡ true) versions.now 0 (length versions.now) }
 {
     match versions.last() {
         None => true,
@@ -35,7 +35,7 @@ fn ends_below(versions: &[Version], key: &[u8]) -> bool
 /// Whether no key is below this one, as told by the first.
 fn starts_from(versions: &[Version], key: &[u8]) -> bool
     requires { IsOrdered (items_of versions.now) }
-    ensures { result ≡ true → AllWithin (λ v. is_below key.now v ≡ false) versions.now 0 (length versions.now) }
+    ensures { result ≡ true → AllWithin (λ v. has_key_below key.now v ≡ false) versions.now 0 (length versions.now) }
 {
     match versions.first() {
         None => true,
@@ -47,8 +47,8 @@ fn starts_from(versions: &[Version], key: &[u8]) -> bool
 pub fn count_below_near(versions: &[Version], guess: usize, key: &[u8]) -> usize
     requires { IsOrdered (items_of versions.now) }
     ensures bound { result ≤ length versions.now }
-    ensures below { AllWithin (λ v. is_below key.now v ≡ true) versions.now 0 result }
-    ensures from { AllWithin (λ v. is_below key.now v ≡ false) versions.now result (length versions.now) }
+    ensures below { AllWithin (λ v. has_key_below key.now v ≡ true) versions.now 0 result }
+    ensures from { AllWithin (λ v. has_key_below key.now v ≡ false) versions.now result (length versions.now) }
 {
     if starts_from(versions, key) {
         return 0;
@@ -69,7 +69,7 @@ pub fn count_below_near(versions: &[Version], guess: usize, key: &[u8]) -> usize
 /// How many versions of this key stand in front, where none has a key below it.
 pub fn count_of_key(versions: &[Version], key: &[u8]) -> usize
     requires order { IsOrdered (items_of versions.now) }
-    requires from { AllWithin (λ v. is_below key.now v ≡ false) versions.now 0 (length versions.now) }
+    requires from { AllWithin (λ v. has_key_below key.now v ≡ false) versions.now 0 (length versions.now) }
     ensures bound { result ≤ length versions.now }
     ensures same { AllWithin (λ v. has_key key.now v ≡ true) versions.now 0 result }
     ensures other { AllWithin (λ v. has_key key.now v ≡ false) versions.now result (length versions.now) }
@@ -107,7 +107,7 @@ fn find_from<'a>(
     s: Seq,
 ) -> Option<&'a Version>
     requires order { IsOrdered (items_of versions.now) }
-    requires from { AllWithin (λ v. is_below key.now v ≡ false) versions.now 0 (length versions.now) }
+    requires from { AllWithin (λ v. has_key_below key.now v ≡ false) versions.now 0 (length versions.now) }
     requires stamps { stamps.now ≡ stamps_of versions.now }
     ensures { option_copied result ≡ first_seen versions.now key.now t.0 s.0 }
 {

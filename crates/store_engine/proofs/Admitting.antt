@@ -19,7 +19,7 @@ use Rattle.udt_model.specs.State.{State, family_at, place_at, seqs_of}
 use Rattle.udt_model.specs.State.{FamilyState as ModelFamily}
 use Rattle.udt_model.specs.Steps.{admitted, raised}
 use Rattle.udt_model.specs.Versions.{AreWritten, between, logged, made, newest_of, of_key, version_of}
-use Rattle.super_version.specs.Contents.{items_in}
+use Rattle.super_version.specs.Contents.{items_of_family}
 use Rattle.super_version.specs.declared.family.FamilyState.{FamilyState}
 use Rattle.super_version.specs.declared.version.SuperVersion.{SuperVersion}
 use Rattle.floor_laws.specs.Sound.{IsSoundState}
@@ -29,7 +29,7 @@ use Rattle.floor_laws.proofs.ListLaws.{fell_same}
 use Rattle.floor_laws.proofs.Stating.{stands_from}
 use Rattle.floor_laws.proofs.States.{holds_of, written_of}
 use Rattle.floor_laws.proofs.Writing.{write_all}
-use Rattle.store_engine.specs.Admission.{IsInMemory, RefusesRaise, RefusesWrite, fell_fault, full_fault, latest_at, op_fault, ops_fault, raise_fault, unknown_fault, unknown_in, write_fault}
+use Rattle.store_engine.specs.Admission.{IsInMemory, RefusesRaise, RefusesWrite, as_refusal, fell_fault, full_fault, latest_at, op_fault, ops_fault, raise_fault, told_refusal, unknown_fault, unknown_in, write_fault}
 use Rattle.store_engine.specs.Now.{IsNow}
 use Rattle.store_engine.specs.declared.fault.EngineFault.{EngineFault}
 use Rattle.store_engine.specs.declared.fault.EngineFault.TheVariants.{UnknownFamily, BelowFloor, Fell, SequenceFull, FloorFell, FilesFull, NoMemory, DiskFault}
@@ -42,6 +42,11 @@ use Rattle.store_engine.proofs.Stamps.{stamp_of}
 pub handed_on : {A : Type 0} (P : EngineFault → Type 0) (r : Result A EngineFault) (e : EngineFault) → IsErrAnd r (λ y. y ≡ e) → P e → IfErr r P
 handed_on P (Ok x) e is h = tt
 handed_on P (Err y) e is h = subst P (sym is) h
+
+-- it tells the refusal that the fault is
+pub handed_refusal : {A : Type 0} (r : Result A EngineFault) (e : EngineFault) → IsErrAnd r (λ y. y ≡ e) → told_refusal r ≡ as_refusal e
+handed_refusal (Ok x) e is = absurd is
+handed_refusal (Err y) e is = ap as_refusal is
 
 -- ---- two lists of one length
 
@@ -144,7 +149,7 @@ module _ (m : State) (now : SuperVersion) (sound : IsSoundState m) (shows : IsNo
 
   -- at or above the floor an operation falls over all writes as it does over the lists
   falls : (before : List WriteOp) (k : ℕ) (o : WriteOp) (f : ModelFamily) (g : FamilyState) → IsBehind before → family_at m o.family ≡ Some f → slice_get now.families o.family.0 ≡ Some g → f.head.floor.0 ≤ o.ts.0
-      → fell k o.ts (newest_of (of_key (writes before) o.family o.key)) ≡ told (fell_fault k o.ts (greater (newest_ts (items_in g) o.key) (latest_at o.family o.key before)))
+      → fell k o.ts (newest_of (of_key (writes before) o.family o.key)) ≡ told (fell_fault k o.ts (greater (newest_ts (items_of_family g) o.key) (latest_at o.family o.key before)))
   falls before k o f g b of there high =
       let fam = b.families o.family f of in
       let vs = between o.family f.through.0 (reached before) (writes before) ++ contents f.tables in
@@ -164,9 +169,9 @@ module _ (m : State) (now : SuperVersion) (sound : IsSoundState m) (shows : IsNo
         let of : family_at m o.family ≡ Some f = some.1.1.0 in
         let there : slice_get now.families o.family.0 ≡ Some g = some.1.1.1 in
         let floor : g.floor ≡ f.head.floor = (shows.families o.family f g of there).floor in
-        let one = floor_told k o f.head.floor (newest_of (of_key (writes before) o.family o.key)) (greater (newest_ts (items_in g) o.key) (latest_at o.family o.key before)) (falls before k o f g b of there) in
+        let one = floor_told k o f.head.floor (newest_of (of_key (writes before) o.family o.key)) (greater (newest_ts (items_of_family g) o.key) (latest_at o.family o.key before)) (falls before k o f g b of there) in
         let two = subst (λ (z : Ts). (if nat_lt o.ts.0 f.head.floor.0 then Some (replies.Below k f.head.floor) else fell k o.ts (newest_of (of_key (writes before) o.family o.key)))
-        ≡ told (if nat_lt o.ts.0 z.0 then Some (BelowFloor k z) else fell_fault k o.ts (greater (newest_ts (items_in g) o.key) (latest_at o.family o.key before)))) (sym floor) one in
+        ≡ told (if nat_lt o.ts.0 z.0 then Some (BelowFloor k z) else fell_fault k o.ts (greater (newest_ts (items_of_family g) o.key) (latest_at o.family o.key before)))) (sym floor) one in
         rw (of, there) two
   ]
 
@@ -272,41 +277,60 @@ raise_admitted m now family floor up shows none = ap (λ (z : Option Reply). z o
 pub raise_refused : (m : State) (now : SuperVersion) (family : Family) (floor : Ts) (e : EngineFault) → m.halted ≡ None → IsNow now m → raise_fault (slice_get now.families family.0) floor ≡ Some e → RefusesRaise m family floor e
 raise_refused m now family floor e up shows some = refuses_raise m family floor e (sym (ap (λ (z : Option Reply). z otherwise replies.Done) (raise_told m now family floor shows up ∙ ap told some)))
 
--- ---- no refusal is a fault of the disk
+-- ---- what is judged is a refusal, and so neither want of memory nor a fault of the disk
 
-in_or : (a b : Option EngineFault) → IfSome a IsInMemory → IfSome b IsInMemory → IfSome (option_or a b) IsInMemory
+abbrev IsRefusal : EngineFault → Type 0
+IsRefusal e = as_refusal e ≡ Some e
+
+in_memory : (e : EngineFault) → IsRefusal e → IsInMemory e
+in_memory UnknownFamily is = tt
+in_memory (BelowFloor op floor) is = tt
+in_memory (Fell op newest) is = tt
+in_memory (SequenceFull last) is = tt
+in_memory (FloorFell floor) is = tt
+in_memory (FilesFull next) is = tt
+in_memory NoMemory is = tt
+in_memory DiskFault is = absurd (cc)
+
+in_or : (a b : Option EngineFault) → IfSome a IsRefusal → IfSome b IsRefusal → IfSome (option_or a b) IsRefusal
 in_or None b x y = y
 in_or (Some e) b x y = x
 
-unknown_in_memory : (families : List FamilyState) (ops : List WriteOp) → IfSome (unknown_in families ops) IsInMemory
-unknown_in_memory families [] = tt
-unknown_in_memory families (o ∷ ops) = in_or (unknown_fault (slice_get families o.family.0)) (unknown_in families ops) (one (slice_get families o.family.0)) (unknown_in_memory families ops) where
-  one : (g : Option FamilyState) → IfSome (unknown_fault g) IsInMemory
-  one None = tt
+unknown_refuses : (families : List FamilyState) (ops : List WriteOp) → IfSome (unknown_in families ops) IsRefusal
+unknown_refuses families [] = tt
+unknown_refuses families (o ∷ ops) = in_or (unknown_fault (slice_get families o.family.0)) (unknown_in families ops) (one (slice_get families o.family.0)) (unknown_refuses families ops) where
+  one : (g : Option FamilyState) → IfSome (unknown_fault g) IsRefusal
+  one None = refl
   one (Some g) = tt
 
-fell_in_memory : (k : ℕ) (ts : Ts) (n : Option ℕ) → IfSome (fell_fault k ts n) IsInMemory
-fell_in_memory k ts None = tt
-fell_in_memory k ts (Some n) = elim (cases_Bool (nat_lt ts.0 n)) [ inl y ↦ rw y tt | inr y ↦ rw y tt ]
+fell_refuses : (k : ℕ) (ts : Ts) (n : Option ℕ) → IfSome (fell_fault k ts n) IsRefusal
+fell_refuses k ts None = tt
+fell_refuses k ts (Some n) = elim (cases_Bool (nat_lt ts.0 n)) [ inl y ↦ rw y refl | inr y ↦ rw y tt ]
 
-op_in_memory : (g : Option FamilyState) (before : List WriteOp) (k : ℕ) (o : WriteOp) → IfSome (op_fault g before k o) IsInMemory
-op_in_memory None before k o = tt
-op_in_memory (Some g) before k o = elim (cases_Bool (nat_lt o.ts.0 g.floor.0)) [ inl y ↦ rw y tt | inr y ↦ rw y (fell_in_memory k o.ts (greater (newest_ts (items_in g) o.key) (latest_at o.family o.key before))) ]
+op_refuses : (g : Option FamilyState) (before : List WriteOp) (k : ℕ) (o : WriteOp) → IfSome (op_fault g before k o) IsRefusal
+op_refuses None before k o = refl
+op_refuses (Some g) before k o = elim (cases_Bool (nat_lt o.ts.0 g.floor.0)) [ inl y ↦ rw y refl | inr y ↦ rw y (fell_refuses k o.ts (greater (newest_ts (items_of_family g) o.key) (latest_at o.family o.key before))) ]
 
-ops_in_memory : (families : List FamilyState) (before : List WriteOp) (k : ℕ) (ops : List WriteOp) → IfSome (ops_fault families before k ops) IsInMemory
-ops_in_memory families before k [] = tt
-ops_in_memory families before k (o ∷ ops) = in_or (op_fault (slice_get families o.family.0) before k o) (ops_fault families (before ++ o ∷ []) (k + 1) ops) (op_in_memory (slice_get families o.family.0) before k o) (ops_in_memory families (before ++ o ∷ []) (k + 1) ops)
+ops_refuses : (families : List FamilyState) (before : List WriteOp) (k : ℕ) (ops : List WriteOp) → IfSome (ops_fault families before k ops) IsRefusal
+ops_refuses families before k [] = tt
+ops_refuses families before k (o ∷ ops) = in_or (op_fault (slice_get families o.family.0) before k o) (ops_fault families (before ++ o ∷ []) (k + 1) ops) (op_refuses (slice_get families o.family.0) before k o) (ops_refuses families (before ++ o ∷ []) (k + 1) ops)
 
-full_in_memory : (last : Seq) (count : ℕ) → IfSome (full_fault last count) IsInMemory
-full_in_memory last count = elim (cases_Bool (nat_lt SEQUENCE_LIMIT (last.0 + count))) [ inl y ↦ rw y tt | inr y ↦ rw y tt ]
+full_refuses : (last : Seq) (count : ℕ) → IfSome (full_fault last count) IsRefusal
+full_refuses last count = elim (cases_Bool (nat_lt SEQUENCE_LIMIT (last.0 + count))) [ inl y ↦ rw y refl | inr y ↦ rw y tt ]
+
+pub write_refuses : (now : SuperVersion) (ops : List WriteOp) (e : EngineFault) → write_fault now ops ≡ Some e → IsRefusal e
+write_refuses now ops e is = subst (λ (o : Option EngineFault). IfSome o IsRefusal) is
+    (in_or (unknown_in now.families ops) (option_or (ops_fault now.families [] 1 ops) (full_fault now.last (length ops))) (unknown_refuses now.families ops)
+    (in_or (ops_fault now.families [] 1 ops) (full_fault now.last (length ops)) (ops_refuses now.families [] 1 ops) (full_refuses now.last (length ops))))
+
+pub raise_refuses : (g : Option FamilyState) (floor : Ts) (e : EngineFault) → raise_fault g floor ≡ Some e → IsRefusal e
+raise_refuses g floor e is = subst (λ (o : Option EngineFault). IfSome o IsRefusal) is (one g) where
+  one : (h : Option FamilyState) → IfSome (raise_fault h floor) IsRefusal
+  one None = refl
+  one (Some h) = elim (cases_Bool (nat_lt floor.0 h.floor.0)) [ inl y ↦ rw y refl | inr y ↦ rw y tt ]
 
 pub write_in_memory : (now : SuperVersion) (ops : List WriteOp) (e : EngineFault) → write_fault now ops ≡ Some e → IsInMemory e
-write_in_memory now ops e is = subst (λ (o : Option EngineFault). IfSome o IsInMemory) is
-    (in_or (unknown_in now.families ops) (option_or (ops_fault now.families [] 1 ops) (full_fault now.last (length ops))) (unknown_in_memory now.families ops)
-    (in_or (ops_fault now.families [] 1 ops) (full_fault now.last (length ops)) (ops_in_memory now.families [] 1 ops) (full_in_memory now.last (length ops))))
+write_in_memory now ops e is = in_memory e (write_refuses now ops e is)
 
 pub raise_in_memory : (g : Option FamilyState) (floor : Ts) (e : EngineFault) → raise_fault g floor ≡ Some e → IsInMemory e
-raise_in_memory g floor e is = subst (λ (o : Option EngineFault). IfSome o IsInMemory) is (one g) where
-  one : (h : Option FamilyState) → IfSome (raise_fault h floor) IsInMemory
-  one None = tt
-  one (Some h) = elim (cases_Bool (nat_lt floor.0 h.floor.0)) [ inl y ↦ rw y tt | inr y ↦ rw y tt ]
+raise_in_memory g floor e is = in_memory e (raise_refuses g floor e is)

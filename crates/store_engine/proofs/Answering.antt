@@ -26,13 +26,14 @@ use Rattle.engine_laws.proofs.Joined.{now_leaves}
 use Rattle.recovery.specs.Tables.{ReadsAsTable}
 use Rattle.store_engine.specs.Calls.{RanUnder, Tells}
 use Rattle.store_engine.specs.Admission.{IsInMemory, RefusesRaise, RefusesWrite}
-use Rattle.store_engine.specs.Engines.{HoldsAsBefore, HoldsNow, held}
-use Rattle.store_engine.specs.Replies.{is_disk_fault, told_by}
+use Rattle.store_engine.specs.Engines.{HoldsAsBefore, HoldsNow, IsOneFolder, held}
+use Rattle.store_engine.specs.Replies.{is_disk_fault, reply_of_fault}
 use Rattle.store_engine.specs.Steps.{IsSameFolder}
 use Rattle.store_engine.specs.declared.engine.Engine.{Engine}
 use Rattle.store_engine.specs.declared.fault.EngineFault.{EngineFault}
 use Rattle.store_engine.specs.declared.fault.EngineFault.TheVariants.{DiskFault}
 use Rattle.store_engine.specs.declared.fault.EngineFault.TheVariants as faults
+use Rattle.store_engine.proofs.Together.{named_on}
 
 some_is : {X : Type 0} {x y : X} → Some x ≡ Some y → x ≡ y
 some_is e = cc
@@ -55,7 +56,7 @@ sync_fails m runs = record { running = refl; is = inr (inl (refl, refl, ap (opti
 
 pub sync_tells : (m : State) → m.halted ≡ None → (result : Result (Unit {0}) EngineFault) → IfErr result (λ fault. fault ≡ DiskFault) → Tells m sync_all Done result
 sync_tells m runs (Ok u) fault = sync_told m runs
-sync_tells m runs (Err e) fault = subst (λ (x : EngineFault). IfSome (told_by x) (IsReplyTo m sync_all)) (sym fault) (sync_fails m runs)
+sync_tells m runs (Err e) fault = subst (λ (x : EngineFault). IfSome (reply_of_fault x) (IsReplyTo m sync_all)) (sym fault) (sync_fails m runs)
 
 pub written_told : (m : State) (ops : List WriteOp) (last : ℕ) → admitted m ops ≡ OkAt last → (sync : Bool) → IsReplyTo m (write ops sync) (OkAt last)
 written_told m ops last is sync = record { running = refl; is = inl (sym is) }
@@ -87,7 +88,7 @@ memory_fault (faults.FilesFull next) in_memory = refl
 memory_fault faults.NoMemory in_memory = refl
 memory_fault DiskFault in_memory = absurd in_memory
 
-pub write_refused : (m : State) (ops : List WriteOp) (sync : Bool) (e : EngineFault) → IsInMemory e → RefusesWrite m ops e → IfSome (told_by e) (IsReplyTo m (write ops sync))
+pub write_refused : (m : State) (ops : List WriteOp) (sync : Bool) (e : EngineFault) → IsInMemory e → RefusesWrite m ops e → IfSome (reply_of_fault e) (IsReplyTo m (write ops sync))
 write_refused m ops sync faults.UnknownFamily in_memory is = record { running = refl; is = inl (some_is is) }
 write_refused m ops sync (faults.BelowFloor op floor) in_memory is = record { running = refl; is = inl (some_is is) }
 write_refused m ops sync (faults.Fell op newest) in_memory is = record { running = refl; is = inl (some_is is) }
@@ -97,7 +98,7 @@ write_refused m ops sync (faults.FilesFull next) in_memory is = record { running
 write_refused m ops sync faults.NoMemory in_memory is = tt
 write_refused m ops sync DiskFault in_memory is = absurd in_memory
 
-pub raise_refused : (m : State) (family : Family) (floor : Ts) (e : EngineFault) → IsInMemory e → RefusesRaise m family floor e → IfSome (told_by e) (IsReplyTo m (raise family floor))
+pub raise_refused : (m : State) (family : Family) (floor : Ts) (e : EngineFault) → IsInMemory e → RefusesRaise m family floor e → IfSome (reply_of_fault e) (IsReplyTo m (raise family floor))
 raise_refused m family floor faults.UnknownFamily in_memory is = record { running = refl; is = inl (some_is is) }
 raise_refused m family floor (faults.BelowFloor op at) in_memory is = record { running = refl; is = inl (some_is is) }
 raise_refused m family floor (faults.Fell op newest) in_memory is = record { running = refl; is = inl (some_is is) }
@@ -108,11 +109,11 @@ raise_refused m family floor faults.NoMemory in_memory is = tt
 raise_refused m family floor DiskFault in_memory is = absurd in_memory
 
 -- a fault that is the disk's tells so, and one that is of memory nothing
-pub disk_tells : (m : State) (act : Act) (e : EngineFault) → e ≡ DiskFault → IsReplyTo m act Fault → IfSome (told_by e) (IsReplyTo m act)
-disk_tells m act e is told = subst (λ (x : EngineFault). IfSome (told_by x) (IsReplyTo m act)) (sym is) told
+pub disk_tells : (m : State) (act : Act) (e : EngineFault) → e ≡ DiskFault → IsReplyTo m act Fault → IfSome (reply_of_fault e) (IsReplyTo m act)
+disk_tells m act e is told = subst (λ (x : EngineFault). IfSome (reply_of_fault x) (IsReplyTo m act)) (sym is) told
 
-pub none_tells : (m : State) (act : Act) (e : EngineFault) → e ≡ faults.NoMemory → IfSome (told_by e) (IsReplyTo m act)
-none_tells m act e is = subst (λ (x : EngineFault). IfSome (told_by x) (IsReplyTo m act)) (sym is) tt
+pub none_tells : (m : State) (act : Act) (e : EngineFault) → e ≡ faults.NoMemory → IfSome (reply_of_fault e) (IsReplyTo m act)
+none_tells m act e is = subst (λ (x : EngineFault). IfSome (reply_of_fault x) (IsReplyTo m act)) (sym is) tt
 
 pub none_disk : (e : EngineFault) → e ≡ faults.NoMemory → is_disk_fault e ≡ false
 none_disk e is = ap is_disk_fault is
@@ -135,6 +136,20 @@ module _ {D F : Type 0} (f : file.Ghosts F) where
     wal = record { name = two.wal.name ∙ one.wal.name; told = two.wal.told ∙ one.wal.told; model = two.wal.model ∙ one.wal.model };
     manifest = record { name = two.manifest.name ∙ one.manifest.name; told = two.manifest.told ∙ one.manifest.told; model = two.manifest.model ∙ one.manifest.model };
   }
+
+module _ {D F : Type 0} (d : disk.Ghosts D F) (f : file.Ghosts F) where
+  -- the same folder is still one
+  pub one_stays : (old new : Engine D F f) → IsSameFolder f old new → IsOneFolder d f old → IsOneFolder d f new
+  one_stays old new same one =
+      let told : d.is_told new.disk ≡ d.is_told old.disk = ap d.is_told same.disk in
+      let model : d.keeps_model new.disk ≡ d.keeps_model old.disk = ap d.keeps_model same.disk in
+      record {
+        named = named_on f old.manifest new.manifest old.wal new.wal same.manifest.name same.wal.name one.named;
+        wal_told = same.wal.told ∙ one.wal_told ∙ sym told;
+        wal_model = same.wal.model ∙ one.wal_model ∙ sym model;
+        manifest_told = same.manifest.told ∙ one.manifest_told ∙ sym told;
+        manifest_model = same.manifest.model ∙ one.manifest_model ∙ sym model;
+      }
 
 module _ {D F : Type 0} (d : disk.Ghosts D F) (f : file.Ghosts F) (now_last : IsNowLast d f) where
   pub same_folder : (engine : Engine D F f) → IsSameFolder f engine engine

@@ -16,7 +16,7 @@ cause_right : {T E : Type 0} (a x y : ℕ) (result : Result T E) → HasCause x 
 cause_right a x y (Ok t) cause = record { later = grows (2 ^ 64 - 1) a x y cause.later; failed = tt; kept = ap (plus_faults a) cause.kept }
 cause_right a x y (Err e) cause = record { later = grows (2 ^ 64 - 1) a x y cause.later; failed = grows_more (2 ^ 64 - 1) a x y cause.failed; kept = tt }
 
-cause_left : {T E : Type 0} (a x y : ℕ) (result : Result T E) → HasCause x y result → HasCause (plus_faults x a) (plus_faults y a) result
+pub cause_left : {T E : Type 0} (a x y : ℕ) (result : Result T E) → HasCause x y result → HasCause (plus_faults x a) (plus_faults y a) result
 cause_left a x y result cause =
     subst (λ n. HasCause n (plus_faults y a) result) (swapped (2 ^ 64 - 1) a x) (subst (λ n. HasCause (plus_faults a x) n result) (swapped (2 ^ 64 - 1) a y) (cause_right a x y result cause))
 
@@ -27,3 +27,7 @@ cause_second a x y b result cause = cause_left b (plus_faults a x) (plus_faults 
 -- or the third
 pub cause_third : {T E : Type 0} (a x y : ℕ) (result : Result T E) → HasCause x y result → HasCause (plus_faults a x) (plus_faults a y) result
 cause_third a x y result cause = cause_right a x y result cause
+
+-- the faults of a disk that takes a file back, beside two others
+pub more_faults : (most a w k g : ℕ) → min (min (min (a + g) most + w) most + k) most ≡ min (min (min (a + w) most + k) most + g) most
+more_faults most a w k g = omega arith

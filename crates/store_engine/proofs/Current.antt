@@ -17,12 +17,12 @@ use Rattle.manifest_edit.specs.LiveTables.{has_table_number}
 use Rattle.manifest_fold.specs.declared.fold.FamilyFold.{FamilyFold}
 use Rattle.manifest_fold.specs.declared.fold.Folded.{Folded}
 use Rattle.manifest_fold.specs.declared.limits.TheConstants.{FILE_NUMBER_LIMIT, LOWEST_LEVEL}
-use Rattle.manifest_fold.specs.Folds.{IsAccepted, IsFree, IsLogsEdit, fold_with, newest_log}
+use Rattle.manifest_fold.specs.Folds.{IsAccepted, IsFreeNumber, IsLogsEdit, fold_with, newest_log}
 use Rattle.super_version.specs.declared.family.FamilyState.{FamilyState}
 use Rattle.super_version.specs.declared.version.SuperVersion.{SuperVersion}
-use Rattle.super_version.specs.Changes.{ChangesFamily, with_floor}
-use Rattle.super_version.specs.Levels.{changed_at}
-use Rattle.super_version.specs.Writes.{AddsBatch, AreWritten}
+use Rattle.super_version.specs.Changes.{ChangesFamily, family_with_floor}
+use Rattle.super_version.specs.Levels.{item_changed_at}
+use Rattle.super_version.specs.Writes.{AddsBatch, AreWrittenTo}
 use Rattle.engine_laws.specs.Installs.{raise_edit}
 use Rattle.engine_laws.specs.Manifests.{IsWell}
 use Rattle.engine_laws.proofs.Folding.{family_from, families_length}
@@ -41,7 +41,7 @@ some_is : {X : Type 0} (x y : X) → Some x ≡ Some y → x ≡ y
 some_is x y e = cc
 
 -- what stands in a list of which one is changed
-get_changed : {X : Type 0} (n k : ℕ) (change : X → X) (xs : List X) (y : X) → slice_get (changed_at n change xs) k ≡ Some y → (x : X) × (slice_get xs k ≡ Some x) × ((k ≡ n → y ≡ change x) × ((k ≡ n → ⊥) → y ≡ x))
+pub get_changed : {X : Type 0} (n k : ℕ) (change : X → X) (xs : List X) (y : X) → slice_get (item_changed_at n change xs) k ≡ Some y → (x : X) × (slice_get xs k ≡ Some x) × ((k ≡ n → y ≡ change x) × ((k ≡ n → ⊥) → y ≡ x))
 get_changed n k change [] y there = absurd cc
 get_changed zero zero change (x ∷ xs) y there = (x, refl, ((λ e. sym (some_is (change x) y there)), λ ne. absurd (ne refl)))
 get_changed zero (suc k) change (x ∷ xs) y there = (y, there, ((λ e. absurd (omega (arith, e))), λ ne. refl))
@@ -50,7 +50,7 @@ get_changed (suc n) (suc k) change (x ∷ xs) y there =
     let r = get_changed n k change xs y there in
     (r.0, r.1, ((λ e. r.2.0 (omega (arith, e))), λ ne. r.2.1 (λ e. ne (ap suc e))))
 
-length_changed : {X : Type 0} (n : ℕ) (change : X → X) (xs : List X) → length (changed_at n change xs) ≡ length xs
+pub length_changed : {X : Type 0} (n : ℕ) (change : X → X) (xs : List X) → length (item_changed_at n change xs) ≡ length xs
 length_changed n change [] = refl
 length_changed zero change (x ∷ xs) = refl
 length_changed (suc n) change (x ∷ xs) = ap suc (length_changed n change xs)
@@ -66,12 +66,12 @@ pub record IsAlike (f g : FamilyState) : Type 0 where
 alike_at : (f g : FamilyState) → g ≡ record f { active = g.active } → IsAlike f g
 alike_at f g is = record { form = ap (λ (h : FamilyState). h.form) is; floor = ap (λ (h : FamilyState). h.floor) is; through = ap (λ (h : FamilyState). h.through) is }
 
-written_length : (vs : List Version) (old new : List FamilyState) → AreWritten vs old new → length new ≡ length old
+written_length : (vs : List Version) (old new : List FamilyState) → AreWrittenTo vs old new → length new ≡ length old
 written_length vs [] new are = ap length are
 written_length vs (f ∷ old) [] are = absurd are
 written_length vs (f ∷ old) (g ∷ new) are = ap suc (written_length vs old new are.1)
 
-written_at : (vs : List Version) (old new : List FamilyState) → AreWritten vs old new → (i : ℕ) (g : FamilyState) → slice_get new i ≡ Some g → (f : FamilyState) × (slice_get old i ≡ Some f) × IsAlike f g
+written_at : (vs : List Version) (old new : List FamilyState) → AreWrittenTo vs old new → (i : ℕ) (g : FamilyState) → slice_get new i ≡ Some g → (f : FamilyState) × (slice_get old i ≡ Some f) × IsAlike f g
 written_at vs [] new are i g there = absurd (let e : slice_get [] i ≡ Some g = subst (λ l. slice_get l i ≡ Some g) are there in cc)
 written_at vs (f ∷ old) [] are i g there = absurd are
 written_at vs (f ∷ old) (h ∷ new) are zero g there = let e : h ≡ g = some_is h g there in (f, refl, subst (IsAlike f) e (alike_at f h are.0.others))
@@ -141,13 +141,13 @@ module _ (fold : Folded) (now : SuperVersion) (fits : FitsFold fold now) (family
                 levels = All-nil (λ (t : TableAt). t.level ≤ LOWEST_LEVEL);
                 below = All-nil (λ (t : TableAt). t.number < next);
                 live = All-nil (λ n. IsTrue (has_table_number family_there.tables n));
-                free = All-nil (λ (t : TableAt). IsFree fold.families [] t.number);
+                free = All-nil (λ (t : TableAt). IsFreeNumber fold.families [] t.number);
               };
             },
           );
         }
 
-    pub raised_fits : (new : SuperVersion) → ChangesFamily family.0 (with_floor floor) now new → FitsFold (fold_with fold the_edit) new
+    pub raised_fits : (new : SuperVersion) → ChangesFamily family.0 (family_with_floor floor) now new → FitsFold (fold_with fold the_edit) new
     raised_fits new changes =
         let e : FamilyEdit = record { family = family; floor = floor; through = family_there.through; add = []; remove = [] } in
         let last : new.last.0 ≡ now.last.0 = ap (λ (q : Seq). q.0) changes.last in
@@ -155,12 +155,12 @@ module _ (fold : Folded) (now : SuperVersion) (fits : FitsFold fold now) (family
         record {
           last = omega (arith, last);
           within = omega (arith, last, high);
-          all = ap length changes.families ∙ length_changed family.0 (with_floor floor) now.families ∙ fits.all ∙ sym (families_length fold the_edit (Some e) raise_accepted.part);
+          all = ap length changes.families ∙ length_changed family.0 (family_with_floor floor) now.families ∙ fits.all ∙ sym (families_length fold the_edit (Some e) raise_accepted.part);
           each = λ i f g there at.
-              let r = get_changed family.0 i (with_floor floor) now.families g (subst (λ l. slice_get l i ≡ Some g) changes.families at) in
+              let r = get_changed family.0 i (family_with_floor floor) now.families g (subst (λ l. slice_get l i ≡ Some g) changes.families at) in
               elim (family_from fold the_edit e family_there i f fold_there.1 there) [
                 | inl same ↦
-                    let is : g ≡ with_floor floor r.0 = r.2.0 same.0 in
+                    let is : g ≡ family_with_floor floor r.0 = r.2.0 same.0 in
                     let k : r.0 ≡ state = some_is r.0 state (sym r.1 ∙ subst (λ n. slice_get now.families n ≡ Some state) (sym same.0) here) in
                     let o = state_is in
                     record {

@@ -11,14 +11,14 @@ use Rattle.ts_key.specs.declared.numbers.Family.{Family}
 use Rattle.ts_key.specs.declared.numbers.Ts.{Ts}
 use Rattle.ts_key.specs.declared.version.Version.{Version}
 use Rattle.ts_key.specs.Items.{Item, items_of}
-use Rattle.ts_key.specs.Visible.{is_of, newest, newest_ts}
+use Rattle.ts_key.specs.Visible.{is_item_of, newest, newest_ts}
 use Rattle.sorted_run.specs.Runs.{latest_of}
 use Rattle.memtable.specs.Memtables.{greater}
-use Rattle.super_version.specs.Contents.{items_in}
+use Rattle.super_version.specs.Contents.{items_of_family}
 use Rattle.super_version.proofs.Greatest.{greater-assoc, tested_upto}
 use Rattle.super_version.proofs.Lists.{flat_more, inside}
 use Rattle.super_version.specs.declared.family.FamilyState.{FamilyState}
-use Rattle.store_engine.specs.Admission.{fell_fault, is_on, latest_at, latest_stamp, op_fault, ops_fault, stamp_at, unknown_fault, unknown_in, where_above}
+use Rattle.store_engine.specs.Admission.{fell_fault, is_on_key, latest_at, latest_stamp, op_fault, ops_fault, stamp_at, unknown_fault, unknown_in, where_above}
 use Rattle.store_engine.specs.declared.fault.EngineFault.{EngineFault}
 use Rattle.store_engine.specs.declared.fault.EngineFault.TheVariants.{BelowFloor, UnknownFamily}
 
@@ -47,7 +47,7 @@ above_none ts n None low h = refl
 above_none ts n (Some v) low h = let e = le-ltb ts v.sort_key.ts (omega (arith, low, h)) in rw e refl
 
 pub passed_over : (vs : List Item) (key : List ℕ) (ts : ℕ) → latest_stamp vs ≤ ts → None ≡ where_above ts (newest_ts vs key)
-passed_over vs key ts low = sym (above_none ts (latest_stamp vs) (newest vs key) low (tested_upto (is_of key) vs))
+passed_over vs key ts low = sym (above_none ts (latest_stamp vs) (newest vs key) low (tested_upto (is_item_of key) vs))
 
 larger : (t a c : ℕ) → nat_lt t a ≡ false → nat_lt t c ≡ true → max a c ≡ c
 larger t a c x z = let l = ltb-false t a x in let g = ltb-true t c z in omega (arith, l, g)
@@ -77,8 +77,8 @@ fell_above k ts (Some n) b = elim (cases_Bool (nat_lt ts.0 n)) [
 pub below_floor : (f : FamilyState) (before : List WriteOp) (k : ℕ) (o : WriteOp) → nat_lt o.ts.0 f.floor.0 ≡ true → Some (BelowFloor k f.floor) ≡ op_fault (Some f) before k o
 below_floor f before k o y = rw y refl
 
-pub from_floor : (f : FamilyState) (before : List WriteOp) (k : ℕ) (o : WriteOp) (newest : Option ℕ) → nat_lt o.ts.0 f.floor.0 ≡ false → newest ≡ greater (where_above o.ts.0 (newest_ts (items_in f) o.key)) (latest_at o.family o.key before) → fell_fault k o.ts newest ≡ op_fault (Some f) before k o
-from_floor f before k o newest y is = rw y (ap (fell_fault k o.ts) is ∙ fell_above k o.ts (newest_ts (items_in f) o.key) (latest_at o.family o.key before))
+pub from_floor : (f : FamilyState) (before : List WriteOp) (k : ℕ) (o : WriteOp) (newest : Option ℕ) → nat_lt o.ts.0 f.floor.0 ≡ false → newest ≡ greater (where_above o.ts.0 (newest_ts (items_of_family f) o.key)) (latest_at o.family o.key before) → fell_fault k o.ts newest ≡ op_fault (Some f) before k o
+from_floor f before k o newest y is = rw y (ap (fell_fault k o.ts) is ∙ fell_above k o.ts (newest_ts (items_of_family f) o.key) (latest_at o.family o.key before))
 
 greater_none : (a : Option ℕ) → greater a None ≡ a
 greater_none None = refl
@@ -95,12 +95,12 @@ drop_push : (ops : List WriteOp) (i : ℕ) (o : WriteOp) → i < length ops → 
 drop_push ops i o l is = drop_more ops i o l ∙ ap (λ (x : WriteOp). x ∷ drop (i + 1) ops) (sym is)
 
 -- an operation on the key more, and one that is on another
-pub latest_on : (family : Family) (key : List ℕ) (ops : List WriteOp) (i : ℕ) (o : WriteOp) (latest next : Option ℕ) → i < length ops → o ≡ get_or ops i o → is_on family key o ≡ true → latest ≡ latest_at family key (take i ops) → next ≡ greater latest (Some o.ts.0) → next ≡ latest_at family key (take (i + 1) ops)
+pub latest_on : (family : Family) (key : List ℕ) (ops : List WriteOp) (i : ℕ) (o : WriteOp) (latest next : Option ℕ) → i < length ops → o ≡ get_or ops i o → is_on_key family key o ≡ true → latest ≡ latest_at family key (take i ops) → next ≡ greater latest (Some o.ts.0) → next ≡ latest_at family key (take (i + 1) ops)
 latest_on family key ops i o latest next l is on so_far found =
     let one : stamp_at family key o ≡ Some o.ts.0 = rw on refl in
     found ∙ ap (λ (z : Option ℕ). greater z (Some o.ts.0)) so_far ∙ ap (greater (latest_at family key (take i ops))) (sym one) ∙ sym (latest_at-push family key (take i ops) o) ∙ ap (latest_at family key) (sym (take_push ops i o l is))
 
-pub latest_off : (family : Family) (key : List ℕ) (ops : List WriteOp) (i : ℕ) (o : WriteOp) (latest : Option ℕ) → i < length ops → o ≡ get_or ops i o → is_on family key o ≡ false → latest ≡ latest_at family key (take i ops) → latest ≡ latest_at family key (take (i + 1) ops)
+pub latest_off : (family : Family) (key : List ℕ) (ops : List WriteOp) (i : ℕ) (o : WriteOp) (latest : Option ℕ) → i < length ops → o ≡ get_or ops i o → is_on_key family key o ≡ false → latest ≡ latest_at family key (take i ops) → latest ≡ latest_at family key (take (i + 1) ops)
 latest_off family key ops i o latest l is off so_far =
     let one : stamp_at family key o ≡ None = rw off refl in
     so_far ∙ sym (greater_none (latest_at family key (take i ops))) ∙ ap (greater (latest_at family key (take i ops))) (sym one) ∙ sym (latest_at-push family key (take i ops) o) ∙ ap (latest_at family key) (sym (take_push ops i o l is))

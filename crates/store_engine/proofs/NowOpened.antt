@@ -1,5 +1,5 @@
 -- The super version of an opened folder shows each state that the folder stands for.
-use Rattle.std.proofs.Common.{◌≡◌, ℕ, zero, suc, ◌+◌, ◌<◌, ◌≤◌, ◌&&◌, ◌==◌, Bool, true, false, List, [], ◌∷◌, ◌++◌, get_or, length, map, Some, refl, sym, ap, ◌∙◌, subst, arith, inl, inr, append-nil}
+use Rattle.std.proofs.Common.{◌≡◌, ℕ, zero, suc, ◌+◌, ◌<◌, ◌≤◌, ◌&&◌, ◌==◌, Bool, true, false, List, [], ◌∷◌, ◌++◌, get_or, length, map, Some, None, refl, sym, ap, ◌∙◌, subst, arith, inl, inr, append-nil}
 use Rattle.std.specs.Prelude.{filter, nat_le, nat_lt, slice_get}
 use Rattle.std.specs.Cmp.{IsStrictWeakOrder}
 use Rattle.std.specs.List.{AllByRecursion, flat_map}
@@ -12,7 +12,7 @@ use Rattle.ts_key.specs.declared.numbers.Ts.{Ts}
 use Rattle.ts_key.specs.declared.version.Form.{Form}
 use Rattle.ts_key.specs.declared.version.Version.{Version}
 use Rattle.sorted_run.specs.Sorts.{sorted}
-use Rattle.memtable.specs.Memtables.{Memtable, versions_of}
+use Rattle.memtable.specs.Memtables.{Memtable, versions_of_memtable}
 use Rattle.udt_disk.specs.Joint.{Folder}
 use Rattle.udt_model.specs.Crashes.{Course}
 use Rattle.udt_model.specs.State.{State, LiveTable}
@@ -34,18 +34,18 @@ use Rattle.floor_laws.proofs.Kept.{same_number}
 use Rattle.floor_laws.proofs.Members.{In, In-append, In-contains, In-filter, In-left, In-map, In-right, contains_In, filter-In, map-In}
 use Rattle.floor_laws.proofs.States.{holds_of, some_same, written_of}
 use Rattle.floor_laws.proofs.Tables.{Sorted}
-use Rattle.engine_laws.specs.Engine.{Holds}
-use Rattle.engine_laws.specs.Logs.{above, batches_of, is_above}
+use Rattle.engine_laws.specs.Engine.{HoldsState}
+use Rattle.engine_laws.specs.Logs.{above, batches_of, is_above_through}
 use Rattle.engine_laws.specs.Logs as logs
 use Rattle.engine_laws.specs.Manifests.{IsLive, IsWell}
 use Rattle.engine_laws.specs.Standing.{TableSays, family_said, table_of}
 use Rattle.engine_laws.proofs.Ascending.{rising_sorted}
 use Rattle.recovery.specs.Laws.{account_of, said_in}
 use Rattle.recovery.specs.Opening.{IsShown}
-use Rattle.recovery.specs.Places.{AreOpened, number_at, place_in, place_of}
+use Rattle.recovery.specs.Places.{AreOpened, number_at, place_in, table_place_of}
 use Rattle.recovery.specs.Replayed.{above_through, is_unflushed}
 use Rattle.recovery.specs.Tables.{says_of}
-use Rattle.recovery.specs.Versions.{AreLevels, ShowsFamily, is_on, tables_of}
+use Rattle.recovery.specs.Versions.{AreLevels, ShowsFamily, is_on, level_tables}
 use Rattle.recovery.proofs.Stating.{least_on, newest_on, on_deeper, on_newest}
 use Rattle.store_engine.specs.Now.{FitsFamily, IsFamilyNow, IsNow, table_shown, tables_shown, versions_held}
 use Rattle.store_engine.proofs.NowRaised.{same_or_not}
@@ -57,7 +57,7 @@ abbrev taken_by : {A B : Type 0} → (A → B) → Type 0
 taken_by {A} f = A
 
 abbrev Opened : Type 0
-Opened = taken_by place_of
+Opened = taken_by table_place_of
 
 -- ---- lists
 
@@ -185,17 +185,17 @@ split_levels family n k (o ∷ opened) =
 
 module _ (family : Family) (opened : List Opened) where
   -- no more tables of a number are on levels than were opened
-  few_shown : (n : ℕ) (levels : List (List Live)) (k : ℕ) → ((i : ℕ) (tables : List Live) → slice_get levels i ≡ Some tables → IsPermutation (tables_of family (n + i) opened) tables)
+  few_shown : (n : ℕ) (levels : List (List Live)) (k : ℕ) → ((i : ℕ) (tables : List Live) → slice_get levels i ≡ Some tables → IsPermutation (level_tables family (n + i) opened) tables)
       → times number_of k (tables_shown family n levels) ≤ times opened_number k (filter (is_from family n) opened)
   few_shown n [] k each = omega arith
   few_shown n (x ∷ xs) k each =
       let same0 : n + 0 ≡ n = omega arith in
-      let moved : IsPermutation (tables_of family n opened) x = subst (λ (l : ℕ). IsPermutation (tables_of family l opened) x) same0 (each 0 x refl) in
-      let rest = few_shown (n + 1) xs k (λ i tables e. let same : n + suc i ≡ n + 1 + i = omega arith in subst (λ (l : ℕ). IsPermutation (tables_of family l opened) tables) same (each (suc i) tables e)) in
+      let moved : IsPermutation (level_tables family n opened) x = subst (λ (l : ℕ). IsPermutation (level_tables family l opened) x) same0 (each 0 x refl) in
+      let rest = few_shown (n + 1) xs k (λ i tables e. let same : n + suc i ≡ n + 1 + i = omega arith in subst (λ (l : ℕ). IsPermutation (level_tables family l opened) tables) same (each (suc i) tables e)) in
       let a = times-append number_of k (map (table_shown family n) x) (tables_shown family (n + 1) xs) in
       let b : times number_of k (map (table_shown family n) x) ≡ times (λ (t : Live). t.number) k x = times-map number_of (table_shown family n) k x in
-      let c : times (λ (t : Live). t.number) k x ≡ times (λ (t : Live). t.number) k (tables_of family n opened) = times-moved (λ (t : Live). t.number) k (tables_of family n opened) x moved in
-      let d : times (λ (t : Live). t.number) k (tables_of family n opened) ≡ times opened_number k (filter (is_on family n) opened) = times-map (λ (t : Live). t.number) (λ (o : Opened). o.table) k (filter (is_on family n) opened) in
+      let c : times (λ (t : Live). t.number) k x ≡ times (λ (t : Live). t.number) k (level_tables family n opened) = times-moved (λ (t : Live). t.number) k (level_tables family n opened) x moved in
+      let d : times (λ (t : Live). t.number) k (level_tables family n opened) ≡ times opened_number k (filter (is_on family n) opened) = times-map (λ (t : Live). t.number) (λ (o : Opened). o.table) k (filter (is_on family n) opened) in
       let e = split_levels family n k opened in
       omega (arith, a, b, c, d, e, rest)
 
@@ -228,16 +228,16 @@ module _ (folder : Folder) (fold : Folded) (opened : List Opened) (tables : AreO
     to_shown t i =
         let ta = map-In (table_of said) t f.tables i in
         let live : IsLive fold family f ta.0 = record { family = there; table = In-contains f.tables ta.0 ta.1 } in
-        let place = contains_In (map place_of opened) (place_in family ta.0) (tables.places.all (place_in family ta.0) (f, live)) in
-        let o = map-In place_of (place_in family ta.0) opened place in
+        let place = contains_In (map table_place_of opened) (place_in family ta.0) (tables.places.all (place_in family ta.0) (f, live)) in
+        let o = map-In table_place_of (place_in family ta.0) opened place in
         let own : o.0.family ≡ family = ap (λ p. p.family) o.2 in
         let at : o.0.level ≡ ta.0.level = ap (λ p. p.table.level) o.2 in
         let low = well.levels family f ta.0 live in
         let all = on.all in
         let level = get_there levels ta.0.level (omega (arith, low, all)) in
         let same = (on.each ta.0.level level.0 level.1).same in
-        let listed : In o.0.table (tables_of family ta.0.level opened) = In-map (λ (z : Opened). z.table) o.0 (filter (is_on family ta.0.level) opened) (In-filter (is_on family ta.0.level) o.0 opened o.1 (on_from family ta.0.level o.0 own at)) in
-        let here = contains_In level.0 o.0.table (Contains-permutation (tables_of family ta.0.level opened) level.0 o.0.table same (In-contains (tables_of family ta.0.level opened) o.0.table listed)) in
+        let listed : In o.0.table (level_tables family ta.0.level opened) = In-map (λ (z : Opened). z.table) o.0 (filter (is_on family ta.0.level) opened) (In-filter (is_on family ta.0.level) o.0 opened o.1 (on_from family ta.0.level o.0 own at)) in
+        let here = contains_In level.0 o.0.table (Contains-permutation (level_tables family ta.0.level opened) level.0 o.0.table same (In-contains (level_tables family ta.0.level opened) o.0.table listed)) in
         let zero_more : 0 + ta.0.level ≡ o.0.level = omega (arith, at) in
         let is : table_shown family (0 + ta.0.level) o.0.table ≡ t = ap (λ (l : ℕ). table_shown family l o.0.table) zero_more ∙ opened_is o.0 o.1 own ∙ ap (λ p. table_of said p.table) o.2 ∙ ta.2 in
         subst (λ (z : LiveTable). In z (tables_shown family 0 levels)) is (shown_at family 0 levels ta.0.level level.0 o.0.table level.1 here)
@@ -246,7 +246,7 @@ module _ (folder : Folder) (fold : Folded) (opened : List Opened) (tables : AreO
     from_level : (k : ℕ) (shown : List Live) (t : Live) → slice_get levels k ≡ Some shown → In t shown → (o : Opened) × (In o opened × ((o.family ≡ family) × ((o.level ≡ k) × (o.table ≡ t))))
     from_level k shown t e i =
         let same = (on.each k shown e).same in
-        let listed = contains_In (tables_of family k opened) t (Contains-permutation shown (tables_of family k opened) t (IsPermutation-sym (tables_of family k opened) shown same) (In-contains shown t i)) in
+        let listed = contains_In (level_tables family k opened) t (Contains-permutation shown (level_tables family k opened) t (IsPermutation-sym (level_tables family k opened) shown same) (In-contains shown t i)) in
         let o = map-In (λ (z : Opened). z.table) t (filter (is_on family k) opened) listed in
         let p = filter-In (is_on family k) o.0 opened o.1 in
         let q = on_true family k o.0 p.1 in
@@ -258,7 +258,7 @@ module _ (folder : Folder) (fold : Folded) (opened : List Opened) (tables : AreO
         let r = from_level s.k s.tables s.t s.there s.within in
         let o = r.0 in
         let own : o.family ≡ family = r.1.1.0 in
-        let live = tables.places.each (place_of o) (In-contains (map place_of opened) (place_of o) (In-map place_of o opened r.1.0)) in
+        let live = tables.places.each (table_place_of o) (In-contains (map table_place_of opened) (table_place_of o) (In-map table_place_of o opened r.1.0)) in
         let same : f ≡ live.0 = some_same f live.0 (sym there ∙ subst (λ (z : Family). slice_get fold.families z.0 ≡ Some live.0) own live.1.family) in
         let ta : TableAt = record { level = o.level; number = o.table.number } in
         let held : In ta f.tables = subst (λ (z : FamilyFold). In ta z.tables) (sym same) (contains_In live.0.tables ta live.1.table) in
@@ -271,7 +271,7 @@ module _ (folder : Folder) (fold : Folded) (opened : List Opened) (tables : AreO
         same_once number_of (map (table_of said) f.tables) (tables_shown family 0 levels)
         (λ k. let e = times-map number_of (table_of said) k f.tables in let l = once-sorted (λ (t : TableAt). t.number) f.tables (rising_sorted (map (λ (t : TableAt). t.number) f.tables) (well.ascending family f there)) k in omega (arith, e, l))
         (λ k.
-        let a = few_shown family opened 0 levels k (λ i shown e. let same : i ≡ 0 + i = omega arith in subst (λ (l : ℕ). IsPermutation (tables_of family l opened) shown) same (on.each i shown e).same) in
+        let a = few_shown family opened 0 levels k (λ i shown e. let same : i ≡ 0 + i = omega arith in subst (λ (l : ℕ). IsPermutation (level_tables family l opened) shown) same (on.each i shown e).same) in
         let b = times-filter opened_number k (is_from family 0) opened in
         let c = once-sorted opened_number opened up k in
         omega (arith, a, b, c))
@@ -297,7 +297,7 @@ module _ (folder : Folder) (fold : Folded) (opened : List Opened) (tables : AreO
 
 above_between : (family : Family) (through last : ℕ) (w : List Version) → ((v : Version) → In v w → v.seq.0 ≤ last) → between family through last w ≡ above family through w
 above_between family through last w bounded =
-    filter_like (λ (v : Version). v.family.0 == family.0 && nat_lt through v.seq.0 && nat_le v.seq.0 last) (is_above family through) w
+    filter_like (λ (v : Version). v.family.0 == family.0 && nat_lt through v.seq.0 && nat_le v.seq.0 last) (is_above_through family through) w
     (λ v i. let l = le-leb v.seq.0 last (bounded v i) in and_true (v.family.0 == family.0 && nat_lt through v.seq.0) (nat_le v.seq.0 last) l) where
       and_true : (a b : Bool) → b ≡ true → (a && b) ≡ a
       and_true a b y = rw y (elim (cases_Bool a) [ inl x ↦ rw x refl | inr x ↦ rw x refl ])
@@ -334,7 +334,7 @@ family_opened folder fold opened tables up well family f w unflushed g there sho
   };
   holds =
       let own : versions_held g ≡ sorted unflushed =
-      ap (λ (l : List Memtable). versions_of g.active ++ flat_map versions_of l) shows.sealed ∙ append-nil (versions_of g.active) ∙ shows.active ∙ ap sorted (unflushed_own fold.families family f w there ∙ sym is) in
+      ap (λ (l : List Memtable). versions_of_memtable g.active ++ flat_map versions_of_memtable l) shows.sealed ∙ append-nil (versions_of_memtable g.active) ∙ shows.active ∙ ap sorted (unflushed_own fold.families family f w there ∙ sym is) in
       subst (IsPermutation unflushed) (sym own) (sorted_moves unflushed);
   tables = same_tables folder fold opened tables up well family f there g.levels shows.levels;
   levels = shows.levels.all;
@@ -344,12 +344,12 @@ family_opened folder fold opened tables up well family f w unflushed g there sho
 
 -- ---- the folder
 
-numbers_are : (opened : List Opened) → map number_at (map place_of opened) ≡ map opened_number opened
+numbers_are : (opened : List Opened) → map number_at (map table_place_of opened) ≡ map opened_number opened
 numbers_are [] = refl
 numbers_are (o ∷ opened) = ap (λ (ns : List ℕ). o.table.number ∷ ns) (numbers_are opened)
 
-pub now_opened : (folder : Folder) (fold : Folded) (version : SuperVersion) (m : State) (c : Course) (shown : IsShown folder fold version) → IsStrictlyIncreasing (map number_at (map place_of shown.opened)) → Holds m c (account_of fold shown) [] → IsNow version m
-now_opened folder fold version m c shown ascending holds =
+pub now_opened : (folder : Folder) (fold : Folded) (version : SuperVersion) (m : State) (c : Course) (shown : IsShown folder fold version) → IsStrictlyIncreasing (map number_at (map table_place_of shown.opened)) → m.flush ≡ None → HoldsState m c (account_of fold shown) [] → IsNow version m
+now_opened folder fold version m c shown ascending idle holds =
     let up = rising_sorted (map opened_number shown.opened) (subst IsStrictlyIncreasing (numbers_are shown.opened) ascending) in
     let batches = batches_of shown.logs fold.logs in
     let h = holds_of m holds.sound in
@@ -365,4 +365,5 @@ now_opened folder fold version m c shown ascending holds =
           above_between i f.through.0 m.last.0 m.versions bounded ∙ holds.unflushed i f of ∙ ap (λ (bs : List _). above i f.through.0 (logs.versions_of bs)) (append-nil batches) ∙ ap (λ (s : Seq). above i s.0 (logs.versions_of batches)) (sym through) in
           subst (λ (z : ModelFamily). IsFamilyNow i (between i f.through.0 m.last.0 m.versions) z g) ff.1.1
           (family_opened folder fold shown.opened shown.tables up holds.well i ff.0 (logs.versions_of batches) (between i f.through.0 m.last.0 m.versions) g ff.1.0 (shown.shows.families.each i.0 ff.0 g ff.1.0 there) is);
+      flush = λ job g is there. absurd (let e = sym idle ∙ is in cc);
     }

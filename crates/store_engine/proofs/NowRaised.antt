@@ -13,30 +13,31 @@ use Rattle.udt_model.specs.State.{State, family_at}
 use Rattle.udt_model.specs.State.{FamilyState as ModelFamily}
 use Rattle.udt_model.specs.Steps.{after}
 use Rattle.udt_model.specs.Versions.{between}
-use Rattle.super_version.specs.Changes.{ChangesFamily, with_floor}
-use Rattle.super_version.specs.Levels.{changed_at}
+use Rattle.super_version.specs.Changes.{ChangesFamily, family_with_floor}
+use Rattle.super_version.specs.Levels.{item_changed_at}
 use Rattle.super_version.specs.declared.family.FamilyState.{FamilyState}
 use Rattle.super_version.specs.declared.version.SuperVersion.{SuperVersion}
 use Rattle.floor_laws.proofs.States.{changed_other, changed_same, length-changed, some_same}
 use Rattle.store_engine.specs.Admission.{raise_fault}
-use Rattle.store_engine.specs.Now.{FitsFamily, IsNow, IsFamilyNow}
+use Rattle.store_engine.specs.Now.{FitsFamily, IsBeingFlushed, IsNow, IsFamilyNow}
 use Rattle.store_engine.specs.declared.fault.EngineFault.{EngineFault}
 use Rattle.store_engine.specs.declared.fault.EngineFault.TheVariants.{FloorFell}
 use Rattle.store_engine.proofs.Admitting.{both}
+use Rattle.store_engine.proofs.Current.{get_changed}
 
 -- ---- one item changed
 
-kept_length : {X : Type 0} (n : ℕ) (change : X → X) (xs : List X) → length (changed_at n change xs) ≡ length xs
+kept_length : {X : Type 0} (n : ℕ) (change : X → X) (xs : List X) → length (item_changed_at n change xs) ≡ length xs
 kept_length n change [] = refl
 kept_length zero change (x ∷ xs) = refl
 kept_length (suc n) change (x ∷ xs) = ap suc (kept_length n change xs)
 
-at_place : {X : Type 0} (n : ℕ) (change : X → X) (xs : List X) (x : X) → slice_get xs n ≡ Some x → slice_get (changed_at n change xs) n ≡ Some (change x)
+at_place : {X : Type 0} (n : ℕ) (change : X → X) (xs : List X) (x : X) → slice_get xs n ≡ Some x → slice_get (item_changed_at n change xs) n ≡ Some (change x)
 at_place n change [] x e = absurd cc
 at_place zero change (y ∷ ys) x e = let q : y ≡ x = cc in ap (λ z. Some (change z)) q
 at_place (suc n) change (y ∷ ys) x e = at_place n change ys x e
 
-elsewhere : {X : Type 0} (n : ℕ) (change : X → X) (xs : List X) (k : ℕ) → (k ≡ n → ⊥) → slice_get (changed_at n change xs) k ≡ slice_get xs k
+elsewhere : {X : Type 0} (n : ℕ) (change : X → X) (xs : List X) (k : ℕ) → (k ≡ n → ⊥) → slice_get (item_changed_at n change xs) k ≡ slice_get xs k
 elsewhere n change [] k ne = refl
 elsewhere zero change (y ∷ ys) zero ne = absurd (ne refl)
 elsewhere zero change (y ∷ ys) (suc k) ne = refl
@@ -59,7 +60,7 @@ fits_higher : (g : FamilyState) (floor : Ts) → g.floor.0 ≤ floor.0 → AllBy
 fits_higher g floor high h = all_weaker (AllByRecursion (FitsFamily g.form g.floor)) (AllByRecursion (FitsFamily g.form floor)) g.levels
     (λ tables k. all_weaker (FitsFamily g.form g.floor) (FitsFamily g.form floor) tables (λ t fits. let c = fits.collected in record { form_is = fits.form_is; collected = omega (arith, c, high) }) k) h
 
-family_raised : (i : Family) (unflushed : List Version) (f : ModelFamily) (g : FamilyState) (floor : Ts) → g.floor.0 ≤ floor.0 → IsFamilyNow i unflushed f g → IsFamilyNow i unflushed (model.with_floor floor f) (with_floor floor g)
+family_raised : (i : Family) (unflushed : List Version) (f : ModelFamily) (g : FamilyState) (floor : Ts) → g.floor.0 ≤ floor.0 → IsFamilyNow i unflushed f g → IsFamilyNow i unflushed (model.with_floor floor f) (family_with_floor floor g)
 family_raised i unflushed f g floor high s = record {
   form = s.form;
   floor = refl;
@@ -80,14 +81,21 @@ not_below g floor ok = elim (cases_Bool (nat_lt floor.0 g.floor.0)) [
 
 -- ---- all families
 
-pub now_raised : (m : State) (old new : SuperVersion) (number : ℕ) (family : Family) (floor : Ts) → raise_fault (slice_get old.families family.0) floor ≡ None → IsNow old m → ChangesFamily family.0 (with_floor floor) old new → IsNow new (after m number (raise family floor) Done)
+pub now_raised : (m : State) (old new : SuperVersion) (number : ℕ) (family : Family) (floor : Ts) → raise_fault (slice_get old.families family.0) floor ≡ None → IsNow old m → ChangesFamily family.0 (family_with_floor floor) old new → IsNow new (after m number (raise family floor) Done)
 now_raised m old new number family floor ok shows changes = record {
   last = changes.last ∙ shows.last;
-  count = ap length changes.families ∙ kept_length family.0 (with_floor floor) old.families ∙ shows.count ∙ sym (length-changed m.families family.0 (model.with_floor floor));
+  count = ap length changes.families ∙ kept_length family.0 (family_with_floor floor) old.families ∙ shows.count ∙ sym (length-changed m.families family.0 (model.with_floor floor));
   families = λ i f g of there. elim (both m.families old.families i.0 (sym shows.count)) [
     | inl none ↦ absurd (gone i f of none.0)
     | inr some ↦ each i f g some.0 some.1.0 of there some.1.1.0 some.1.1.1
   ];
+  flush = λ job g is there.
+      let o = get_changed family.0 job.family.0 (family_with_floor floor) old.families g (subst (λ l. slice_get l job.family.0 ≡ Some g) changes.families there) in
+      let being = shows.flush job o.0 is o.1 in
+      elim (same_or_not job.family.0 family.0) [
+        | inl e ↦ subst (IsBeingFlushed job) (sym (o.2.0 e)) (record { taken = being.taken; later = being.later })
+        | inr n ↦ subst (IsBeingFlushed job) (sym (o.2.1 n)) being
+      ];
 } where
   gone : (i : Family) (f : ModelFamily) → slice_get (model.changed_at family.0 (model.with_floor floor) m.families) i.0 ≡ Some f → slice_get m.families i.0 ≡ None → ⊥
   gone i f of none = elim (same_or_not i.0 family.0) [
@@ -105,18 +113,18 @@ now_raised m old new number family floor ok shows changes = record {
       → IsFamilyNow i (between i f.through.0 m.last.0 m.versions) f g
   each i f g f0 g0 of there of0 there0 =
       let s = shows.families i f0 g0 of0 there0 in
-      let now_at : slice_get (changed_at family.0 (with_floor floor) old.families) i.0 ≡ Some g = sym (ap (λ (l : List FamilyState). slice_get l i.0) changes.families) ∙ there in
+      let now_at : slice_get (item_changed_at family.0 (family_with_floor floor) old.families) i.0 ≡ Some g = sym (ap (λ (l : List FamilyState). slice_get l i.0) changes.families) ∙ there in
       elim (same_or_not i.0 family.0) [
         | inl e ↦
             let a = changed_same m.families family.0 (model.with_floor floor) f0 (subst (λ (n : ℕ). slice_get m.families n ≡ Some f0) e of0) in
-            let b = at_place family.0 (with_floor floor) old.families g0 (subst (λ (n : ℕ). slice_get old.families n ≡ Some g0) e there0) in
+            let b = at_place family.0 (family_with_floor floor) old.families g0 (subst (λ (n : ℕ). slice_get old.families n ≡ Some g0) e there0) in
             let fe : model.with_floor floor f0 ≡ f = some_same (model.with_floor floor f0) f (sym a ∙ subst (λ (n : ℕ). slice_get (model.changed_at family.0 (model.with_floor floor) m.families) n ≡ Some f) e of) in
-            let ge : with_floor floor g0 ≡ g = some_same (with_floor floor g0) g (sym b ∙ subst (λ (n : ℕ). slice_get (changed_at family.0 (with_floor floor) old.families) n ≡ Some g) e now_at) in
+            let ge : family_with_floor floor g0 ≡ g = some_same (family_with_floor floor g0) g (sym b ∙ subst (λ (n : ℕ). slice_get (item_changed_at family.0 (family_with_floor floor) old.families) n ≡ Some g) e now_at) in
             let high = not_below g0 floor (ap (λ (z : Option FamilyState). raise_fault z floor) (sym there0 ∙ ap (slice_get old.families) e) ∙ ok) in
             subst (λ (z : ModelFamily). IsFamilyNow i (between i z.through.0 m.last.0 m.versions) z g) fe
             (subst (IsFamilyNow i (between i f0.through.0 m.last.0 m.versions) (model.with_floor floor f0)) ge (family_raised i (between i f0.through.0 m.last.0 m.versions) f0 g0 floor high s))
         | inr n ↦
             let fe : f0 ≡ f = some_same f0 f (sym (changed_other m.families family.0 (model.with_floor floor) i.0 n ∙ of0) ∙ of) in
-            let ge : g0 ≡ g = some_same g0 g (sym (elsewhere family.0 (with_floor floor) old.families i.0 n ∙ there0) ∙ now_at) in
+            let ge : g0 ≡ g = some_same g0 g (sym (elsewhere family.0 (family_with_floor floor) old.families i.0 n ∙ there0) ∙ now_at) in
             subst (λ (z : ModelFamily). IsFamilyNow i (between i z.through.0 m.last.0 m.versions) z g) fe (subst (IsFamilyNow i (between i f0.through.0 m.last.0 m.versions) f0) ge s)
       ]

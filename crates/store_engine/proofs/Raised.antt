@@ -21,22 +21,23 @@ use Rattle.manifest.proofs.Edits.{rests_fold}
 use Rattle.super_version.specs.declared.version.SuperVersion.{SuperVersion}
 use Rattle.engine_laws.specs.Joints.{IsNowLast, OneRan}
 use Rattle.engine_laws.specs.JointLaws.{RestIn}
-use Rattle.engine_laws.specs.Moves.{IsReady, added_tables}
+use Rattle.engine_laws.specs.Moves.{IsEditReady, TableRests, added_tables}
 use Rattle.engine_laws.specs.Standing.{Says, StandsForSome}
-use Rattle.engine_laws.specs.Engine.{Holds, IsOutcomeOr, MayEdit, newest_of, with_edit}
+use Rattle.engine_laws.specs.Engine.{HoldsState, IsOutcomeOr, MayEdit, newest_log_of, with_edit}
 use Rattle.engine_laws.proofs.Joined.{edit_rests, ran_edit}
 use Rattle.engine_laws.proofs.Moving.{edit_ready}
 use Rattle.floor_laws.proofs.Members.{contains_In}
 use Rattle.recovery.specs.Tables.{ReadsAsTable}
 use Rattle.store_engine.specs.Engines.{HoldsNow, IsEngineOf, held}
-use Rattle.store_engine.specs.Steps.{IsEdited, IsReserved}
+use Rattle.store_engine.specs.Older.{CoversOlder}
+use Rattle.store_engine.specs.Steps.{IsEdited, ReservesEdit}
 use Rattle.store_engine.specs.declared.engine.Engine.{Engine}
 use Rattle.store_engine.specs.declared.fault.EngineFault.{EngineFault}
 use Rattle.store_engine.proofs.Files.{same_joint, second_ran}
 use Rattle.store_engine.proofs.Together.{named_on}
 
 module _ {D F : Type 0} (d : disk.Ghosts D F) (f : file.Ghosts F) (now_last : IsNowLast d f) where
-  module _ (old mid : Engine D F f) (edit : Edit) (result : Result (Unit {0}) EngineFault) (kept : IsReserved f edit old mid result) where
+  module _ (old mid : Engine D F f) (edit : Edit) (result : Result (Unit {0}) EngineFault) (kept : ReservesEdit f edit old mid result) where
     pub reserved_held : held mid ≡ held old
     reserved_held = same_joint mid.disk old.disk (wal_file mid.wal) (wal_file old.wal) (manifest_file mid.manifest) (manifest_file old.manifest) kept.disk (ap (λ w. wal_file w) kept.wal) kept.file
 
@@ -48,7 +49,7 @@ module _ {D F : Type 0} (d : disk.Ghosts D F) (f : file.Ghosts F) (now_last : Is
           rests = subst (λ j. RestIn d f ReadsAsTable j (f.name (manifest_file mid.manifest)) s) (sym reserved_held) (subst (λ x. RestIn d f ReadsAsTable (held old) (f.name x) s) (sym kept.file) of.rests);
           fold = kept.fold ∙ of.fold;
           edits = kept.rests of.edits;
-          log = subst (λ w. log.Holds f w (s.logs (newest_of s)) waiting) (sym kept.wal) of.log;
+          log = subst (λ w. log.Holds f w (s.logs (newest_log_of s)) waiting) (sym kept.wal) of.log;
           one = record {
             named = named_on f old.manifest mid.manifest old.wal mid.wal (ap f.name kept.file) (ap (λ w. f.name (wal_file w)) kept.wal) of.one.named;
             wal_told = ap (λ w. f.is_told (wal_file w)) kept.wal ∙ of.one.wal_told ∙ sym told;
@@ -67,6 +68,7 @@ module _ {D F : Type 0} (d : disk.Ghosts D F) (f : file.Ghosts F) (now_last : Is
       holds = h.holds;
       shows = h.shows;
       used = subst (λ k. All (λ n. n < k) m.used) (sym kept.next) h.used;
+      covers = subst (λ o. CoversOlder o h.says) (sym kept.older) h.covers;
       runs = h.runs;
       unfailed = h.unfailed;
     }
@@ -77,7 +79,7 @@ module _ {D F : Type 0} (d : disk.Ghosts D F) (f : file.Ghosts F) (now_last : Is
     pub edited_held : held new ≡ holding two.disk (wal_file two.wal ∷ manifest_file new.manifest ∷ [])
     edited_held = same_joint new.disk two.disk (wal_file new.wal) (wal_file two.wal) (manifest_file new.manifest) (manifest_file new.manifest) edited.disk (ap (λ w. wal_file w) edited.wal) refl
 
-    module _ (m next : State) (c : Course) (s : Says) (h : Holds m c s []) (of : IsEngineOf d f two s []) (may : MayEdit m s edit next) (logs : edit.add_logs ≡ []) (tables : (t : TableAt) → Contains (added_tables edit.family) t → ⊥) where
+    module _ (m next : State) (c : Course) (s : Says) (h : HoldsState m c s []) (of : IsEngineOf d f two s []) (may : MayEdit m s edit next) (logs : edit.add_logs ≡ []) (tables : (t : TableAt) → Contains (added_tables edit.family) t → TableRests ReadsAsTable (MayLeave d f (held two)) s t.number) where
       abbrev name : FileName
       name = f.name (manifest_file two.manifest)
 
@@ -87,8 +89,8 @@ module _ {D F : Type 0} (d : disk.Ghosts D F) (f : file.Ghosts F) (now_last : Is
       abbrev done : List F
       done = wal_file two.wal ∷ manifest_file new.manifest ∷ []
 
-      ready : IsReady ReadsAsTable (MayLeave d f (holding two.disk start)) s edit
-      ready = edit_ready ReadsAsTable (MayLeave d f (holding two.disk start)) name s edit may.leads.accepted of.rests (λ n i. absurd (contains_In [] n (subst (λ ns. Contains ns n) logs i))) (λ t i. absurd (tables t i))
+      ready : IsEditReady ReadsAsTable (MayLeave d f (holding two.disk start)) s edit
+      ready = edit_ready ReadsAsTable (MayLeave d f (holding two.disk start)) name s edit may.leads.accepted of.rests (λ n i. absurd (contains_In [] n (subst (λ ns. Contains ns n) logs i))) tables
 
       ran_one : OneRan f start done (manifest_file two.manifest) (manifest_file new.manifest)
       ran_one = second_ran f (wal_file two.wal) (manifest_file two.manifest) (manifest_file new.manifest) edited.same.name
@@ -99,7 +101,7 @@ module _ {D F : Type 0} (d : disk.Ghosts D F) (f : file.Ghosts F) (now_last : Is
           (subst (λ fold. Leaves f (manifest_file two.manifest) (manifest_file new.manifest) (IsEditImage fold edit)) of.fold (edited.moments of.edits)))
 
       -- where it ended well, the engine holds what the files say with the edit
-      pub edited_of : newest_log (fold_with s.fold edit).logs ≡ newest_of s → OnOk result (IsEngineOf d f new (with_edit s edit) [])
+      pub edited_of : newest_log (fold_with s.fold edit).logs ≡ newest_log_of s → OnOk result (IsEngineOf d f new (with_edit s edit) [])
       edited_of newest = elim result as (λ r. OnOk r (manifest_folded new.manifest ≡ fold_with (manifest_folded two.manifest) edit) → OnOk r (FoldRests f new.manifest) → OnOk r (IsEngineOf d f new (with_edit s edit) [])) [
         | Ok u ↦ λ fold rests.
             let is : manifest_folded new.manifest ≡ fold_with s.fold edit = fold ∙ ap (λ z. fold_with z edit) of.fold in

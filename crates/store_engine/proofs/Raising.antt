@@ -26,7 +26,7 @@ use Rattle.engine_laws.specs.Installs.{IsNextFile, raise_edit}
 use Rattle.engine_laws.specs.Joints.{IsNowLast}
 use Rattle.engine_laws.specs.Moves.{added_tables}
 use Rattle.engine_laws.specs.Standing.{Says, StandsForSome}
-use Rattle.engine_laws.specs.Engine.{Holds, IsOutcomeOr, MayEdit, with_batches, with_edit}
+use Rattle.engine_laws.specs.Engine.{HoldsState, IsOutcomeOr, MayEdit, with_batches, with_edit}
 use Rattle.engine_laws.proofs.Acting.{act_holds}
 use Rattle.engine_laws.proofs.Calls.{under_act}
 use Rattle.engine_laws.proofs.Installing.{raise_may}
@@ -34,14 +34,15 @@ use Rattle.engine_laws.proofs.Syncing.{sync_unasked}
 use Rattle.recovery.specs.Tables.{ReadsAsTable}
 use Rattle.recovery.specs.Versions.{FitsFold}
 use Rattle.store_engine.specs.Calls.{RanUnder}
-use Rattle.store_engine.specs.Engines.{HoldsAsBefore, HoldsNow, IsCurrent, IsEngineOf, faults_of, held}
+use Rattle.store_engine.specs.Engines.{HoldsAsBefore, HoldsNow, IsCurrent, IsEngineOf, engine_faults, held}
 use Rattle.store_engine.specs.Now.{IsNow}
-use Rattle.store_engine.specs.Steps.{IsEdited, IsLogSynced, IsReserved, IsSameFolder}
+use Rattle.store_engine.specs.Steps.{IsEdited, IsLogSynced, ReservesEdit, IsSameFolder}
 use Rattle.store_engine.specs.Together.{AreTogether}
 use Rattle.store_engine.specs.declared.engine.Engine.{Engine}
 use Rattle.store_engine.specs.declared.fault.EngineFault.{EngineFault}
 use Rattle.store_engine.proofs.Answering.{folder_on, on_ok}
 use Rattle.store_engine.proofs.Counts.{cause_third}
+use Rattle.store_engine.proofs.Covering.{covers_same_logs, covers_synced}
 use Rattle.store_engine.proofs.Raised.{edited_of, edited_ran, reserved_held, reserved_now, reserved_of}
 use Rattle.store_engine.proofs.Synced.{synced_cause, synced_folder, synced_of, synced_ran}
 use Rattle.store_engine.proofs.Together.{newest_stays}
@@ -49,7 +50,7 @@ use Rattle.store_engine.proofs.Together.{newest_stays}
 module _ {D F : Type 0} (d : disk.Ghosts D F) (f : file.Ghosts F) (now_last : IsNowLast d f) where
   -- ---- the manifest was made ready
 
-  module _ (old mid : Engine D F f) (edit : Edit) (ended : Result (Unit {0}) EngineFault) (kept : IsReserved f edit old mid ended) where
+  module _ (old mid : Engine D F f) (edit : Edit) (ended : Result (Unit {0}) EngineFault) (kept : ReservesEdit f edit old mid ended) where
     pub kept_before : HoldsAsBefore d f old mid
     kept_before = record {
       current = λ now cur. record {
@@ -61,7 +62,7 @@ module _ {D F : Type 0} (d : disk.Ghosts D F) (f : file.Ghosts F) (now_last : Is
       running = λ k. kept.running;
     }
 
-    pub kept_faults : faults_of d f mid ≡ faults_of d f old
+    pub kept_faults : engine_faults d f mid ≡ engine_faults d f old
     kept_faults = ap (λ k. plus_faults (plus_faults (d.faults k) (f.faults (wal_file mid.wal))) (f.faults (manifest_file mid.manifest))) kept.disk
         ∙ ap (λ w. plus_faults (plus_faults (d.faults old.disk) (f.faults (wal_file w))) (f.faults (manifest_file mid.manifest))) kept.wal
         ∙ ap (λ x. plus_faults (plus_faults (d.faults old.disk) (f.faults (wal_file old.wal))) (f.faults x)) kept.file
@@ -76,8 +77,8 @@ module _ {D F : Type 0} (d : disk.Ghosts D F) (f : file.Ghosts F) (now_last : Is
     -- ---- the log was synced
 
     module _ (two : Engine D F f) (first : Result (Unit {0}) EngineFault) (synced : IsLogSynced f mid two first) where
-      pub first_cause : HasCause (faults_of d f old) (faults_of d f two) first
-      first_cause = subst (λ n. HasCause n (faults_of d f two) first) kept_faults (synced_cause d f now_last mid two first synced)
+      pub first_cause : HasCause (engine_faults d f old) (engine_faults d f two) first
+      first_cause = subst (λ n. HasCause n (engine_faults d f two) first) kept_faults (synced_cause d f now_last mid two first synced)
 
       pub first_folder : IsSameFolder f old two
       first_folder = folder_on f old mid two kept_folder (synced_folder d f now_last mid two first synced)
@@ -102,22 +103,22 @@ module _ {D F : Type 0} (d : disk.Ghosts D F) (f : file.Ghosts F) (now_last : Is
         }))
 
     module _ (two new : Engine D F f) (synced : IsLogSynced f mid two (Ok tt)) (second : Result (Unit {0}) EngineFault) (edited : IsEdited f edit two new second) where
-      pub second_cause : HasCause (faults_of d f old) (faults_of d f new) second
+      pub second_cause : HasCause (engine_faults d f old) (engine_faults d f new) second
       second_cause =
           let a = plus_faults (d.faults two.disk) (f.faults (wal_file two.wal)) in
           let cause = cause_third a (f.faults (manifest_file two.manifest)) (f.faults (manifest_file new.manifest)) second edited.cause in
-          let same : plus_faults a (f.faults (manifest_file new.manifest)) ≡ faults_of d f new =
+          let same : plus_faults a (f.faults (manifest_file new.manifest)) ≡ engine_faults d f new =
           ap (λ k. plus_faults (plus_faults (d.faults k) (f.faults (wal_file two.wal))) (f.faults (manifest_file new.manifest))) (sym edited.disk)
           ∙ ap (λ w. plus_faults (plus_faults (d.faults new.disk) (f.faults (wal_file w))) (f.faults (manifest_file new.manifest))) (sym edited.wal) in
-          let before : faults_of d f two ≡ faults_of d f old = (first_cause two (Ok tt) synced).kept in
-          subst (λ n. HasCause n (faults_of d f new) second) before (subst (λ n. HasCause (faults_of d f two) n second) same cause)
+          let before : engine_faults d f two ≡ engine_faults d f old = (first_cause two (Ok tt) synced).kept in
+          subst (λ n. HasCause n (engine_faults d f new) second) before (subst (λ n. HasCause (engine_faults d f two) n second) same cause)
 
       module _ (now : SuperVersion) (family : Family) (floor : Ts) (fam : FamilyFold) (there : slice_get (manifest_folded old.manifest).families family.0 ≡ Some fam) (is : edit ≡ raise_edit now.last old.next family fam floor) (together : AreTogether old.manifest old.wal old.next) where
         module _ (m : State) (c : Course) (number : ℕ) (h : HoldsNow d f old now m c) (told : IsReplyTo m (raise family floor) Done) where
           abbrev s1 : Says
           s1 = with_batches h.says h.waiting
 
-          h1 : Holds m c s1 []
+          h1 : HoldsState m c s1 []
           h1 = sync_unasked m c h.says h.waiting h.holds
 
           of_two : IsEngineOf d f two s1 []
@@ -150,7 +151,7 @@ module _ {D F : Type 0} (d : disk.Ghosts D F) (f : file.Ghosts F) (now_last : Is
           second_ran = ran_on d f (λ folder. StandsForSome ReadsAsTable folder (IsOutcomeUnder m c number (raise family floor))) (held old) (held two) (held new) (first_ran two (Ok tt) synced now m c number family floor h)
               (ran_more d f (λ folder. StandsForSome ReadsAsTable folder (IsOutcomeOr m c (after m number (raise family floor) Done))) (λ folder. StandsForSome ReadsAsTable folder (IsOutcomeUnder m c number (raise family floor)))
               (λ folder o. (o.0, o.1, under_act m c number (raise family floor) Done o.0 (told_of m (raise family floor) Done told (λ e. absurd (cc)) (λ b. b)) refl refl o.2)) (held two) (held new)
-              (edited_ran d f now_last edit two new second edited m (after m number (raise family floor) Done) c s1 h1 of_two may no_logs no_tables))
+              (edited_ran d f now_last edit two new second edited m (after m number (raise family floor) Done) c s1 h1 of_two may no_logs (λ t i. absurd (no_tables t i))))
 
           pub second_now : (next : SuperVersion) → IsNow next (after m number (raise family floor) Done) → OnOk second (HoldsNow d f new next (after m number (raise family floor) Done) (course_after m number c (raise family floor) Done))
           second_now next shows = on_ok second (IsEngineOf d f new (with_edit s1 edit) []) (HoldsNow d f new next (after m number (raise family floor) Done) (course_after m number c (raise family floor) Done))
@@ -161,10 +162,11 @@ module _ {D F : Type 0} (d : disk.Ghosts D F) (f : file.Ghosts F) (now_last : Is
                 holds = act_holds m c h.says h.waiting number (raise family floor) Done edit h.holds told refl refl may;
                 shows = shows;
                 used = subst (λ k. All (λ n. n < k) m.used) (sym (edited.next ∙ synced.next ∙ kept.next)) h.used;
+                covers = covers_same_logs two.older new.older s1 edit edited.older no_logs (ap (λ (e : Edit). e.drop_logs) is) (covers_synced old.older two.older h.says h.waiting (synced.older ∙ kept.older) h.covers);
                 runs = h.runs;
                 unfailed = h.unfailed;
               })
-              (edited_of d f now_last edit two new second edited m (after m number (raise family floor) Done) c s1 h1 of_two may no_logs no_tables (newest_stays s1.fold edit no_logs (ap (λ (e : Edit). e.drop_logs) is)))
+              (edited_of d f now_last edit two new second edited m (after m number (raise family floor) Done) c s1 h1 of_two may no_logs (λ t i. absurd (no_tables t i)) (newest_stays s1.fold edit no_logs may.leads.accepted.logs.one))
 
         -- a version goes on with it, whether or not the disk tells
         pub second_current : (next : SuperVersion) → FitsFold (fold_with (manifest_folded old.manifest) edit) next → next.last ≡ now.last → IsCurrent old now → OnOk second (IsCurrent new next)

@@ -8,11 +8,11 @@ use Rattle.ts_key.specs.declared.numbers.Family.{Family}
 use Rattle.ts_key.specs.declared.version.Version.{Version}
 use Rattle.ts_key.specs.Items.{Item, item_of}
 use Rattle.ts_key.specs.Visible as items
-use Rattle.memtable.specs.Memtables.{greater, versions_of}
+use Rattle.memtable.specs.Memtables.{greater, versions_of_memtable}
 use Rattle.udt_model.specs.Versions.{between, logged, made, newest_of, of_key, version_of}
 use Rattle.udt_model.specs.State.{State, LiveTable}
 use Rattle.udt_model.specs.State.{FamilyState as ModelFamily}
-use Rattle.super_version.specs.Contents.{items_in, items_of_level, items_of_memtable, items_of_table, version_of_item}
+use Rattle.super_version.specs.Contents.{items_of_family, items_of_level, items_of_memtable, items_of_table, version_of_item}
 use Rattle.super_version.specs.Live.{Live}
 use Rattle.super_version.specs.declared.family.FamilyState.{FamilyState}
 use Rattle.floor_laws.specs.Tables.{contents}
@@ -21,7 +21,7 @@ use Rattle.floor_laws.proofs.Families.{In-between, between-In}
 use Rattle.floor_laws.proofs.Kept.{is_of-from, is_of-true}
 use Rattle.floor_laws.proofs.Tables.{contents-from, In-contents}
 use Rattle.floor_laws.proofs.Taking.{logged_above}
-use Rattle.store_engine.specs.Admission.{is_on, latest_at}
+use Rattle.store_engine.specs.Admission.{is_on_key, latest_at}
 use Rattle.store_engine.specs.Now.{IsFamilyNow, table_shown, tables_shown, versions_held}
 use Rattle.store_engine.proofs.Stamps.{IsStampIn, IsStampOf, IsStampOn, stamp_of, top_both, top_items, top_newest, top_once, top_ops, top_same}
 
@@ -86,17 +86,17 @@ module _ (m : State) (family : Family) (f : ModelFamily) (g : FamilyState) (show
       let w = version_of_item family item in
       (w, In-right w (between family f.through.0 m.last.0 m.versions) (contents f.tables) (contents-from f.tables u w live (In-map (version_of_item family) item t.table.contents.items k)), refl, record { key = refl; ts = refl })
 
-  pub version_from : (item : Item) → In item (items_in g) → (w : Version) × In w (lists m family f) × (w.family ≡ family) × IsItemOf w item
+  pub version_from : (item : Item) → In item (items_of_family g) → (w : Version) × In w (lists m family f) × (w.family ≡ family) × IsItemOf w item
   version_from item i = elim (In-append item (items_of_memtable g.active) (flat_map items_of_memtable g.sealed ++ flat_map items_of_level g.levels) i) [
     | inl a ↦
-        let r = map-In item_of item (versions_of g.active) a in
-        let w = of_memory r.0 (In-left r.0 (versions_of g.active) (flat_map versions_of g.sealed) r.1) in
+        let r = map-In item_of item (versions_of_memtable g.active) a in
+        let w = of_memory r.0 (In-left r.0 (versions_of_memtable g.active) (flat_map versions_of_memtable g.sealed) r.1) in
         (w.0, w.1, w.2, subst (IsItemOf w.0) r.2 w.3)
     | inr b ↦ elim (In-append item (flat_map items_of_memtable g.sealed) (flat_map items_of_level g.levels) b) [
       | inl s ↦
           let x = flat-In items_of_memtable item g.sealed s in
-          let r = map-In item_of item (versions_of x.0) x.2 in
-          let w = of_memory r.0 (In-right r.0 (versions_of g.active) (flat_map versions_of g.sealed) (In-flat versions_of x.0 r.0 g.sealed x.1 r.1)) in
+          let r = map-In item_of item (versions_of_memtable x.0) x.2 in
+          let w = of_memory r.0 (In-right r.0 (versions_of_memtable g.active) (flat_map versions_of_memtable g.sealed) (In-flat versions_of_memtable x.0 r.0 g.sealed x.1 r.1)) in
           (w.0, w.1, w.2, subst (IsItemOf w.0) r.2 w.3)
       | inr t ↦
           let x = flat-In items_of_level item g.levels t in
@@ -105,13 +105,13 @@ module _ (m : State) (family : Family) (f : ModelFamily) (g : FamilyState) (show
     ]
   ]
 
-  pub item_from : (v : Version) → In v (lists m family f) → (item : Item) × In item (items_in g) × IsItemOf v item
+  pub item_from : (v : Version) → In v (lists m family f) → (item : Item) × In item (items_of_family g) × IsItemOf v item
   item_from v i = elim (In-append v (between family f.through.0 m.last.0 m.versions) (contents f.tables) i) [
-    | inl a ↦ elim (In-append v (versions_of g.active) (flat_map versions_of g.sealed) (held v a)) [
-      | inl b ↦ (item_of v, In-left (item_of v) (items_of_memtable g.active) (flat_map items_of_memtable g.sealed ++ flat_map items_of_level g.levels) (In-map item_of v (versions_of g.active) b), record { key = refl; ts = refl })
+    | inl a ↦ elim (In-append v (versions_of_memtable g.active) (flat_map versions_of_memtable g.sealed) (held v a)) [
+      | inl b ↦ (item_of v, In-left (item_of v) (items_of_memtable g.active) (flat_map items_of_memtable g.sealed ++ flat_map items_of_level g.levels) (In-map item_of v (versions_of_memtable g.active) b), record { key = refl; ts = refl })
       | inr s ↦
-          let x = flat-In versions_of v g.sealed s in
-          let j = In-flat items_of_memtable x.0 (item_of v) g.sealed x.1 (In-map item_of v (versions_of x.0) x.2) in
+          let x = flat-In versions_of_memtable v g.sealed s in
+          let j = In-flat items_of_memtable x.0 (item_of v) g.sealed x.1 (In-map item_of v (versions_of_memtable x.0) x.2) in
           (item_of v, In-right (item_of v) (items_of_memtable g.active) (flat_map items_of_memtable g.sealed ++ flat_map items_of_level g.levels) (In-left (item_of v) (flat_map items_of_memtable g.sealed) (flat_map items_of_level g.levels) j), record { key = refl; ts = refl })
     ]
     | inr b ↦
@@ -137,10 +137,10 @@ of-logged n [] o i = absurd i
 of-logged n (x ∷ ops) o (inl q) = (version_of x n, inl refl, ap (λ (z : WriteOp). z.family) (sym q), ap (λ (z : WriteOp). z.key) (sym q), ap (λ (z : WriteOp). z.ts) (sym q))
 of-logged n (x ∷ ops) o (inr i) = let r = of-logged (n + 1) ops o i in (r.0, inr r.1, r.2, r.3, r.4)
 
-pub on_from : (family : Family) (key : List ℕ) (o : WriteOp) → o.family ≡ family → o.key ≡ key → is_on family key o ≡ true
+pub on_from : (family : Family) (key : List ℕ) (o : WriteOp) → o.family ≡ family → o.key ≡ key → is_on_key family key o ≡ true
 on_from family key o f k = is_of-from family key (version_of o 0) f k
 
-pub on_true : (family : Family) (key : List ℕ) (o : WriteOp) → is_on family key o ≡ true → (o.family ≡ family) × (o.key ≡ key)
+pub on_true : (family : Family) (key : List ℕ) (o : WriteOp) → is_on_key family key o ≡ true → (o.family ≡ family) × (o.key ≡ key)
 on_true family key o h = is_of-true family key (version_of o 0) h
 
 -- The lists of a state behind operations that were admitted: the newest of a key is the newest of the lists that show it, and of the
@@ -151,7 +151,7 @@ module _ (m : State) (family : Family) (f : ModelFamily) (g : FamilyState) (show
   abbrev after_ops : List Version
   after_ops = between family f.through.0 count (m.versions ++ made m.last.0 before) ++ contents f.tables
 
-  to_lists : (n : ℕ) → IsStampOf (items_in g) key n ⊎ IsStampOn before family key n → IsStampIn after_ops family key n
+  to_lists : (n : ℕ) → IsStampOf (items_of_family g) key n ⊎ IsStampOn before family key n → IsStampIn after_ops family key n
   to_lists n (inl s) =
       let w = version_from m family f g shows s.0 s.1 in
       let same : w.0.key ≡ key = w.3.key ∙ (bytes_eq-Decides s.0.sort_key.key key).0 s.2 in
@@ -171,10 +171,10 @@ module _ (m : State) (family : Family) (f : ModelFamily) (g : FamilyState) (show
       let in_lists = In-between family f.through.0 count (m.versions ++ made m.last.0 before) w.0 j (sym w.2 ∙ own.0) (omega (arith, l, low)) (written w.0 j) in
       (w.0, In-left w.0 (between family f.through.0 count (m.versions ++ made m.last.0 before)) (contents f.tables) in_lists, is_of-from family key w.0 (sym w.2 ∙ own.0) (sym w.3 ∙ own.1), sym (ap (λ z. z.0) w.4) ∙ s.3)
 
-  from_lists : (n : ℕ) → IsStampIn after_ops family key n → IsStampOf (items_in g) key n ⊎ IsStampOn before family key n
+  from_lists : (n : ℕ) → IsStampIn after_ops family key n → IsStampOf (items_of_family g) key n ⊎ IsStampOn before family key n
   from_lists n s =
       let own = is_of-true family key s.0 s.2 in
-      let shown : In s.0 (between family f.through.0 m.last.0 m.versions ++ contents f.tables) → IsStampOf (items_in g) key n = λ i.
+      let shown : In s.0 (between family f.through.0 m.last.0 m.versions ++ contents f.tables) → IsStampOf (items_of_family g) key n = λ i.
       let r = item_from m family f g shows s.0 i in
       (r.0, r.1, (bytes_eq-Decides r.0.sort_key.key key).1 (sym r.2.key ∙ own.1), sym r.2.ts ∙ s.3) in
       elim (In-append s.0 (between family f.through.0 count (m.versions ++ made m.last.0 before)) (contents f.tables) s.1) [
@@ -189,9 +189,9 @@ module _ (m : State) (family : Family) (f : ModelFamily) (g : FamilyState) (show
         | inr b ↦ inl (shown (In-right s.0 (between family f.through.0 m.last.0 m.versions) (contents f.tables) b))
       ]
 
-  pub newest_shown : stamp_of (newest_of (of_key after_ops family key)) ≡ greater (items.newest_ts (items_in g) key) (latest_at family key before)
+  pub newest_shown : stamp_of (newest_of (of_key after_ops family key)) ≡ greater (items.newest_ts (items_of_family g) key) (latest_at family key before)
   newest_shown =
-      top_once (IsStampIn after_ops family key) (stamp_of (newest_of (of_key after_ops family key))) (greater (items.newest_ts (items_in g) key) (latest_at family key before))
+      top_once (IsStampIn after_ops family key) (stamp_of (newest_of (of_key after_ops family key))) (greater (items.newest_ts (items_of_family g) key) (latest_at family key before))
       (top_newest after_ops family key)
-      (top_same (λ n. IsStampOf (items_in g) key n ⊎ IsStampOn before family key n) (IsStampIn after_ops family key) (greater (items.newest_ts (items_in g) key) (latest_at family key before)) to_lists from_lists
-      (top_both (IsStampOf (items_in g) key) (IsStampOn before family key) (items.newest_ts (items_in g) key) (latest_at family key before) (top_items (items_in g) key) (top_ops before family key)))
+      (top_same (λ n. IsStampOf (items_of_family g) key n ⊎ IsStampOn before family key n) (IsStampIn after_ops family key) (greater (items.newest_ts (items_of_family g) key) (latest_at family key before)) to_lists from_lists
+      (top_both (IsStampOf (items_of_family g) key) (IsStampOn before family key) (items.newest_ts (items_of_family g) key) (latest_at family key before) (top_items (items_of_family g) key) (top_ops before family key)))

@@ -13,7 +13,7 @@ use Rattle.udt_model.specs.Versions.{is_newer, is_of, newest_of, of_key}
 use Rattle.super_version.proofs.Greatest.{newest_ts-append}
 use Rattle.floor_laws.proofs.Members.{In}
 use Rattle.floor_laws.proofs.Best.{Best, best_filter}
-use Rattle.store_engine.specs.Admission.{is_on, latest_at, stamp_at}
+use Rattle.store_engine.specs.Admission.{is_on_key, latest_at, stamp_at}
 
 -- ---- the greatest number with a property, where there is one
 
@@ -67,10 +67,10 @@ top_newest vs family key = best_top vs family key (newest_of (of_key vs family k
 -- ---- versions without their family
 
 abbrev pub IsStampOf : List Item → List ℕ → ℕ → Type 0
-IsStampOf vs key n = (v : Item) × In v vs × (items.is_of key v ≡ true) × (v.sort_key.ts ≡ n)
+IsStampOf vs key n = (v : Item) × In v vs × (items.is_item_of key v ≡ true) × (v.sort_key.ts ≡ n)
 
 top_one : (v : Item) (key : List ℕ) → Top (IsStampOf (v ∷ []) key) (items.newest_ts (v ∷ []) key)
-top_one v key = elim (cases_Bool (items.is_of key v)) [
+top_one v key = elim (cases_Bool (items.is_item_of key v)) [
   | inl y ↦ rw y (
     (v, inl refl, y, refl),
     λ k s. elim s.1 [
@@ -79,7 +79,7 @@ top_one v key = elim (cases_Bool (items.is_of key v)) [
     ],
   )
   | inr y ↦ rw y (λ n s. elim s.1 [
-    | inl q ↦ false≢true (sym y ∙ ap (items.is_of key) q ∙ s.2)
+    | inl q ↦ false≢true (sym y ∙ ap (items.is_item_of key) q ∙ s.2)
     | inr b ↦ b
   ])
 ]
@@ -99,10 +99,10 @@ top_items (v ∷ vs) key =
 -- ---- operations
 
 abbrev pub IsStampOn : List WriteOp → Family → List ℕ → ℕ → Type 0
-IsStampOn ops family key n = (o : WriteOp) × In o ops × (is_on family key o ≡ true) × (o.ts.0 ≡ n)
+IsStampOn ops family key n = (o : WriteOp) × In o ops × (is_on_key family key o ≡ true) × (o.ts.0 ≡ n)
 
 top_op : (o : WriteOp) (family : Family) (key : List ℕ) → Top (IsStampOn (o ∷ []) family key) (stamp_at family key o)
-top_op o family key = elim (cases_Bool (is_on family key o)) [
+top_op o family key = elim (cases_Bool (is_on_key family key o)) [
   | inl y ↦ rw y (
     (o, inl refl, y, refl),
     λ k s. elim s.1 [
@@ -111,7 +111,7 @@ top_op o family key = elim (cases_Bool (is_on family key o)) [
     ],
   )
   | inr y ↦ rw y (λ n s. elim s.1 [
-    | inl q ↦ false≢true (sym y ∙ ap (is_on family key) q ∙ s.2)
+    | inl q ↦ false≢true (sym y ∙ ap (is_on_key family key) q ∙ s.2)
     | inr b ↦ b
   ])
 ]

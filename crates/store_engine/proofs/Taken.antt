@@ -5,7 +5,7 @@ use Rattle.std.proofs.lemmas.List.{append-nil, length-map}
 use Rattle.std.proofs.lemmas.List.Elements.{All-head, All-tail}
 use Rattle.ts_key.specs.declared.numbers.Seq.{Seq}
 use Rattle.udt_disk.specs.Crash.{Image}
-use Rattle.udt_disk.specs.Moments.{IsClean, MayLeave, holding}
+use Rattle.udt_disk.specs.Moments.{MayLeave, holding}
 use Rattle.udt_disk.specs.declared.file.DiskFile as file
 use Rattle.udt_disk.specs.declared.disk.Disk as disk
 use Rattle.udt_disk.specs.declared.name.FileName.{FileName}
@@ -23,14 +23,15 @@ use Rattle.manifest_edit.specs.declared.edit.TableAt.{TableAt}
 use Rattle.manifest_fold.specs.declared.fold.Folded.{Folded}
 use Rattle.manifest_fold.specs.Folds.{newest_log}
 use Rattle.manifest.specs.Files.{HasFold}
-use Rattle.manifest.specs.Folders.{chosen_by}
+use Rattle.manifest.specs.Folders.{IsManifestName, chosen, chosen_by}
 use Rattle.manifest.specs.Folds.{sizes_of}
 use Rattle.manifest.specs.Manifest.{FoldRests, manifest_file, manifest_folded}
 use Rattle.engine_laws.specs.JointLaws.{RestIn}
 use Rattle.engine_laws.specs.Logs.{batches_of, last_of}
 use Rattle.engine_laws.specs.Manifests.{IsWell}
+use Rattle.engine_laws.specs.Moves.{IsLiveName}
 use Rattle.engine_laws.specs.Standing.{FolderStands, Says, TableReads, TableSays, family_said, families_said, table_of}
-use Rattle.engine_laws.specs.Engine.{Holds, newest_of}
+use Rattle.engine_laws.specs.Engine.{HoldsState, newest_log_of}
 use Rattle.engine_laws.proofs.Ascending.{newest_of as newest_in, rising_sorted}
 use Rattle.engine_laws.proofs.Batches.{all_right, batches_append, last_append, last_over_is}
 use Rattle.engine_laws.proofs.Editing.{newest_live}
@@ -38,6 +39,7 @@ use Rattle.engine_laws.proofs.Opened.{manifest_well, reads_logged}
 use Rattle.engine_laws.proofs.Places.{In-get}
 use Rattle.floor_laws.proofs.Members.{All-from, In, In-append, In-contains, map-In}
 use Rattle.recovery.specs.Laws.{account_of}
+use Rattle.recovery.specs.Opening.{AreLiveClean}
 use Rattle.recovery.specs.Tables.{ReadsAsTable}
 use Rattle.recovery.specs.declared.opening.Parts.{Parts}
 use Rattle.recovery.proofs.Accounts.{opened_reads, opened_states}
@@ -47,6 +49,7 @@ use Rattle.store_engine.specs.Engines.{HoldsNow, IsEngineOf, IsOneFolder}
 use Rattle.store_engine.specs.Parts.{ArePartsOf}
 use Rattle.store_engine.specs.Together.{AreNamed, AreTogether}
 use Rattle.store_engine.specs.declared.engine.Engine.{Engine}
+use Rattle.store_engine.proofs.Covering.{covers_opened}
 use Rattle.store_engine.proofs.NowOpened.{now_opened}
 use Rattle.store_engine.proofs.Together.{named_on}
 
@@ -103,6 +106,15 @@ said_low tables fold well k held = numbers_low fold.next_file (families_said tab
     let t = numbers_said tables k of.0.tables same in
     subst (λ j. j < fold.next_file) t.2 (well.tables (record { 0 = at.0 }) of.0 t.0 (record { family = at.1; table = In-contains of.0.tables t.0 t.1 }))) k held
 
+-- ---- names
+
+-- a manifest's name is live under itself
+own_live : (n : FileName) (fold : Folded) → IsManifestName n → IsLiveName n fold n
+own_live n fold either = elim either [
+  | inl is ↦ subst (λ k. IsLiveName k fold k) (sym is) refl
+  | inr is ↦ subst (λ k. IsLiveName k fold k) (sym is) refl
+]
+
 module _ {D F : Type 0} (d : disk.Ghosts D F) (f : file.Ghosts F) (old : D) (parts : Parts D F f) (are : ArePartsOf d f old parts) where
   abbrev fold : Folded
   fold = manifest_folded parts.manifest
@@ -133,6 +145,17 @@ module _ {D F : Type 0} (d : disk.Ghosts D F) (f : file.Ghosts F) (old : D) (par
     most = let e = is in let l = well.next in omega (arith, e, l);
   }
 
+  -- all batches of the live logs may stand there, and the last sequence of the version is theirs
+  parts_logged : (told : IsTrue (d.is_told old)) → All (IsLoggedBatch (length fold.families)) (batches_of (are.opened told).shown.logs fold.logs)
+  parts_logged told =
+      let o = are.opened told in
+      reads_logged ReadsAsTable (d.stands old) (account_of fold o.shown) (opened_reads (d.stands old) fold parts.version o.means o.shown)
+
+  parts_last : (told : IsTrue (d.is_told old)) → parts.version.last.0 ≡ last_of fold.last.0 (batches_of (are.opened told).shown.logs fold.logs)
+  parts_last told =
+      let o = are.opened told in
+      ap (λ (q : Seq). q.0) o.shown.shows.sequence ∙ last_over_is fold.last.0 (batches_of o.shown.logs fold.logs) o.shown.behind
+
   pub parts_go_on : MayGoOn f parts.wal (parts.version.last.0 + 1)
   parts_go_on told =
       let o = are.opened (subst IsTrue are.wal_told told) in
@@ -142,10 +165,9 @@ module _ {D F : Type 0} (d : disk.Ghosts D F) (f : file.Ghosts F) (old : D) (par
       let older = batches_of logs top.older in
       let live = batches_of logs fold.logs in
       let is : live ≡ older ++ o.wal.batches = ap (batches_of logs) top.is ∙ batches_append logs top.older (n ∷ []) ∙ ap (λ z. older ++ z) (append-nil (logs n) ∙ sym (newest_same (subst IsTrue are.wal_told told))) in
-      let s = account_of fold o.shown in
-      let all : All (IsLoggedBatch (length fold.families)) live = reads_logged ReadsAsTable (d.stands old) s (opened_reads (d.stands old) fold parts.version o.means o.shown) in
+      let all = parts_logged (subst IsTrue are.wal_told told) in
       let logged = all_right (length fold.families) older o.wal.batches (subst (λ z. All (IsLoggedBatch (length fold.families)) z) is all) in
-      let last : parts.version.last.0 ≡ last_of fold.last.0 (older ++ o.wal.batches) = ap (λ (q : Seq). q.0) o.shown.shows.sequence ∙ last_over_is fold.last.0 live o.shown.behind ∙ ap (last_of fold.last.0) is in
+      let last : parts.version.last.0 ≡ last_of fold.last.0 (older ++ o.wal.batches) = parts_last (subst IsTrue are.wal_told told) ∙ ap (last_of fold.last.0) is in
       let next = next_behind (length fold.families) fold.last.0 older o.wal.batches logged in
       (o.wal.batches, [], o.wal.replayed.shown, subst (λ bs. IsNextSequence (next_sequence bs) (parts.version.last.0 + 1)) (sym (append-nil o.wal.batches)) (subst (λ k. IsNextSequence (next_sequence o.wal.batches) (k + 1)) (sym last) next))
 
@@ -161,17 +183,21 @@ module _ {D F : Type 0} (d : disk.Ghosts D F) (f : file.Ghosts F) (old : D) (par
         manifest_model = ap (λ m. f.keeps_model (manifest_file m)) manifest ∙ are.manifest_model ∙ sym model;
       }
 
-  -- ---- what it holds, where the disk tells and a crash left nothing else
+  -- ---- what it holds, where the disk tells and a crash left nothing else under live names
 
-  module _ (told : IsTrue (d.is_told old)) (clean : IsClean d old) where
+  module _ (told : IsTrue (d.is_told old)) (clean : AreLiveClean d old fold) where
     abbrev says : Says
     says = account_of fold (are.opened told).shown
 
     abbrev files : List F
     files = wal_file parts.wal ∷ manifest_file parts.manifest ∷ []
 
-    stands_there : (n : FileName) (c : Image) → MayLeave d f (holding parts.disk files) n c → c ≡ d.stands old n
-    stands_there n c left = clean n c ((are.reads.no_more n c (λ none. none) left).free (λ x none. absurd none))
+    stands_there : (n : FileName) (c : Image) → IsLiveName (chosen (d.stands old)) fold n → MayLeave d f (holding parts.disk files) n c → c ≡ d.stands old n
+    stands_there n c live left = clean n c live ((are.reads.no_more n c (λ none. none) left).free (λ x none. absurd none))
+
+    -- the name of the manifest is live
+    manifest_live : IsLiveName (chosen (d.stands old)) fold (f.name (manifest_file parts.manifest))
+    manifest_live = subst (λ k. IsLiveName k fold (f.name (manifest_file parts.manifest))) (are.opened told).manifest_name (own_live (f.name (manifest_file parts.manifest)) fold are.manifest_name)
 
     parts_rest : RestIn d f ReadsAsTable (holding parts.disk files) (f.name (manifest_file parts.manifest)) says
     parts_rest =
@@ -179,23 +205,23 @@ module _ {D F : Type 0} (d : disk.Ghosts D F) (f : file.Ghosts F) (old : D) (par
         let r = opened_reads (d.stands old) fold parts.version o.means o.shown in
         record {
           chosen = record {
-            made = λ c left none. o.means.0 (sym (stands_there Made c left) ∙ none);
-            chooses = λ c left. ap chosen_by (stands_there Current c left) ∙ sym o.manifest_name;
+            made = λ c left none. o.means.0 (sym (stands_there Made c tt left) ∙ none);
+            chooses = λ c left. ap chosen_by (stands_there Current c tt left) ∙ sym o.manifest_name;
           };
-          manifests = λ c left. subst (λ i. HasFold i fold) (sym (stands_there (f.name (manifest_file parts.manifest)) c left)) (subst (λ n. HasFold (d.stands old n) fold) (sym o.manifest_name) o.means.1);
-          logs = λ n i c left. subst (λ z. ReadsAs (sizes_of fold) (says.logs n) z) (sym (stands_there (Log n) c left)) (r.logs n i);
-          tables = λ i g t live c left. subst (λ z. TableReads ReadsAsTable z (says.tables t.number)) (sym (stands_there (Table t.number) c left)) (r.tables i g t live);
+          manifests = λ c left. subst (λ i. HasFold i fold) (sym (stands_there (f.name (manifest_file parts.manifest)) c manifest_live left)) (subst (λ n. HasFold (d.stands old n) fold) (sym o.manifest_name) o.means.1);
+          logs = λ n i c left. subst (λ z. ReadsAs (sizes_of fold) (says.logs n) z) (sym (stands_there (Log n) c i left)) (r.logs n i);
+          tables = λ i g t live c left. subst (λ z. TableReads ReadsAsTable z (says.tables t.number)) (sym (stands_there (Table t.number) c (i, g, t, live, refl) left)) (r.tables i g t live);
         }
 
     parts_log : log.Holds f parts.wal (says.logs (newest_log fold.logs)) []
     parts_log =
         let o = are.opened told in
-        subst (λ bs. log.Holds f parts.wal bs []) (newest_same told) (o.wal.replayed.rests (λ c left. clean (Log (newest_log fold.logs)) c left))
+        subst (λ bs. log.Holds f parts.wal bs []) (newest_same told) (o.wal.replayed.rests (λ c left. clean (Log (newest_log fold.logs)) c (newest_live fold well) left))
 
-    pub parts_now : (engine : Engine D F f) → engine.disk ≡ parts.disk → engine.manifest ≡ parts.manifest → engine.wal ≡ parts.wal → fold.next_file ≤ engine.next → (m : State) → FolderStands ReadsAsTable (d.stands old) m → HoldsNow d f engine parts.version m (course_start m)
-    parts_now engine disk manifest wal more m stands =
+    pub parts_now : (engine : Engine D F f) → engine.disk ≡ parts.disk → engine.manifest ≡ parts.manifest → engine.wal ≡ parts.wal → fold.next_file ≤ engine.next → engine.older.rolled.items ≡ [] → engine.older.opened ≡ parts.version.last → (m : State) → FolderStands ReadsAsTable (d.stands old) m → HoldsNow d f engine parts.version m (course_start m)
+    parts_now engine disk manifest wal more rolled opened m stands =
         let o = are.opened told in
-        let h : Holds m (course_start m) says [] = opened_states (d.stands old) fold parts.version m o.means o.shown stands in
+        let h : HoldsState m (course_start m) says [] = opened_states (d.stands old) fold parts.version m o.means o.shown stands in
         let settled = stands.stands.settled in
         let of_parts : IsEngineOf d f engine says [] = record {
           rests = subst (λ x. RestIn d f ReadsAsTable (holding x (wal_file engine.wal ∷ manifest_file engine.manifest ∷ [])) (f.name (manifest_file engine.manifest)) says) (sym disk)
@@ -203,7 +229,7 @@ module _ {D F : Type 0} (d : disk.Ghosts D F) (f : file.Ghosts F) (old : D) (par
               (subst (λ k. RestIn d f ReadsAsTable (holding parts.disk (wal_file parts.wal ∷ manifest_file k ∷ [])) (f.name (manifest_file k)) says) (sym manifest) parts_rest));
           fold = ap manifest_folded manifest;
           edits = subst (FoldRests f) (sym manifest) (o.manifest_rests clean);
-          log = subst (λ w. log.Holds f w (says.logs (newest_of says)) []) (sym wal) parts_log;
+          log = subst (λ w. log.Holds f w (says.logs (newest_log_of says)) []) (sym wal) parts_log;
           one = parts_one engine disk manifest wal;
         } in
         record {
@@ -211,9 +237,10 @@ module _ {D F : Type 0} (d : disk.Ghosts D F) (f : file.Ghosts F) (old : D) (par
           waiting = [];
           engine_of = of_parts;
           holds = h;
-          shows = now_opened (d.stands old) fold parts.version m (course_start m) o.shown o.shown.tables.places.ascending h;
+          shows = now_opened (d.stands old) fold parts.version m (course_start m) o.shown o.shown.tables.places.ascending (sym (ap (λ (q : State). q.flush) settled)) h;
           used = subst (λ ns. All (λ n. n < engine.next) ns) (ap (λ (q : State). q.used) settled) (subst (λ fs. All (λ n. n < engine.next) (flat_map (λ (g : FamilyState). numbers_of g.tables) fs)) (sym h.families)
               (All-from (λ n. n < engine.next) (flat_map (λ (g : FamilyState). numbers_of g.tables) (families_said says.tables fold)) (λ n held. let l = said_low says.tables fold well n held in omega (arith, l, more))));
+          covers = covers_opened engine.older says parts.version.last.0 rolled (ap (λ (q : Seq). q.0) opened) (parts_last told) o.shown.sequence (parts_logged told);
           runs = sym (ap (λ (q : State). q.halted) settled);
           unfailed = refl;
         }

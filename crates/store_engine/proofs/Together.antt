@@ -1,7 +1,7 @@
 -- The manifest and the log of an engine stay together.
-use Rattle.std.proofs.Common.{◌≡◌, ℕ, ◌≤◌, List, [], ◌∷◌, ◌++◌, length, drop, sym, ap, ◌∙◌, subst}
-use Rattle.std.specs.Prelude.{IsTrue}
-use Rattle.std.proofs.lemmas.List.{append-nil}
+use Rattle.std.proofs.Common.{◌≡◌, ℕ, zero, suc, ◌-◌, ◌≤◌, List, [], ◌∷◌, ◌++◌, length, drop, refl, sym, ap, ◌∙◌, subst, arith}
+use Rattle.std.specs.Prelude.{IsTrue, slice_index}
+use Rattle.std.proofs.lemmas.List.{append-nil, length-drop}
 use Rattle.udt_disk.specs.declared.file.DiskFile as file
 use Rattle.udt_disk.specs.declared.name.FileName.TheVariants.{Log}
 use Rattle.wal.specs.declared.wal.Wal.{Wal}
@@ -20,9 +20,26 @@ use Rattle.engine_laws.proofs.Folding.{edit_well}
 use Rattle.recovery.specs.Replayed.{IsLogName}
 use Rattle.store_engine.specs.Together.{AreNamed, AreTogether}
 
--- an edit that changes no log leaves the newest
-pub newest_stays : (fold : Folded) (edit : Edit) → edit.add_logs ≡ [] → edit.drop_logs ≡ [] → newest_log (fold_with fold edit).logs ≡ newest_log fold.logs
-newest_stays fold edit add gone = ap (λ z. newest_log (drop (length z) fold.logs ++ edit.add_logs)) gone ∙ ap (λ z. newest_log (fold.logs ++ z)) add ∙ ap newest_log (append-nil fold.logs)
+newest_behind : (n : ℕ) (ns : List ℕ) → 1 ≤ length ns → newest_log ns ≡ newest_log (n ∷ ns)
+newest_behind n [] some = absurd (omega (arith, some))
+newest_behind n (k ∷ ns) some =
+    let a : length (k ∷ ns) - 1 ≡ length ns = omega arith in
+    let b : length (n ∷ k ∷ ns) - 1 ≡ suc (length ns) = omega arith in
+    ap (slice_index (k ∷ ns)) a ∙ sym (ap (slice_index (n ∷ k ∷ ns)) b)
+
+pub newest_drop : (n : ℕ) (ns : List ℕ) → 1 ≤ length (drop n ns) → newest_log (drop n ns) ≡ newest_log ns
+newest_drop zero ns some = refl
+newest_drop (suc n) [] some = refl
+newest_drop (suc n) (k ∷ ns) some =
+    let l = length-drop n ns in
+    newest_drop n ns some ∙ newest_behind k ns (omega (arith, l, some))
+
+-- an edit that adds no log leaves the newest
+pub newest_stays : (fold : Folded) (edit : Edit) → edit.add_logs ≡ [] → 1 ≤ length (fold_with fold edit).logs → newest_log (fold_with fold edit).logs ≡ newest_log fold.logs
+newest_stays fold edit add some =
+    let front = drop (length edit.drop_logs) fold.logs in
+    let is : (fold_with fold edit).logs ≡ front = ap (λ z. front ++ z) add ∙ append-nil front in
+    ap newest_log is ∙ newest_drop (length edit.drop_logs) fold.logs (subst (λ z. 1 ≤ length z) is some)
 
 module _ {F : Type 0} (f : file.Ghosts F) where
   pub named_on : (manifest other : Manifest F f) (wal ran : Wal F f) → f.name (manifest_file other) ≡ f.name (manifest_file manifest) → f.name (wal_file ran) ≡ f.name (wal_file wal) → AreNamed manifest wal → AreNamed other ran
@@ -52,14 +69,14 @@ module _ {F : Type 0} (f : file.Ghosts F) where
     most = together.most;
   }
 
-  -- or has an edit more that changes no log
-  pub together_edited : (manifest other : Manifest F f) (wal : Wal F f) (next : ℕ) (edit : Edit) → AreTogether manifest wal next → IsAccepted (manifest_folded manifest) edit → edit.add_logs ≡ [] → edit.drop_logs ≡ [] → edit.next_file ≤ next
+  -- or has an edit more that adds no log
+  pub together_edited : (manifest other : Manifest F f) (wal : Wal F f) (next : ℕ) (edit : Edit) → AreTogether manifest wal next → IsAccepted (manifest_folded manifest) edit → edit.add_logs ≡ [] → edit.next_file ≤ next
       → manifest_folded other ≡ fold_with (manifest_folded manifest) edit → IsManifestReady f other → AreTogether other wal next
-  together_edited manifest other wal next edit together accepted add gone low is ready =
+  together_edited manifest other wal next edit together accepted add low is ready =
       let fold = manifest_folded manifest in
       record {
         well = subst IsWell (sym is) (edit_well fold edit accepted together.well);
-        name = together.name ∙ ap Log (sym (newest_stays fold edit add gone)) ∙ ap (λ z. Log (newest_log z.logs)) (sym is);
+        name = together.name ∙ ap Log (sym (newest_stays fold edit add accepted.logs.one)) ∙ ap (λ z. Log (newest_log z.logs)) (sym is);
         sizes = together.sizes ∙ sym (sizes_stay fold edit accepted) ∙ ap sizes_of (sym is);
         edits = ready;
         log = together.log;

@@ -10,7 +10,7 @@ use Rattle.udt_disk.specs.declared.disk.Disk as disk
 use Rattle.wal.specs.declared.numbered.Numbered.{Numbered}
 use Rattle.wal.specs.declared.wal.TheConstants.{PENDING_LIMIT}
 use Rattle.wal.specs.Sequences.{sequence_after}
-use Rattle.wal.specs.Wals.{MayGoOn, waiting_with, wal_pending}
+use Rattle.wal.specs.Wals.{MayGoOn, waiting_with, wal_pending, wal_waiting}
 use Rattle.udt_model.specs.declared.reply.Reply.TheVariants.{OkAt}
 use Rattle.udt_model.specs.State.{State}
 use Rattle.udt_model.specs.Acts.Act.{write}
@@ -24,7 +24,7 @@ use Rattle.engine_laws.specs.Laws.{after_write, course_after_write}
 use Rattle.engine_laws.specs.Engine.{next_batch}
 use Rattle.recovery.specs.Versions.{FitsFold}
 use Rattle.store_engine.specs.Calls.{RanUnder, is_disk_failure}
-use Rattle.store_engine.specs.Engines.{HoldsNow, IsCurrent, IsRunning, faults_of, has_failed, held}
+use Rattle.store_engine.specs.Engines.{HoldsNow, IsCurrent, IsRunning, engine_faults, has_failed, held}
 use Rattle.store_engine.specs.Now.{IsNow}
 use Rattle.store_engine.specs.Steps.{IsAdded, IsLogSynced, IsSameFolder}
 use Rattle.store_engine.specs.Together.{AreTogether}
@@ -110,16 +110,23 @@ module _ {D F : Type 0} (d : disk.Ghosts D F) (f : file.Ghosts F) (now_last : Is
         let w = waits not pending in
         ap (λ e. held e) w.1 ∙ appended_held d f now_last old mid b (Ok tt) added
 
+    pub end_bytes : sync ≡ false → length (waiting_with old.wal b) < PENDING_LIMIT → wal_waiting new.wal ≡ waiting_with old.wal b
+    end_bytes not low =
+        let bytes = added.bytes in
+        let pending : wal_pending mid.wal < PENDING_LIMIT = let e = ap length bytes in omega (arith, e, low) in
+        let w = waits not pending in
+        ap (λ (e : Engine D F f). wal_waiting e.wal) w.1 ∙ added.bytes
+
     pub end_synced : (sync ≡ true) ⊎ (PENDING_LIMIT ≤ length (waiting_with old.wal b)) → OnOk result (wal_pending new.wal ≡ 0)
     end_synced is =
         let bytes = added.bytes in
         let e : wal_pending mid.wal ≡ length (waiting_with old.wal b) = ap length bytes in
         (due (elim is [ inl asked ↦ inl asked | inr high ↦ inr (omega (arith, e, high)) ])).pending
 
-    pub end_cause : HasCause (faults_of d f old) (faults_of d f new) result
+    pub end_cause : HasCause (engine_faults d f old) (engine_faults d f new) result
     end_cause = elim either [
-      | inl synced ↦ subst (λ n. HasCause n (faults_of d f new) result) (added_faults d f now_last old mid b (Ok tt) added) (synced_cause d f now_last mid new result synced)
-      | inr waited ↦ none_of result waited.2 (ap (λ e. faults_of d f e) waited.3 ∙ added_faults d f now_last old mid b (Ok tt) added)
+      | inl synced ↦ subst (λ n. HasCause n (engine_faults d f new) result) (added_faults d f now_last old mid b (Ok tt) added) (synced_cause d f now_last mid new result synced)
+      | inr waited ↦ none_of result waited.2 (ap (λ e. engine_faults d f e) waited.3 ∙ added_faults d f now_last old mid b (Ok tt) added)
     ]
 
     pub end_folder : IsSameFolder f old new
@@ -132,6 +139,12 @@ module _ {D F : Type 0} (d : disk.Ghosts D F) (f : file.Ghosts F) (now_last : Is
     end_next = elim either [
       | inl synced ↦ synced.next ∙ added.next
       | inr waited ↦ ap (λ (e : Engine D F f). e.next) waited.3 ∙ added.next
+    ]
+
+    pub end_older : new.older ≡ old.older
+    end_older = elim either [
+      | inl synced ↦ synced.older ∙ added.older
+      | inr waited ↦ ap (λ (e : Engine D F f). e.older) waited.3 ∙ added.older
     ]
 
     pub end_manifest : new.manifest ≡ old.manifest

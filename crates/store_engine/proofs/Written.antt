@@ -27,18 +27,20 @@ use Rattle.engine_laws.specs.Joints.{IsNowLast}
 use Rattle.engine_laws.specs.JointLaws.{RestIn}
 use Rattle.engine_laws.specs.Laws.{after_write, course_after_write}
 use Rattle.engine_laws.specs.Standing.{Says, StandsForSome}
-use Rattle.engine_laws.specs.Engine.{Holds, newest_of, next_batch, with_batches}
+use Rattle.engine_laws.specs.Engine.{HoldsState, newest_log_of, next_batch, with_batches}
 use Rattle.engine_laws.proofs.Joined.{newest_rests, now_leaves, ran_write}
 use Rattle.engine_laws.proofs.Syncing.{sync_unasked, write_synced, write_waits}
 use Rattle.floor_laws.proofs.Members.{All-In, In-right}
 use Rattle.recovery.specs.Tables.{ReadsAsTable}
 use Rattle.recovery.specs.Versions.{FitsFold}
-use Rattle.store_engine.specs.Engines.{HoldsAsBefore, HoldsNow, IsEngineOf, faults_of, held}
+use Rattle.store_engine.specs.Engines.{HoldsAsBefore, HoldsNow, IsEngineOf, engine_faults, held}
 use Rattle.store_engine.specs.Now.{IsNow}
 use Rattle.store_engine.specs.Steps.{IsAdded, IsLogSynced, IsSameFolder}
 use Rattle.store_engine.specs.Together.{AreTogether}
 use Rattle.store_engine.specs.declared.engine.Engine.{Engine}
 use Rattle.store_engine.specs.declared.fault.EngineFault.{EngineFault}
+use Rattle.store_engine.specs.Older.{CoversOlder}
+use Rattle.store_engine.proofs.Covering.{covers_synced}
 use Rattle.store_engine.proofs.Answering.{on_ok}
 use Rattle.store_engine.proofs.Files.{first_ran, same_joint}
 use Rattle.store_engine.proofs.Together.{named_on}
@@ -49,7 +51,7 @@ module _ {D F : Type 0} (d : disk.Ghosts D F) (f : file.Ghosts F) (now_last : Is
     pub appended_held : held mid ≡ held old
     appended_held = same_joint mid.disk old.disk (wal_file mid.wal) (wal_file old.wal) (manifest_file mid.manifest) (manifest_file old.manifest) added.disk added.file (ap (λ m. manifest_file m) added.manifest)
 
-    pub added_of : (s : Says) (waiting more : List Numbered) → IsEngineOf d f old s waiting → log.Holds f mid.wal (s.logs (newest_of s)) more → IsEngineOf d f mid s more
+    pub added_of : (s : Says) (waiting more : List Numbered) → IsEngineOf d f old s waiting → log.Holds f mid.wal (s.logs (newest_log_of s)) more → IsEngineOf d f mid s more
     added_of s waiting more of holds =
         let told : d.is_told mid.disk ≡ d.is_told old.disk = ap d.is_told added.disk in
         let model : d.keeps_model mid.disk ≡ d.keeps_model old.disk = ap d.keeps_model added.disk in
@@ -67,7 +69,7 @@ module _ {D F : Type 0} (d : disk.Ghosts D F) (f : file.Ghosts F) (now_last : Is
           };
         }
 
-    pub added_faults : faults_of d f mid ≡ faults_of d f old
+    pub added_faults : engine_faults d f mid ≡ engine_faults d f old
     added_faults = ap (λ k. plus_faults (plus_faults (d.faults k) (f.faults (wal_file mid.wal))) (f.faults (manifest_file mid.manifest))) added.disk
         ∙ ap (λ w. plus_faults (plus_faults (d.faults old.disk) (f.faults w)) (f.faults (manifest_file mid.manifest))) added.file
         ∙ ap (λ m. plus_faults (plus_faults (d.faults old.disk) (f.faults (wal_file old.wal))) (f.faults (manifest_file m))) added.manifest
@@ -92,10 +94,11 @@ module _ {D F : Type 0} (d : disk.Ghosts D F) (f : file.Ghosts F) (now_last : Is
         holds = λ now m c h. record {
           says = h.says;
           waiting = h.waiting;
-          engine_of = added_of h.says h.waiting h.waiting h.engine_of (holds (h.says.logs (newest_of h.says)) h.waiting h.engine_of.log);
+          engine_of = added_of h.says h.waiting h.waiting h.engine_of (holds (h.says.logs (newest_log_of h.says)) h.waiting h.engine_of.log);
           holds = h.holds;
           shows = h.shows;
           used = subst (λ k. All (λ n. n < k) m.used) (sym added.next) h.used;
+          covers = subst (λ o. CoversOlder o h.says) (sym added.older) h.covers;
           runs = h.runs;
           unfailed = h.unfailed;
         };
@@ -105,13 +108,13 @@ module _ {D F : Type 0} (d : disk.Ghosts D F) (f : file.Ghosts F) (now_last : Is
 
   module _ (old mid : Engine D F f) (b : Numbered) (added : IsAdded f b old mid (Ok tt)) where
     pub appended_of : (s : Says) (waiting : List Numbered) → IsEngineOf d f old s waiting → IsEngineOf d f mid s (waiting ++ b ∷ [])
-    appended_of s waiting of = added_of old mid b (Ok tt) added s waiting (waiting ++ b ∷ []) of (added.holds (s.logs (newest_of s)) waiting of.log)
+    appended_of s waiting of = added_of old mid b (Ok tt) added s waiting (waiting ++ b ∷ []) of (added.holds (s.logs (newest_log_of s)) waiting of.log)
 
     -- it may stand in the log
     pub appended_fits : (s : Says) (waiting : List Numbered) → IsEngineOf d f old s waiting → AreTogether old.manifest old.wal old.next → IsLoggedBatch (length s.fold.families) b
     appended_fits s waiting of together =
         let k : length (wal_sizes mid.wal) ≡ length s.fold.families = ap length (added.sizes ∙ sizes_are d f now_last old s waiting of together) ∙ simp length-map in
-        subst (λ n. IsLoggedBatch n b) k (All-In (IsLoggedBatch (length (wal_sizes mid.wal))) (waiting ++ b ∷ []) b (added.holds (s.logs (newest_of s)) waiting of.log).shown.allowed (In-right b waiting (b ∷ []) (inl refl)))
+        subst (λ n. IsLoggedBatch n b) k (All-In (IsLoggedBatch (length (wal_sizes mid.wal))) (waiting ++ b ∷ []) b (added.holds (s.logs (newest_log_of s)) waiting of.log).shown.allowed (In-right b waiting (b ∷ []) (inl refl)))
 
   -- the batch that follows the last sequence of the version is the model's next one
   pub next_is : (now : SuperVersion) (m : State) (ops : List WriteOp) → IsNow now m → (let b : Numbered = record { first = record { 0 = now.last.0 + 1 }; batch = ops } in b) ≡ next_batch m ops
@@ -139,6 +142,7 @@ module _ {D F : Type 0} (d : disk.Ghosts D F) (f : file.Ghosts F) (now_last : Is
       holds = write_waits m c h.says h.waiting number ops (m.last.0 + length ops) h.holds told fits refl;
       shows = shows;
       used = used_mid;
+      covers = subst (λ o. CoversOlder o h.says) (sym added.older) h.covers;
       runs = h.runs;
       unfailed = h.unfailed;
     }
@@ -150,9 +154,9 @@ module _ {D F : Type 0} (d : disk.Ghosts D F) (f : file.Ghosts F) (now_last : Is
           (rests (λ folder image. let left = now_leaves d f now_last ReadsAsTable (f.name (manifest_file old.manifest)) m c h.says h.waiting (held old) h.holds h.engine_of.rests folder image in (left.0, left.1, inl left.2)))
 
       module _ (new : Engine D F f) (result : Result (Unit {0}) EngineFault) (synced : IsLogSynced f mid new result) where
-        leaves : Leaves f (wal_file mid.wal) (wal_file new.wal) (IsBeforeOrAfter (sizes_of h.says.fold) (h.says.logs (newest_of h.says)) more)
-        leaves = subst (λ sizes. Leaves f (wal_file mid.wal) (wal_file new.wal) (IsBeforeOrAfter sizes (h.says.logs (newest_of h.says)) more))
-            (sizes_are d f now_last mid h.says more of_mid together_mid) (synced.moments (h.says.logs (newest_of h.says)) more of_mid.log)
+        leaves : Leaves f (wal_file mid.wal) (wal_file new.wal) (IsBeforeOrAfter (sizes_of h.says.fold) (h.says.logs (newest_log_of h.says)) more)
+        leaves = subst (λ sizes. Leaves f (wal_file mid.wal) (wal_file new.wal) (IsBeforeOrAfter sizes (h.says.logs (newest_log_of h.says)) more))
+            (sizes_are d f now_last mid h.says more of_mid together_mid) (synced.moments (h.says.logs (newest_log_of h.says)) more of_mid.log)
 
         -- while it was synced a crash left an outcome under the write
         pub sync_ran : Ran d f (λ folder. StandsForSome ReadsAsTable folder (IsOutcomeUnder m c number (write ops sync))) (held old) (held new)
@@ -163,13 +167,13 @@ module _ {D F : Type 0} (d : disk.Ghosts D F) (f : file.Ghosts F) (now_last : Is
             let k = manifest_file mid.manifest in
             let P : Folder → Type 0 = λ folder. StandsForSome ReadsAsTable folder (IsOutcomeUnder m c number (write ops sync)) in
             let newest = newest_rests d f now_last ReadsAsTable name h.says (held mid) h.holds.well of_mid.rests in
-            let at : f.name a ≡ Log (newest_of h.says) = log_is d f now_last mid h.says more of_mid together_mid in
+            let at : f.name a ≡ Log (newest_log_of h.says) = log_is d f now_last mid h.says more of_mid together_mid in
             let ran = ran_write d f now_last ReadsAsTable name of_mid.one.named.of_manifest m c h.says h.waiting number ops sync mid.disk (a ∷ k ∷ []) (b ∷ k ∷ []) a b h.holds told fits of_mid.rests (first_ran f a b k synced.same.name) at newest leaves in
             subst (λ j. Ran d f P j (held new)) (appended_held old mid (next_batch m ops) (Ok tt) added) (subst (λ j. Ran d f P (held mid) j) (sym (synced_held d f now_last mid new result synced)) ran)
 
   -- it is on the disk, with all that waited, whether or not that was asked for
-  module _ (m : State) (c : Course) (number : ℕ) (ops : List WriteOp) (s : Says) (waiting : List Numbered) (h : Holds m c s waiting) (fits : IsLoggedBatch (length s.fold.families) (next_batch m ops)) where
-    pub written_holds : (sync : Bool) → IsReplyTo m (write ops sync) (OkAt (m.last.0 + length ops)) → Holds (after_write m number ops sync) (course_after_write m number c ops sync) (with_batches s (waiting ++ next_batch m ops ∷ [])) []
+  module _ (m : State) (c : Course) (number : ℕ) (ops : List WriteOp) (s : Says) (waiting : List Numbered) (h : HoldsState m c s waiting) (fits : IsLoggedBatch (length s.fold.families) (next_batch m ops)) where
+    pub written_holds : (sync : Bool) → IsReplyTo m (write ops sync) (OkAt (m.last.0 + length ops)) → HoldsState (after_write m number ops sync) (course_after_write m number c ops sync) (with_batches s (waiting ++ next_batch m ops ∷ [])) []
     written_holds true told = write_synced m c s waiting number ops (m.last.0 + length ops) h told fits refl
     written_holds false told =
         sync_unasked (after_write m number ops false) (course_after_write m number c ops false) s (waiting ++ next_batch m ops ∷ []) (write_waits m c s waiting number ops (m.last.0 + length ops) h told fits refl)
@@ -193,6 +197,7 @@ module _ {D F : Type 0} (d : disk.Ghosts D F) (f : file.Ghosts F) (now_last : Is
           holds = written_holds m c number ops s h.waiting h.holds fits sync asked;
           shows = shows;
           used = subst (λ k. All (λ n. n < k) m.used) (sym (synced.next ∙ added.next)) h.used;
+          covers = covers_synced old.older new.older s more (synced.older ∙ added.older) h.covers;
           runs = h.runs;
           unfailed = h.unfailed;
         })

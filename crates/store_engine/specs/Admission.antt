@@ -13,12 +13,23 @@ use Rattle.memtable.specs.Memtables.{greater}
 use Rattle.block_table.specs.Contents.{greatest_of}
 use Rattle.udt_model.specs.State.{State}
 use Rattle.udt_model.specs.Steps.{admitted, raised}
-use Rattle.super_version.specs.Contents.{items_in}
+use Rattle.super_version.specs.Contents.{items_of_family}
 use Rattle.super_version.specs.declared.family.FamilyState.{FamilyState}
 use Rattle.super_version.specs.declared.version.SuperVersion.{SuperVersion}
-use Rattle.store_engine.specs.Replies.{told_by}
+use Rattle.store_engine.specs.Replies.{reply_of_fault}
 use Rattle.store_engine.specs.declared.fault.EngineFault.{EngineFault}
 use Rattle.store_engine.specs.declared.fault.EngineFault.TheVariants.{UnknownFamily, BelowFloor, Fell, SequenceFull, FloorFell, NoMemory, DiskFault}
+
+-- the refusal that a fault is: want of memory and a fault of the disk are none
+abbrev pub as_refusal : EngineFault → Option EngineFault
+as_refusal NoMemory = None
+as_refusal DiskFault = None
+as_refusal fault = Some fault
+
+-- the refusal that an answer tells, where it tells one
+abbrev pub told_refusal : {A : Type 0} → Result A EngineFault → Option EngineFault
+told_refusal (Ok a) = None
+told_refusal (Err fault) = as_refusal fault
 
 -- the fault of an answer, where it is one
 abbrev pub fault_of : {A : Type 0} → Result A EngineFault → Option EngineFault
@@ -37,12 +48,12 @@ where_above ts (Some n) = if nat_lt ts n then Some n else None
 -- ---- operations
 
 -- it is on this key of this family
-abbrev pub is_on : Family → List ℕ → WriteOp → Bool
-is_on family key o = o.family.0 == family.0 && bytes_eq o.key key
+abbrev pub is_on_key : Family → List ℕ → WriteOp → Bool
+is_on_key family key o = o.family.0 == family.0 && bytes_eq o.key key
 
 -- the timestamp of the operation, where it is on this key
 abbrev pub stamp_at : Family → List ℕ → WriteOp → Option ℕ
-stamp_at family key o = if is_on family key o then Some o.ts.0 else None
+stamp_at family key o = if is_on_key family key o then Some o.ts.0 else None
 
 -- the greatest timestamp of operations on this key
 abbrev pub latest_at : Family → List ℕ → List WriteOp → Option ℕ
@@ -57,7 +68,7 @@ fell_fault k ts (Some n) = if nat_lt ts.0 n then Some (Fell k (record { 0 = n })
 -- the k-th operation behind earlier ones, by the lists of its family
 abbrev pub op_fault : Option FamilyState → List WriteOp → ℕ → WriteOp → Option EngineFault
 op_fault None before k o = Some UnknownFamily
-op_fault (Some f) before k o = if nat_lt o.ts.0 f.floor.0 then Some (BelowFloor k f.floor) else fell_fault k o.ts (greater (newest_ts (items_in f) o.key) (latest_at o.family o.key before))
+op_fault (Some f) before k o = if nat_lt o.ts.0 f.floor.0 then Some (BelowFloor k f.floor) else fell_fault k o.ts (greater (newest_ts (items_of_family f) o.key) (latest_at o.family o.key before))
 
 -- the first fault from the k-th operation on, behind earlier ones
 abbrev pub ops_fault : List FamilyState → List WriteOp → ℕ → List WriteOp → Option EngineFault
@@ -92,12 +103,12 @@ raise_fault (Some f) floor = if nat_lt floor.0 f.floor.0 then Some (FloorFell f.
 -- the model refuses the operations so
 abbrev pub RefusesWrite : State → List WriteOp → EngineFault → Type 0
 RefusesWrite m ops NoMemory = ⊤
-RefusesWrite m ops fault = told_by fault ≡ Some (admitted m ops)
+RefusesWrite m ops fault = reply_of_fault fault ≡ Some (admitted m ops)
 
 -- it refuses the raise so
 abbrev pub RefusesRaise : State → Family → Ts → EngineFault → Type 0
 RefusesRaise m family floor NoMemory = ⊤
-RefusesRaise m family floor fault = told_by fault ≡ Some (raised m family floor)
+RefusesRaise m family floor fault = reply_of_fault fault ≡ Some (raised m family floor)
 
 -- it is no fault of the disk
 abbrev pub IsInMemory : EngineFault → Type 0

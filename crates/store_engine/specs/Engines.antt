@@ -14,11 +14,12 @@ use Rattle.udt_model.specs.Crashes.{Course}
 use Rattle.manifest.specs.Manifest.{FoldRests, manifest_file, manifest_folded}
 use Rattle.super_version.specs.declared.version.SuperVersion.{SuperVersion}
 use Rattle.engine_laws.specs.Standing.{Says}
-use Rattle.engine_laws.specs.Engine.{Holds, newest_of}
+use Rattle.engine_laws.specs.Engine.{HoldsState, newest_log_of}
 use Rattle.engine_laws.specs.JointLaws.{RestIn}
 use Rattle.recovery.specs.Tables.{ReadsAsTable}
 use Rattle.recovery.specs.Versions.{FitsFold}
 use Rattle.store_engine.specs.Now.{IsNow}
+use Rattle.store_engine.specs.Older.{CoversOlder}
 use Rattle.store_engine.specs.Together.{AreNamed, AreTogether}
 use Rattle.store_engine.specs.declared.engine.Engine.{Engine}
 
@@ -43,8 +44,8 @@ module _ {D F : Type 0} {f : file.Ghosts F} where
 
 module _ {D F : Type 0} (d : disk.Ghosts D F) (f : file.Ghosts F) where
   -- the faults of the disk and of the two files
-  abbrev pub faults_of : Engine D F f → ℕ
-  faults_of engine = plus_faults (plus_faults (d.faults engine.disk) (f.faults (wal_file engine.wal))) (f.faults (manifest_file engine.manifest))
+  abbrev pub engine_faults : Engine D F f → ℕ
+  engine_faults engine = plus_faults (plus_faults (d.faults engine.disk) (f.faults (wal_file engine.wal))) (f.faults (manifest_file engine.manifest))
 
   -- The two files are held under the names of a log and of a manifest. They and the disk tell what they hold, and keep the model of
   -- crashes, all or none.
@@ -60,18 +61,19 @@ module _ {D F : Type 0} (d : disk.Ghosts D F) (f : file.Ghosts F) where
     pub rests : RestIn d f ReadsAsTable (held engine) (f.name (manifest_file engine.manifest)) s
     pub fold : manifest_folded engine.manifest ≡ s.fold
     pub edits : FoldRests f engine.manifest
-    pub log : log.Holds f engine.wal (s.logs (newest_of s)) waiting
+    pub log : log.Holds f engine.wal (s.logs (newest_log_of s)) waiting
     pub one : IsOneFolder engine
 
-  -- The engine and this super version hold the state on its course. No disk has failed under it, and each number that a table has had
-  -- is below that of the next file.
+  -- The engine and this super version hold the state on its course. No disk has failed under it, each number that a table has had is
+  -- below that of the next file, and what is known of the older logs is so.
   pub record HoldsNow (engine : Engine D F f) (now : SuperVersion) (m : State) (c : Course) : Type 0 where
     pub says : Says
     pub waiting : List Numbered
     pub engine_of : IsEngineOf engine says waiting
-    pub holds : Holds m c says waiting
+    pub holds : HoldsState m c says waiting
     pub shows : IsNow now m
     pub used : All (λ n. n < engine.next) m.used
+    pub covers : CoversOlder engine.older says
     pub runs : m.halted ≡ None
     pub unfailed : c.failing ≡ None
 

@@ -6,3 +6,11 @@ pub mod Calls
 pub mod Steps
 pub mod Now
 pub mod Admission
+pub mod Laws
+pub mod Older
+pub mod Jobs
+pub mod Asides
+pub mod JobCalls
+pub mod Dropping
+pub mod Installing
+pub mod Sealing

@@ -6,15 +6,15 @@ use Rattle.store_engine.specs.declared.fault.EngineFault.{EngineFault}
 use Rattle.store_engine.specs.declared.fault.EngineFault.TheVariants.{UnknownFamily, BelowFloor, Fell, SequenceFull, FloorFell, FilesFull, NoMemory, DiskFault}
 
 -- the reply that a fault is: want of memory is none of the model's
-abbrev pub told_by : EngineFault → Option Reply
-told_by UnknownFamily = Some replies.Unknown
-told_by (BelowFloor op floor) = Some (replies.Below op floor)
-told_by (Fell op newest) = Some (replies.Fell op newest)
-told_by (SequenceFull last) = Some (replies.Full last)
-told_by (FloorFell floor) = Some (replies.Floor floor)
-told_by (FilesFull next) = Some (replies.Files next)
-told_by NoMemory = None
-told_by DiskFault = Some replies.Fault
+abbrev pub reply_of_fault : EngineFault → Option Reply
+reply_of_fault UnknownFamily = Some replies.Unknown
+reply_of_fault (BelowFloor op floor) = Some (replies.Below op floor)
+reply_of_fault (Fell op newest) = Some (replies.Fell op newest)
+reply_of_fault (SequenceFull last) = Some (replies.Full last)
+reply_of_fault (FloorFell floor) = Some (replies.Floor floor)
+reply_of_fault (FilesFull next) = Some (replies.Files next)
+reply_of_fault NoMemory = None
+reply_of_fault DiskFault = Some replies.Fault
 
 -- the fault is the disk's
 abbrev pub is_disk_fault : EngineFault → Bool

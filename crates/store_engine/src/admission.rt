@@ -8,11 +8,11 @@ ghost use Rattle.udt_model.specs.Acts.Act.{raise as raise_act, write as write_ac
 ghost use Rattle.udt_model.specs.State.{State};
 ghost use Rattle.udt_model.specs.Steps.{admitted, after, raised};
 ghost use Rattle.floor_laws.specs.Sound.{IsSoundState};
-ghost use Rattle.super_version.specs.Changes.{ChangesFamily, with_floor as floor_set};
-ghost use Rattle.super_version.specs.Contents.{items_in};
+ghost use Rattle.super_version.specs.Changes.{ChangesFamily, family_with_floor};
+ghost use Rattle.super_version.specs.Contents.{items_of_family};
 ghost use Rattle.super_version.specs.Writes.{AddsBatch};
 ghost use Rattle.super_version.specs.declared.family.FamilyState.{FamilyState as StateOf};
-ghost use Rattle.store_engine.specs.Admission.{IsInMemory, RefusesRaise, RefusesWrite, fault_of, full_fault, is_on as stands_on, latest_at as latest_of_key, op_fault, ops_fault, raise_fault, unknown_in, where_above, write_fault};
+ghost use Rattle.store_engine.specs.Admission.{IsInMemory, RefusesRaise, RefusesWrite, fault_of, full_fault, is_on_key, latest_at as latest_of_key, op_fault, ops_fault, raise_fault, told_refusal, unknown_in, where_above, write_fault};
 ghost use Rattle.store_engine.specs.Now.{IsNow};
 
 use crate::fault::EngineFault;
@@ -27,7 +27,7 @@ use ts_key::{Batch, Family, Seq, Ts, WriteOp};
 /// The greatest timestamp of a key in all lists of a family, where it is above `ts`. Nothing is looked up where no version of the
 /// family is above `ts`.
 fn newest_above(state: &FamilyState, key: &[u8], ts: Ts) -> Option<Ts>
-    ensures { option_map (λ newest. newest.0) result ≡ where_above ts.0 (newest_ts (items_in state.now) key.now) }
+    ensures { option_map (λ newest. newest.0) result ≡ where_above ts.0 (newest_ts (items_of_family state.now) key.now) }
 {
     if latest_in(state).0 <= ts.0 {
         return None;
@@ -38,7 +38,7 @@ fn newest_above(state: &FamilyState, key: &[u8], ts: Ts) -> Option<Ts>
 
 /// Whether the operation is on this key.
 fn is_on(op: &WriteOp, family: Family, key: &[u8]) -> bool
-    ensures { result ≡ stands_on family key.now op.now }
+    ensures { result ≡ is_on_key family key.now op.now }
 {
     op.family.0 == family.0 && op.key.bytes() == key
 }
@@ -150,6 +150,7 @@ pub(crate) fn admit(
     batch: &Batch,
 ) -> Result<Arc<SuperVersion>, EngineFault>
     ensures shown { IfOk result (λ next. AddsBatch batch.now now.now (arc_value next)) }
+    ensures answers { told_refusal result ≡ write_fault now.now batch.now }
     ensures room { OnOk result (now.now.last.0 + length batch.now ≤ SEQUENCE_LIMIT) }
     ensures known { OnOk result (All (λ op. op.family.0 < length now.now.families) batch.now) }
     ensures admitted { (m : State) → IsSoundState m → m.halted ≡ None → IsNow now.now m → OnOk result (admitted m batch.now ≡ OkAt (m.last.0 + length batch.now)) }
@@ -183,7 +184,8 @@ pub(crate) fn admit_raise(
     family: Family,
     floor: Ts,
 ) -> Result<Arc<SuperVersion>, EngineFault>
-    ensures shown { IfOk result (λ next. ChangesFamily family.0 (floor_set floor) now.now (arc_value next)) }
+    ensures shown { IfOk result (λ next. ChangesFamily family.0 (family_with_floor floor) now.now (arc_value next)) }
+    ensures answers { told_refusal result ≡ raise_fault (slice_get now.now.families family.0) floor }
     ensures known { OnOk result (family.0 < length now.now.families) }
     ensures higher { OnOk result ((f : StateOf) → slice_get now.now.families family.0 ≡ Some f → f.floor.0 ≤ floor.0) }
     ensures admitted { (m : State) → m.halted ≡ None → IsNow now.now m → OnOk result (raised m family floor ≡ Done) }

@@ -1,29 +1,33 @@
 //! The engine of a store: its folder, its manifest and its newest log, and the calls that write to them.
 
-ghost use Rattle.std.specs.Prelude.{◌≡◌, ◌≢◌, ◌⊎◌, ◌+◌, ◌<◌, ◌≤◌, ◌∷◌, [], ℕ, length, All, false, true, IfErr, IfOk, IsOk, OnOk, IsTrue};
+ghost use Rattle.std.specs.Prelude.{◌≡◌, ◌≢◌, ◌⊎◌, ◌+◌, ◌<◌, ◌≤◌, ◌∷◌, [], List, ℕ, length, slice_get, All, false, true, IfErr, IfOk, IsOk, OnOk, IsTrue};
 ghost use Rattle.std.specs.Arc.{arc_value};
 ghost use Rattle.udt_disk.specs.Joint.{LeavesNow};
-ghost use Rattle.udt_disk.specs.Moments.{IsClean, OnlyReads, alone, holding};
+ghost use Rattle.udt_disk.specs.Moments.{OnlyReads, alone, holding};
 ghost use Rattle.wal.specs.declared.wal.TheConstants.{PENDING_LIMIT};
 ghost use Rattle.ts_key.specs.declared.batch.WriteOp.{WriteOp as Operation};
 ghost use Rattle.ts_key.specs.declared.limits.TheConstants.{SEQUENCE_LIMIT};
-ghost use Rattle.wal.specs.Wals.{MayGoOn, waiting_with, wal_file, wal_pending};
+ghost use Rattle.wal.specs.declared.numbered.Numbered.{Numbered};
+ghost use Rattle.wal.specs.Wals.{MayGoOn, wal_file, wal_pending};
 ghost use Rattle.manifest_fold.specs.Folds.{IsAccepted};
 ghost use Rattle.manifest.specs.Manifest.{IsEditReserved, manifest_file, manifest_folded};
 ghost use Rattle.udt_model.specs.Acts.Act.{raise as raise_act, sync_all, write as write_act};
 ghost use Rattle.udt_model.specs.declared.reply.Reply.TheVariants.{Done, OkAt};
-ghost use Rattle.udt_model.specs.Crashes.{Course, IsOutcome, course_after, course_start};
+ghost use Rattle.udt_model.specs.Crashes.{Course, course_after, course_start, settled};
 ghost use Rattle.udt_model.specs.State.{State};
 ghost use Rattle.udt_model.specs.Steps.{after};
+ghost use Rattle.super_version.specs.Changes.{ChangesFamily, family_with_floor};
 ghost use Rattle.super_version.specs.declared.version.SuperVersion.{SuperVersion as Version};
 ghost use Rattle.engine_laws.specs.Laws.{after_write, course_after_write};
-ghost use Rattle.engine_laws.specs.Standing.{FolderStands, StandsForSome};
+ghost use Rattle.engine_laws.specs.Standing.{FolderSays, FolderStands, Says};
+ghost use Rattle.recovery.specs.Opening.{AreLiveClean};
 ghost use Rattle.recovery.specs.Tables.{ReadsAsTable};
 ghost use Rattle.store_engine.specs.Parts.{ArePartsOf, parts_of};
 ghost use Rattle.store_engine.specs.Replies.{is_disk_fault};
 
 use crate::EngineFault;
 use crate::admission::{admit, admit_raise};
+use crate::older::OlderLogs;
 use manifest::Manifest;
 use manifest_edit::{Edit, FamilyEdit};
 use std::alloc::Global;
@@ -38,12 +42,13 @@ use wal::{PENDING_LIMIT, Wal};
 /// call takes is the one that the last call gave, and at first that of the opening. Where the disk failed in a call, only `failed`
 /// and `close` may be called.
 pub struct Engine<D: Disk> {
-    disk: D,
-    manifest: Manifest<D::File>,
-    wal: Wal<D::File>,
+    pub(crate) disk: D,
+    pub(crate) manifest: Manifest<D::File>,
+    pub(crate) wal: Wal<D::File>,
     /// The number of the next file.
-    next: u64,
-    failed: bool,
+    pub(crate) next: u64,
+    pub(crate) failed: bool,
+    pub(crate) older: OlderLogs,
 }
 
 /// The edit that gives a family another floor.
@@ -66,21 +71,29 @@ fn raise_edit(alloc: Global, next: u64, last: Seq, family: Family, floor: Ts, th
 }
 
 impl<D: Disk> Engine<D> {
-    ghost use Rattle.store_engine.specs.Calls.{RanOn, RanUnder, Tells, batch_behind};
-    ghost use Rattle.store_engine.specs.Engines.{HoldsAsBefore, HoldsNow, IsCurrent, IsOneFolder, IsRunning, faults_of, has_failed, held};
-    ghost use Rattle.store_engine.specs.Steps.{IsAdded, IsCalled, IsEdited, IsLogSynced, IsReserved};
+    ghost use Rattle.store_engine.specs.Admission.{raise_fault, told_refusal, write_fault};
+    ghost use Rattle.store_engine.specs.Calls.{LeavesOutcomes, RanOn, RanUnder, Tells};
+    ghost use Rattle.store_engine.specs.Engines.{HoldsAsBefore, HoldsNow, IsCurrent, IsEngineOf, IsOneFolder, IsRunning, engine_faults, has_failed, held};
+    ghost use Rattle.store_engine.specs.Steps.{IsAdded, IsBatchWritten, IsCalled, IsEdited, IsLogSynced, ReservesEdit};
 
-    /// The engine of an opened store, whose folder, manifest and newest log these are. It takes no memory.
-    pub fn from_parts(disk: D, manifest: Manifest<D::File>, wal: Wal<D::File>) -> Engine<D>
-        requires { (old : D) × (version : Version) × ArePartsOf D.Disk D.File.DiskFile old (parts_of disk manifest wal version) }
+    /// The engine of an opened store, whose folder, manifest, newest log and super version these are. It takes no memory.
+    pub fn from_parts(
+        alloc: Global,
+        disk: D,
+        manifest: Manifest<D::File>,
+        wal: Wal<D::File>,
+        version: &SuperVersion,
+    ) -> Engine<D>
+        requires { (old : D) × ArePartsOf D.Disk D.File.DiskFile old (parts_of disk manifest wal version.now) }
         ensures held { held result ≡ holding disk (wal_file wal ∷ manifest_file manifest ∷ []) }
         ensures next { result.next ≡ (manifest_folded manifest).next_file }
+        ensures older { (result.older.opened ≡ version.now.last) × (result.older.rolled.items ≡ []) }
         ensures running { IsRunning result }
         ensures one { IsOneFolder D.Disk D.File.DiskFile result }
-        ensures current { (old : D) (version : Version) → ArePartsOf D.Disk D.File.DiskFile old (parts_of disk manifest wal version) → IsCurrent result version }
+        ensures current { IsCurrent result version.now }
         // It and the version of the opening hold each state that the folder stands for.
-        ensures holds { (old : D) (version : Version) (m : State) → ArePartsOf D.Disk D.File.DiskFile old (parts_of disk manifest wal version)
-            → IsTrue (D.is_told old) → IsClean D.Disk old → FolderStands ReadsAsTable (D.stands old) m → HoldsNow D.Disk D.File.DiskFile result version m (course_start m) }
+        ensures holds { (old : D) (m : State) → ArePartsOf D.Disk D.File.DiskFile old (parts_of disk manifest wal version.now)
+            → IsTrue (D.is_told old) → AreLiveClean D.Disk old (manifest_folded manifest) → FolderStands ReadsAsTable (D.stands old) m → HoldsNow D.Disk D.File.DiskFile result version.now m (course_start m) }
     {
         let next = manifest.fold().next_file;
         Engine {
@@ -89,6 +102,7 @@ impl<D: Disk> Engine<D> {
             wal,
             next,
             failed: false,
+            older: OlderLogs::new(alloc, version.last),
         }
     }
 
@@ -116,7 +130,7 @@ impl<D: Disk> Engine<D> {
     }
 
     /// Puts all that waits in the log on the disk. It takes no memory.
-    fn sync_log(&mut self) -> Result<(), EngineFault>
+    pub(crate) fn sync_log(&mut self) -> Result<(), EngineFault>
         requires { IsRunning self.old }
         ensures { IsLogSynced D.File.DiskFile self.old self.new result }
     {
@@ -143,9 +157,9 @@ impl<D: Disk> Engine<D> {
     }
 
     /// Makes the manifest ready for an edit.
-    fn reserve_edit(&mut self, alloc: Global, edit: &Edit) -> Result<(), EngineFault>
+    pub(crate) fn reserve_edit(&mut self, alloc: Global, edit: &Edit) -> Result<(), EngineFault>
         requires { IsRunning self.old }
-        ensures { IsReserved D.File.DiskFile edit.now self.old self.new result }
+        ensures { ReservesEdit D.File.DiskFile edit.now self.old self.new result }
     {
         match self.manifest.reserve(alloc, edit) {
             Ok(()) => Ok(()),
@@ -153,12 +167,12 @@ impl<D: Disk> Engine<D> {
         }
     }
 
-    /// Adds a reserved edit of families to the manifest. It takes no memory.
-    fn append_edit(&mut self, edit: &Edit) -> Result<(), EngineFault>
+    /// Adds a reserved edit that adds no log to the manifest. It takes no memory.
+    pub(crate) fn append_edit(&mut self, edit: &Edit) -> Result<(), EngineFault>
         requires running { IsRunning self.old }
         requires accepted { IsAccepted (manifest_folded self.old.manifest) edit.now }
         requires reserved { IsEditReserved D.File.DiskFile self.old.manifest edit.now }
-        requires logs { (edit.now.add_logs ≡ []) × (edit.now.drop_logs ≡ []) }
+        requires logs { edit.now.add_logs ≡ [] }
         requires next { edit.now.next_file ≤ self.old.next }
         ensures { IsEdited D.File.DiskFile edit.now self.old self.new result }
     {
@@ -192,9 +206,9 @@ impl<D: Disk> Engine<D> {
         ensures current { IfOk result (λ next. IsCurrent self.new (arc_value next)) }
 
         // Whether or not the disk tells what it holds.
-        ensures waits { OnOk result (sync ≡ false → length (waiting_with self.old.wal (batch_behind now.now batch.now)) < PENDING_LIMIT → held self.new ≡ held self.old) }
+        ensures answers { told_refusal result ≡ write_fault now.now batch.now }
+        ensures written { IfOk result (λ next. IsBatchWritten now.now batch.now sync self.old self.new (arc_value next)) }
         ensures manifest { self.new.manifest ≡ self.old.manifest }
-        ensures synced { OnOk result ((sync ≡ true) ⊎ (PENDING_LIMIT ≤ length (waiting_with self.old.wal (batch_behind now.now batch.now))) → wal_pending self.new.wal ≡ 0) }
         ensures called { IsCalled D.Disk D.File.DiskFile self.old self.new result }
     {
         let next = match admit(alloc, now, batch) {
@@ -231,6 +245,9 @@ impl<D: Disk> Engine<D> {
         ensures current { IfOk result (λ next. IsCurrent self.new (arc_value next)) }
 
         // Whether or not the disk tells what it holds.
+        ensures answers { told_refusal result ≡ raise_fault (slice_get now.now.families family.0) floor }
+        ensures raised { IfOk result (λ next. ChangesFamily family.0 (family_with_floor floor) now.now (arc_value next)) }
+        ensures synced { OnOk result (wal_pending self.new.wal ≡ 0) }
         ensures called { IsCalled D.Disk D.File.DiskFile self.old self.new result }
     {
         let next = match admit_raise(alloc, now, family, floor) {
@@ -278,8 +295,12 @@ impl<D: Disk> Engine<D> {
     /// Gives the log and the manifest back to the disk, and that back. It writes nothing, so what waits is lost.
     pub fn close(self) -> D
         ensures reads { IsOneFolder D.Disk D.File.DiskFile self → OnlyReads D.Disk D.File.DiskFile (held self) (alone result) }
-        ensures leaves { (now : Version) (m : State) (c : Course) → HoldsNow D.Disk D.File.DiskFile self now m c → LeavesNow D.Disk D.File.DiskFile (λ folder. StandsForSome ReadsAsTable folder (IsOutcome m c)) (alone result) }
-        ensures counted { D.faults result ≡ faults_of D.Disk D.File.DiskFile self }
+        ensures leaves { (now : Version) (m : State) (c : Course) → HoldsNow D.Disk D.File.DiskFile self now m c → LeavesOutcomes D.Disk D.File.DiskFile m c (alone result) }
+        // All that reached the disk, and all there is where nothing waits.
+        ensures reached { (s : Says) (waiting : List Numbered) → IsEngineOf D.Disk D.File.DiskFile self s waiting → LeavesNow D.Disk D.File.DiskFile (λ folder. FolderSays ReadsAsTable folder s) (alone result) }
+        ensures whole { (now : Version) (m : State) (c : Course) → HoldsNow D.Disk D.File.DiskFile self now m c
+            → wal_pending self.wal ≡ 0 → LeavesNow D.Disk D.File.DiskFile (λ folder. FolderStands ReadsAsTable folder (settled m)) (alone result) }
+        ensures counted { D.faults result ≡ engine_faults D.Disk D.File.DiskFile self }
     {
         let Engine {
             mut disk,
@@ -287,6 +308,7 @@ impl<D: Disk> Engine<D> {
             wal,
             next: _,
             failed: _,
+            older: _,
         } = self;
         disk.retire(wal.into_file());
         disk.retire(manifest.into_file());

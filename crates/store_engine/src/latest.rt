@@ -2,7 +2,7 @@
 ghost use Rattle.std.specs.Prelude.{◌≡◌, map};
 ghost use Rattle.std.specs.Arc.{arc_value};
 ghost use Rattle.std.specs.List.{flat_map};
-ghost use Rattle.super_version.specs.Contents.{items_in, items_of_level, items_of_memtable};
+ghost use Rattle.super_version.specs.Contents.{items_of_family, items_of_level, items_of_memtable};
 ghost use Rattle.store_engine.specs.Admission.{latest_stamp};
 
 use memtable::Mem;
@@ -45,7 +45,7 @@ fn latest_in_levels(levels: &[Arc<SharedList<LiveTable>>]) -> Ts
 
 /// The greatest timestamp of all versions of a family, 0 where it has none. It asks each memtable and each table for its own.
 pub fn latest_in(state: &FamilyState) -> Ts
-    ensures { result.0 ≡ latest_stamp (items_in state.now) }
+    ensures { result.0 ≡ latest_stamp (items_of_family state.now) }
 {
     let active = state.active.latest();
     let sealed = latest_in_mems(state.sealed.as_slice());

@@ -5,17 +5,17 @@ use Rattle.std.specs.List.{flat_map}
 use Rattle.std.proofs.lemmas.Bool.{cases_Bool}
 use Rattle.std.proofs.lemmas.Bool.Decides.{nat_tests}
 use Rattle.ts_key.specs.Items.{Item}
-use Rattle.ts_key.specs.Visible.{is_newer, newer, newest_of, is_of, newest, newest_ts}
+use Rattle.ts_key.specs.Visible.{is_item_newer, newer_item, newest_item, is_item_of, newest, newest_ts}
 use Rattle.memtable.specs.Memtables.{greater, reaches}
 use Rattle.memtable.proofs.Bests.{newer-assoc}
 use Rattle.block_table.specs.Contents.{greatest_of}
 use Rattle.super_version.proofs.Lists.{flat_more}
 
-pub tested-append : (p : Item → Bool) (xs ys : List Item) → newest_of (filter p (xs ++ ys)) ≡ newer (newest_of (filter p xs)) (newest_of (filter p ys))
+pub tested-append : (p : Item → Bool) (xs ys : List Item) → newest_item (filter p (xs ++ ys)) ≡ newer_item (newest_item (filter p xs)) (newest_item (filter p ys))
 tested-append p [] ys = refl
 tested-append p (x ∷ xs) ys =
     elim (cases_Bool (p x)) [
-      | inl y ↦ rw y (ap (newer (Some x)) (tested-append p xs ys) ∙ newer-assoc (Some x) (newest_of (filter p xs)) (newest_of (filter p ys)))
+      | inl y ↦ rw y (ap (newer_item (Some x)) (tested-append p xs ys) ∙ newer-assoc (Some x) (newest_item (filter p xs)) (newest_item (filter p ys)))
       | inr y ↦ rw y (tested-append p xs ys)
     ]
 
@@ -30,17 +30,17 @@ other_max a b c d h = grind (arith, nat_tests)
 abbrev ts_of : Option Item → Option ℕ
 ts_of o = option_map (λ v. v.sort_key.ts) o
 
-ts_of-newer : (a b : Option Item) → ts_of (newer a b) ≡ greater (ts_of a) (ts_of b)
+ts_of-newer : (a b : Option Item) → ts_of (newer_item a b) ≡ greater (ts_of a) (ts_of b)
 ts_of-newer None b = refl
 ts_of-newer (Some a) None = refl
 ts_of-newer (Some a) (Some b) =
-    elim (cases_Bool (is_newer b a)) [
+    elim (cases_Bool (is_item_newer b a)) [
       | inl y ↦ rw y (ap Some (newer_max a.sort_key.ts a.sort_key.seq b.sort_key.ts b.sort_key.seq y))
       | inr y ↦ rw y (ap Some (other_max a.sort_key.ts a.sort_key.seq b.sort_key.ts b.sort_key.seq y))
     ]
 
 pub newest_ts-append : (xs ys : List Item) (key : List ℕ) → newest_ts (xs ++ ys) key ≡ greater (newest_ts xs key) (newest_ts ys key)
-newest_ts-append xs ys key = ap ts_of (tested-append (is_of key) xs ys) ∙ ts_of-newer (newest xs key) (newest ys key)
+newest_ts-append xs ys key = ap ts_of (tested-append (is_item_of key) xs ys) ∙ ts_of-newer (newest xs key) (newest ys key)
 
 pub greater-assoc : (a b c : Option ℕ) → greater (greater a b) c ≡ greater a (greater b c)
 greater-assoc None b c = refl
@@ -71,10 +71,10 @@ all_three a b c key first second last x y z =
 abbrev Upto : ℕ → Item → Type 0
 Upto n v = v.sort_key.ts ≤ n
 
-newer_if : (P : Item → Type 0) (a : Item) (o : Option Item) → P a → IfSome o P → IfSome (newer (Some a) o) P
+newer_if : (P : Item → Type 0) (a : Item) (o : Option Item) → P a → IfSome o P → IfSome (newer_item (Some a) o) P
 newer_if P a None h g = h
 newer_if P a (Some b) h g =
-    elim (cases_Bool (is_newer b a)) [
+    elim (cases_Bool (is_item_newer b a)) [
       | inl y ↦ rw y g
       | inr y ↦ rw y h
     ]
@@ -83,19 +83,19 @@ some_more : (P Q : Item → Type 0) (o : Option Item) → ((v : Item) → P v �
 some_more P Q None f h = tt
 some_more P Q (Some v) f h = f v h
 
-front_upto : (b : Bool) (v : Item) (F : List Item) (n : ℕ) → Upto n v → IfSome (newest_of F) (Upto n) → IfSome (newest_of (cond b (v ∷ F) F)) (Upto n)
-front_upto true v F n h g = newer_if (Upto n) v (newest_of F) h g
+front_upto : (b : Bool) (v : Item) (F : List Item) (n : ℕ) → Upto n v → IfSome (newest_item F) (Upto n) → IfSome (newest_item (cond b (v ∷ F) F)) (Upto n)
+front_upto true v F n h g = newer_if (Upto n) v (newest_item F) h g
 front_upto false v F n h g = g
 
 abbrev greatest_ts : List Item → ℕ
 greatest_ts vs = greatest_of (λ v. v.sort_key.ts) vs
 
-pub tested_upto : (p : Item → Bool) (vs : List Item) → IfSome (newest_of (filter p vs)) (λ v. v.sort_key.ts ≤ greatest_of (λ w. w.sort_key.ts) vs)
+pub tested_upto : (p : Item → Bool) (vs : List Item) → IfSome (newest_item (filter p vs)) (λ v. v.sort_key.ts ≤ greatest_of (λ w. w.sort_key.ts) vs)
 tested_upto p [] = tt
 tested_upto p (v ∷ vs) =
     let n = max v.sort_key.ts (greatest_ts vs) in
     front_upto (p v) v (filter p vs) n (omega arith)
-    (some_more (Upto (greatest_ts vs)) (Upto n) (newest_of (filter p vs)) (λ w h. omega arith) (tested_upto p vs))
+    (some_more (Upto (greatest_ts vs)) (Upto n) (newest_item (filter p vs)) (λ w h. omega arith) (tested_upto p vs))
 
 le_from : (a b : ℕ) → nat_le a b ≡ true → a ≤ b
 le_from a b e = grind (arith, nat_tests)
@@ -106,4 +106,4 @@ no_greater m (Some v) n l h = ap Some (omega (arith, l, h))
 
 pub passes_by : (best : Option ℕ) (vs : List Item) (key : List ℕ) → reaches best (greatest_of (λ w. w.sort_key.ts) vs) ≡ true → best ≡ greater best (newest_ts vs key)
 passes_by None vs key e = absurd cc
-passes_by (Some m) vs key e = no_greater m (newest vs key) (greatest_ts vs) (le_from (greatest_ts vs) m e) (tested_upto (is_of key) vs)
+passes_by (Some m) vs key e = no_greater m (newest vs key) (greatest_ts vs) (le_from (greatest_ts vs) m e) (tested_upto (is_item_of key) vs)

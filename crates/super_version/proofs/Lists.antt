@@ -3,7 +3,7 @@ use Rattle.std.proofs.Common.{◌≡◌, ℕ, zero, suc, ◌+◌, ◌<◌, Bool,
 use Rattle.std.specs.Prelude.{filter, slice_get, slice_set}
 use Rattle.std.specs.List.{flat_map}
 use Rattle.std.proofs.lemmas.List.{append-nil, map-append}
-use Rattle.super_version.specs.Levels.{changed_at}
+use Rattle.super_version.specs.Levels.{item_changed_at}
 
 module _ {A B : Type 0} (f : A → B) where
   pub map_more : (rs : List A) (i : ℕ) (r : A) → i < length rs → r ≡ get_or rs i r → map f (take (i + 1) rs) ≡ map f (take i rs) ++ f r ∷ []
@@ -22,17 +22,17 @@ module _ {A B : Type 0} (f : A → B) where
 
 -- ---- one item changed
 
-pub changed_set : {X : Type 0} (n : ℕ) (change : X → X) (xs : List X) (x : X) → slice_get xs n ≡ Some x → slice_set xs n (change x) ≡ changed_at n change xs
+pub changed_set : {X : Type 0} (n : ℕ) (change : X → X) (xs : List X) (x : X) → slice_get xs n ≡ Some x → slice_set xs n (change x) ≡ item_changed_at n change xs
 changed_set n change [] x e = absurd cc
 changed_set zero change (y ∷ ys) x e = let q : x ≡ y = cc in ap (λ z. change z ∷ ys) q
 changed_set (suc n) change (y ∷ ys) x e = ap (λ zs. y ∷ zs) (changed_set n change ys x e)
 
-pub changed_none : {X : Type 0} (n : ℕ) (change : X → X) (xs : List X) → slice_get xs n ≡ None → xs ≡ changed_at n change xs
+pub changed_none : {X : Type 0} (n : ℕ) (change : X → X) (xs : List X) → slice_get xs n ≡ None → xs ≡ item_changed_at n change xs
 changed_none n change [] e = refl
 changed_none zero change (y ∷ ys) e = absurd cc
 changed_none (suc n) change (y ∷ ys) e = ap (λ zs. y ∷ zs) (changed_none n change ys e)
 
-pub changed_to : {X : Type 0} (n : ℕ) (change : X → X) (xs : List X) (x y : X) → Some x ≡ slice_get xs n → y ≡ change x → slice_set xs n y ≡ changed_at n change xs
+pub changed_to : {X : Type 0} (n : ℕ) (change : X → X) (xs : List X) (x y : X) → Some x ≡ slice_get xs n → y ≡ change x → slice_set xs n y ≡ item_changed_at n change xs
 changed_to n change xs x y e is = ap (slice_set xs n) is ∙ changed_set n change xs x (sym e)
 
 pub inside : {X : Type 0} (n : ℕ) (xs : List X) (x : X) → slice_get xs n ≡ Some x → n < length xs

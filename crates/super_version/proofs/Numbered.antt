@@ -12,13 +12,13 @@ use Rattle.memtable.specs.Memtables.{Memtable}
 use Rattle.super_version.specs.declared.family.FamilyState.{FamilyState}
 use Rattle.super_version.specs.declared.version.SuperVersion.{SuperVersion}
 use Rattle.super_version.specs.Live.{Live}
-use Rattle.super_version.specs.Changes.{ChangesFamily, in_front, with_compaction, with_floor, with_flush, with_seal}
-use Rattle.super_version.specs.Levels.{changed_at, is_kept, placed, placed_all}
+use Rattle.super_version.specs.Changes.{ChangesFamily, in_front, family_with_compaction, family_with_floor, family_with_flush, family_with_seal}
+use Rattle.super_version.specs.Levels.{item_changed_at, is_table_kept, placed_on_level, placed_all}
 use Rattle.super_version.specs.Numbers.{BearsNumber, IsTableOf, StandInPlaces}
-use Rattle.super_version.specs.Writes.{AddsBatch, AreWritten, IsWrittenTo, of_family}
+use Rattle.super_version.specs.Writes.{AddsBatch, AreWrittenTo, IsWrittenTo, of_family}
 use Rattle.super_version.proofs.Orders.{all_filter, all_placed}
 
-all_changed : {X : Type 0} (P : X → Type 0) (n : ℕ) (change : X → X) (xs : List X) → ((x : X) → P x → P (change x)) → AllByRecursion P xs → AllByRecursion P (changed_at n change xs)
+all_changed : {X : Type 0} (P : X → Type 0) (n : ℕ) (change : X → X) (xs : List X) → ((x : X) → P x → P (change x)) → AllByRecursion P xs → AllByRecursion P (item_changed_at n change xs)
 all_changed P n change [] f h = tt
 all_changed P zero change (x ∷ xs) f h = (f x h.0, h.1)
 all_changed P (suc n) change (x ∷ xs) f h = (h.0, all_changed P n change xs f h.1)
@@ -35,31 +35,31 @@ all_taken P (suc n) (x ∷ xs) h = (h.0, all_taken P n xs h.1)
 
 all_placed_all : (P : Live → Type 0) (level : ℕ) (ts os : List Live) → AllByRecursion P ts → AllByRecursion P os → AllByRecursion P (placed_all level ts os)
 all_placed_all P level [] os h g = g
-all_placed_all P level (t ∷ ts) os h g = all_placed_all P level ts (placed level t os) h.1 (all_placed P level t os h.0 g)
+all_placed_all P level (t ∷ ts) os h g = all_placed_all P level ts (placed_on_level level t os) h.1 (all_placed P level t os h.0 g)
 
 module _ (n : ℕ) where
   abbrev AreTables : List Live → Type 0
   AreTables ts = AllByRecursion (IsTableOf n) ts
 
-  pub after_floor : (floor : Ts) (f : FamilyState) → BearsNumber n f → BearsNumber n (with_floor floor f)
+  pub after_floor : (floor : Ts) (f : FamilyState) → BearsNumber n f → BearsNumber n (family_with_floor floor f)
   after_floor floor f h = record { active = h.active; sealed = h.sealed; tables = h.tables }
 
-  pub after_seal : (f : FamilyState) → BearsNumber n f → BearsNumber n (with_seal f)
+  pub after_seal : (f : FamilyState) → BearsNumber n f → BearsNumber n (family_with_seal f)
   after_seal f h = record { active = h.active; sealed = (h.active, h.sealed); tables = h.tables }
 
-  pub after_flush : (gone : ℕ) (through : Seq) (floor : Ts) (added : Live) (f : FamilyState) → IsTableOf n added → BearsNumber n f → BearsNumber n (with_flush gone through floor added f)
+  pub after_flush : (gone : ℕ) (through : Seq) (floor : Ts) (added : Live) (f : FamilyState) → IsTableOf n added → BearsNumber n f → BearsNumber n (family_with_flush gone through floor added f)
   after_flush gone through floor added f own h = record {
     active = h.active;
     sealed = all_taken (λ (m : Memtable). m.family.0 ≡ n) (length f.sealed - gone) f.sealed h.sealed;
     tables = all_changed AreTables 0 (in_front added) f.levels (λ ts g. (own, g)) h.tables;
   }
 
-  pub after_compaction : (gone : List ℕ) (level : ℕ) (added : List Live) (f : FamilyState) → AreTables added → BearsNumber n f → BearsNumber n (with_compaction gone level added f)
+  pub after_compaction : (gone : List ℕ) (level : ℕ) (added : List Live) (f : FamilyState) → AreTables added → BearsNumber n f → BearsNumber n (family_with_compaction gone level added f)
   after_compaction gone level added f own h = record {
     active = h.active;
     sealed = h.sealed;
-    tables = all_changed AreTables level (placed_all level added) (map (filter (is_kept gone)) f.levels) (λ ts g. all_placed_all (IsTableOf n) level added ts own g)
-        (all_mapped AreTables (filter (is_kept gone)) f.levels (λ ts g. all_filter (IsTableOf n) (is_kept gone) ts g) h.tables);
+    tables = all_changed AreTables level (placed_all level added) (map (filter (is_table_kept gone)) f.levels) (λ ts g. all_placed_all (IsTableOf n) level added ts own g)
+        (all_mapped AreTables (filter (is_table_kept gone)) f.levels (λ ts g. all_filter (IsTableOf n) (is_table_kept gone) ts g) h.tables);
   }
 
   pub after_write : (vs : List Version) (f g : FamilyState) → IsWrittenTo vs f g → BearsNumber n f → BearsNumber n g
@@ -69,7 +69,7 @@ module _ (n : ℕ) where
 
 -- ---- all families
 
-changed_places : (k n : ℕ) (change : FamilyState → FamilyState) (fs : List FamilyState) → ((f : FamilyState) → BearsNumber (k + n) f → BearsNumber (k + n) (change f)) → StandInPlaces k fs → StandInPlaces k (changed_at n change fs)
+changed_places : (k n : ℕ) (change : FamilyState → FamilyState) (fs : List FamilyState) → ((f : FamilyState) → BearsNumber (k + n) f → BearsNumber (k + n) (change f)) → StandInPlaces k fs → StandInPlaces k (item_changed_at n change fs)
 changed_places k n change [] c h = tt
 changed_places k zero change (f ∷ fs) c h =
     let z : k + 0 ≡ k = omega arith in
@@ -83,7 +83,7 @@ after_change n change old new is c h =
     let z : 0 + n ≡ n = omega arith in
     subst (StandInPlaces 0) (sym is.families) (changed_places 0 n change old.families (λ g b. subst (λ m. BearsNumber m (change g)) (sym z) (c g (subst (λ m. BearsNumber m g) z b))) h)
 
-written_places : (k : ℕ) (vs : List Version) (fs gs : List FamilyState) → AreWritten vs fs gs → StandInPlaces k fs → StandInPlaces k gs
+written_places : (k : ℕ) (vs : List Version) (fs gs : List FamilyState) → AreWrittenTo vs fs gs → StandInPlaces k fs → StandInPlaces k gs
 written_places k vs [] [] w h = tt
 written_places k vs [] (g ∷ gs) w h = absurd cc
 written_places k vs (f ∷ fs) [] w h = absurd w

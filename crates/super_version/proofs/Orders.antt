@@ -11,12 +11,12 @@ use Rattle.std.proofs.lemmas.Bool.Decides.{nat_tests}
 use Rattle.ts_key.specs.Order.{SortKey, is_before}
 use Rattle.ts_key.specs.Orders.{before_back, upto_upto}
 use Rattle.super_version.specs.Live.{Live}
-use Rattle.super_version.specs.Levels.{StandInOrder, is_kept, placed, placed_all, properties, stands_before}
+use Rattle.super_version.specs.Levels.{StandInOrder, is_table_kept, placed_on_level, placed_all, table_properties, stands_before}
 
 -- where a table stands on level 0, and where on another level
 abbrev place_by : Bool → Live → SortKey
-place_by true t = record { key = []; ts = 0; seq = (properties t).greatest_seq.0 }
-place_by false t = record { key = (properties t).least; ts = 0; seq = 0 }
+place_by true t = record { key = []; ts = 0; seq = (table_properties t).greatest_seq.0 }
+place_by false t = record { key = (table_properties t).least; ts = 0; seq = 0 }
 
 abbrev place_on : ℕ → Live → SortKey
 place_on level t = place_by (level == 0) t
@@ -34,9 +34,9 @@ alone Less = refl
 alone Equal = refl
 alone Greater = refl
 
-stands_by : (front : Bool) (a b : Live) → (if front then nat_lt (properties b).greatest_seq.0 (properties a).greatest_seq.0 else is_lt (slice_cmp nat_cmp (properties a).least (properties b).least)) ≡ is_before (place_by front a) (place_by front b)
-stands_by true a b = seq_lt (properties b).greatest_seq.0 (properties a).greatest_seq.0
-stands_by false a b = alone (slice_cmp nat_cmp (properties a).least (properties b).least)
+stands_by : (front : Bool) (a b : Live) → (if front then nat_lt (table_properties b).greatest_seq.0 (table_properties a).greatest_seq.0 else is_lt (slice_cmp nat_cmp (table_properties a).least (table_properties b).least)) ≡ is_before (place_by front a) (place_by front b)
+stands_by true a b = seq_lt (table_properties b).greatest_seq.0 (table_properties a).greatest_seq.0
+stands_by false a b = alone (slice_cmp nat_cmp (table_properties a).least (table_properties b).least)
 
 stands_is : (level : ℕ) (a b : Live) → stands_before level a b ≡ is_before (place_on level a) (place_on level b)
 stands_is level a b = stands_by (level == 0) a b
@@ -51,7 +51,7 @@ all_more : {X : Type 0} (P Q : X → Type 0) (xs : List X) → ((x : X) → P x 
 all_more P Q [] f h = tt
 all_more P Q (x ∷ xs) f h = (f x h.0, all_more P Q xs f h.1)
 
-pub all_placed : (P : Live → Type 0) (level : ℕ) (t : Live) (os : List Live) → P t → AllByRecursion P os → AllByRecursion P (placed level t os)
+pub all_placed : (P : Live → Type 0) (level : ℕ) (t : Live) (os : List Live) → P t → AllByRecursion P os → AllByRecursion P (placed_on_level level t os)
 all_placed P level t [] p h = (p, tt)
 all_placed P level t (o ∷ os) p h =
     elim (cases_Bool (stands_before level o t)) [
@@ -67,7 +67,7 @@ all_filter P p (x ∷ xs) h =
       | inr y ↦ rw y (all_filter P p xs h.1)
     ]
 
-placed_order : (level : ℕ) (t : Live) (os : List Live) → StandInOrder level os → StandInOrder level (placed level t os)
+placed_order : (level : ℕ) (t : Live) (os : List Live) → StandInOrder level os → StandInOrder level (placed_on_level level t os)
 placed_order level t [] h = (tt, tt)
 placed_order level t (o ∷ os) h =
     elim (cases_Bool (stands_before level o t)) [
@@ -77,7 +77,7 @@ placed_order level t (o ∷ os) h =
 
 placed_all_order : (level : ℕ) (ts os : List Live) → StandInOrder level os → StandInOrder level (placed_all level ts os)
 placed_all_order level [] os h = h
-placed_all_order level (t ∷ ts) os h = placed_all_order level ts (placed level t os) (placed_order level t os h)
+placed_all_order level (t ∷ ts) os h = placed_all_order level ts (placed_on_level level t os) (placed_order level t os h)
 
 filter_order : (level : ℕ) (p : Live → Bool) (os : List Live) → StandInOrder level os → StandInOrder level (filter p os)
 filter_order level p [] h = tt
@@ -87,11 +87,11 @@ filter_order level p (o ∷ os) h =
       | inr y ↦ rw y (filter_order level p os h.1)
     ]
 
-pub compacted_order : (level : ℕ) (gone : List ℕ) (added tables : List Live) → StandInOrder level tables → StandInOrder level (placed_all level added (filter (is_kept gone) tables))
-compacted_order level gone added tables h = placed_all_order level added (filter (is_kept gone) tables) (filter_order level (is_kept gone) tables h)
+pub compacted_order : (level : ℕ) (gone : List ℕ) (added tables : List Live) → StandInOrder level tables → StandInOrder level (placed_all level added (filter (is_table_kept gone) tables))
+compacted_order level gone added tables h = placed_all_order level added (filter (is_table_kept gone) tables) (filter_order level (is_table_kept gone) tables h)
 
 not_above : (a b : ℕ) → b ≤ a → nat_lt a b ≡ false
 not_above a b h = grind (arith, nat_tests)
 
-pub front_order : (t : Live) (tables : List Live) → AllByRecursion (λ (o : Live). (properties o).greatest_seq.0 ≤ (properties t).greatest_seq.0) tables → StandInOrder 0 tables → StandInOrder 0 (t ∷ tables)
-front_order t tables h g = (all_more (λ (o : Live). (properties o).greatest_seq.0 ≤ (properties t).greatest_seq.0) (λ o. stands_before 0 o t ≡ false) tables (λ o l. not_above (properties t).greatest_seq.0 (properties o).greatest_seq.0 l) h, g)
+pub front_order : (t : Live) (tables : List Live) → AllByRecursion (λ (o : Live). (table_properties o).greatest_seq.0 ≤ (table_properties t).greatest_seq.0) tables → StandInOrder 0 tables → StandInOrder 0 (t ∷ tables)
+front_order t tables h g = (all_more (λ (o : Live). (table_properties o).greatest_seq.0 ≤ (table_properties t).greatest_seq.0) (λ o. stands_before 0 o t ≡ false) tables (λ o l. not_above (table_properties t).greatest_seq.0 (table_properties o).greatest_seq.0 l) h, g)

@@ -2,10 +2,10 @@
 use Rattle.std.proofs.Common.{◌≡◌, ℕ, zero, suc, ◌+◌, ◌<◌, ◌≤◌, true, false, List, [], ◌∷◌, ◌++◌, length, get_or, map, take, drop, refl, sym, ap, ◌∙◌, inl, inr, arith}
 use Rattle.std.proofs.lemmas.Bool.{cases_Bool}
 use Rattle.super_version.specs.Live.{Live}
-use Rattle.super_version.specs.Levels.{count_before, placed, placed_all, stands_before}
+use Rattle.super_version.specs.Levels.{count_before, placed_on_level, placed_all, stands_before}
 
 -- put between those that stand before it and the others
-pub placed_parts : {A : Type 0} (f : A → Live) (level : ℕ) (t : Live) (xs : List A) → map f (take (count_before level t (map f xs)) xs) ++ t ∷ map f (drop (count_before level t (map f xs)) xs) ≡ placed level t (map f xs)
+pub placed_parts : {A : Type 0} (f : A → Live) (level : ℕ) (t : Live) (xs : List A) → map f (take (count_before level t (map f xs)) xs) ++ t ∷ map f (drop (count_before level t (map f xs)) xs) ≡ placed_on_level level t (map f xs)
 placed_parts f level t [] = refl
 placed_parts f level t (x ∷ xs) =
     let n = count_before level t (map f xs) in
@@ -39,7 +39,7 @@ count_all f level t (y ∷ ys) zero l = absurd (omega arith)
 count_all f level t (y ∷ ys) (suc n) l = count_all f level t ys n (omega arith)
 
 -- one table more
-pub placed_more : (level : ℕ) (ts : List Live) (i : ℕ) (t : Live) (tables : List Live) → i < length ts → t ≡ get_or ts i t → placed level t (placed_all level (take i ts) tables) ≡ placed_all level (take (i + 1) ts) tables
+pub placed_more : (level : ℕ) (ts : List Live) (i : ℕ) (t : Live) (tables : List Live) → i < length ts → t ≡ get_or ts i t → placed_on_level level t (placed_all level (take i ts) tables) ≡ placed_all level (take (i + 1) ts) tables
 placed_more level [] i t tables l e = absurd (omega arith)
-placed_more level (x ∷ xs) zero t tables l e = ap (λ y. placed level y tables) e
-placed_more level (x ∷ xs) (suc i) t tables l e = let n : suc i + 1 ≡ suc (i + 1) = omega arith in rw n (placed_more level xs i t (placed level x tables) (omega arith) e)
+placed_more level (x ∷ xs) zero t tables l e = ap (λ y. placed_on_level level y tables) e
+placed_more level (x ∷ xs) (suc i) t tables l e = let n : suc i + 1 ≡ suc (i + 1) = omega arith in rw n (placed_more level xs i t (placed_on_level level x tables) (omega arith) e)

@@ -10,10 +10,10 @@ use Rattle.ts_key.specs.declared.batch.WriteOp.{WriteOp}
 use Rattle.ts_key.specs.declared.version.Version.{Version}
 use Rattle.sorted_run.specs.Sorts.{sorted}
 use Rattle.sorted_run.proofs.Sorting.{sorted_again}
-use Rattle.memtable.specs.Memtables.{joined, versions_of}
+use Rattle.memtable.specs.Memtables.{joined, versions_of_memtable}
 use Rattle.udt_model.specs.Versions.{logged, version_of}
 use Rattle.super_version.specs.declared.family.FamilyState.{FamilyState}
-use Rattle.super_version.specs.Writes.{AreWritten, IsWrittenTo, of_family}
+use Rattle.super_version.specs.Writes.{AreWrittenTo, IsWrittenTo, of_family}
 
 -- one operation more
 pub logged_more : (ops : List WriteOp) (n i : ℕ) (op : WriteOp) → i < length ops → op ≡ get_or ops i op → logged n (take (i + 1) ops) ≡ logged n (take i ops) ++ version_of op (n + i) ∷ []
@@ -30,7 +30,7 @@ own_more family ops n i op l e =
     ∙ filter-append (λ (v : Version). v.family.0 == family.0) (logged n (take i ops)) (version_of op (n + i) ∷ [])
 
 -- one family more
-pub written_more : (vs : List Version) (fs gs : List FamilyState) (f g : FamilyState) → AreWritten vs fs gs → IsWrittenTo (of_family f.active.family vs) f g → AreWritten vs (fs ++ f ∷ []) (gs ++ g ∷ [])
+pub written_more : (vs : List Version) (fs gs : List FamilyState) (f g : FamilyState) → AreWrittenTo vs fs gs → IsWrittenTo (of_family f.active.family vs) f g → AreWrittenTo vs (fs ++ f ∷ []) (gs ++ g ∷ [])
 written_more vs [] [] f g h w = (w, refl)
 written_more vs [] (y ∷ ys) f g h w = absurd cc
 written_more vs (x ∷ xs) [] f g h w = absurd h
@@ -58,10 +58,10 @@ all_own family vs = All-from_recursion (λ (v : Version). v.family ≡ family) (
 -- nothing is written
 pub stays_same : (more : List Version) (f g : FamilyState) → more ≡ [] → g ≡ f → IsWrittenTo more f g
 stays_same more f g none e =
-    let same : sorted (more ++ versions_of f.active) ≡ versions_of f.active = ap (λ (l : List Version). sorted (l ++ versions_of f.active)) none ∙ sorted_again (joined f.active.runs) in
+    let same : sorted (more ++ versions_of_memtable f.active) ≡ versions_of_memtable f.active = ap (λ (l : List Version). sorted (l ++ versions_of_memtable f.active)) none ∙ sorted_again (joined f.active.runs) in
     record {
       family = ap (λ (h : FamilyState). h.active.family) e;
-      versions = ap (λ (h : FamilyState). versions_of h.active) e ∙ sym same;
+      versions = ap (λ (h : FamilyState). versions_of_memtable h.active) e ∙ sym same;
       others = λ i. record (e i) { active = g.active };
       kept = λ n. e;
     }

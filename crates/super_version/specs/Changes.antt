@@ -8,7 +8,7 @@ use Rattle.memtable.specs.Memtables.{Memtable}
 use Rattle.super_version.specs.declared.family.FamilyState.{FamilyState}
 use Rattle.super_version.specs.declared.version.SuperVersion.{SuperVersion}
 use Rattle.super_version.specs.Live.{Live}
-use Rattle.super_version.specs.Levels.{changed_at, compacted}
+use Rattle.super_version.specs.Levels.{item_changed_at, compacted_levels}
 
 abbrev pub no_versions : Family → Memtable
 no_versions family = record { family = family; runs = [] }
@@ -26,25 +26,25 @@ abbrev pub in_front : Live → List Live → List Live
 in_front t tables = t ∷ tables
 
 abbrev pub with_level : ℕ → (List Live → List Live) → List (List Live) → List (List Live)
-with_level n change levels = changed_at n change levels
+with_level n change levels = item_changed_at n change levels
 
-abbrev pub with_floor : Ts → FamilyState → FamilyState
-with_floor floor f = record f { floor = floor }
+abbrev pub family_with_floor : Ts → FamilyState → FamilyState
+family_with_floor floor f = record f { floor = floor }
 
 -- the active memtable becomes the newest of the sealed ones
-abbrev pub with_seal : FamilyState → FamilyState
-with_seal f = record f { active = no_versions f.active.family; sealed = f.active ∷ f.sealed }
+abbrev pub family_with_seal : FamilyState → FamilyState
+family_with_seal f = record f { active = no_versions f.active.family; sealed = f.active ∷ f.sealed }
 
 -- so many of the oldest sealed memtables leave, and a table comes in front of level 0
-abbrev pub with_flush : ℕ → Seq → Ts → Live → FamilyState → FamilyState
-with_flush gone through floor added f = record f { floor = floor; through = through; sealed = take (length f.sealed - gone) f.sealed; levels = with_level 0 (in_front added) f.levels }
+abbrev pub family_with_flush : ℕ → Seq → Ts → Live → FamilyState → FamilyState
+family_with_flush gone through floor added f = record f { floor = floor; through = through; sealed = take (length f.sealed - gone) f.sealed; levels = with_level 0 (in_front added) f.levels }
 
-abbrev pub with_compaction : List ℕ → ℕ → List Live → FamilyState → FamilyState
-with_compaction gone level added f = record f { levels = compacted gone level added f.levels }
+abbrev pub family_with_compaction : List ℕ → ℕ → List Live → FamilyState → FamilyState
+family_with_compaction gone level added f = record f { levels = compacted_levels gone level added f.levels }
 
 -- ---- frames
 
 -- one family becomes what the change makes of it, where there is one of this number; all others, and the last sequence, are as before
 pub record ChangesFamily (family : ℕ) (change : FamilyState → FamilyState) (old new : SuperVersion) : Type 0 where
   pub last : new.last ≡ old.last
-  pub families : new.families ≡ changed_at family change old.families
+  pub families : new.families ≡ item_changed_at family change old.families

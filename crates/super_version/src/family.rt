@@ -1,8 +1,8 @@
 //! One family of a super version.
 ghost use Rattle.std.specs.Prelude.{◌≡◌, option_map, All, IfOk};
 ghost use Rattle.ts_key.specs.Visible.{newest_ts};
-ghost use Rattle.super_version.specs.Changes.{empty_family, with_floor, with_seal, with_flush, with_compaction};
-ghost use Rattle.super_version.specs.Contents.{items_in};
+ghost use Rattle.super_version.specs.Changes.{empty_family, family_with_floor, family_with_seal, family_with_flush, family_with_compaction};
+ghost use Rattle.super_version.specs.Contents.{items_of_family};
 ghost use Rattle.super_version.specs.Writes.{IsWrittenTo};
 
 use crate::live_table::LiveTable;
@@ -70,7 +70,7 @@ impl FamilyState {
 
     /// The family with another floor.
     pub(crate) fn with_floor(&self, floor: Ts) -> Result<FamilyState, NoMemory>
-        ensures { IfOk result (λ f. f ≡ with_floor floor self.now) }
+        ensures { IfOk result (λ f. f ≡ family_with_floor floor self.now) }
     {
         Ok(FamilyState {
             form: self.form,
@@ -84,7 +84,7 @@ impl FamilyState {
 
     /// The family with its active memtable sealed, and an empty one in its place.
     pub(crate) fn with_seal(&self, alloc: Global) -> Result<FamilyState, NoMemory>
-        ensures { IfOk result (λ f. f ≡ with_seal self.now) }
+        ensures { IfOk result (λ f. f ≡ family_with_seal self.now) }
     {
         let full = Arc::new(alloc, self.active.copy()?)?;
         Ok(FamilyState {
@@ -106,7 +106,7 @@ impl FamilyState {
         floor: Ts,
         added: LiveTable,
     ) -> Result<FamilyState, NoMemory>
-        ensures { IfOk result (λ f. f ≡ with_flush gone through floor added self.now) }
+        ensures { IfOk result (λ f. f ≡ family_with_flush gone through floor added self.now) }
     {
         let left = self.sealed.len().saturating_sub(gone);
         Ok(FamilyState {
@@ -127,7 +127,7 @@ impl FamilyState {
         level: u32,
         added: &[LiveTable],
     ) -> Result<FamilyState, NoMemory>
-        ensures { IfOk result (λ f. f ≡ with_compaction gone.now level added.now self.now) }
+        ensures { IfOk result (λ f. f ≡ family_with_compaction gone.now level added.now self.now) }
     {
         Ok(FamilyState {
             form: self.form,
@@ -141,7 +141,7 @@ impl FamilyState {
 
     /// The greatest timestamp of the key in all lists; none where it has no version in any.
     pub fn newest(&self, key: &[u8]) -> Option<Ts>
-        ensures { option_map (λ ts. ts.0) result ≡ newest_ts (items_in self.now) key.now }
+        ensures { option_map (λ ts. ts.0) result ≡ newest_ts (items_of_family self.now) key.now }
     {
         let best = later_in_mem(None, &self.active, key);
         let best = later_in_mems(best, self.sealed.as_slice(), key);

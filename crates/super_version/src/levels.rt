@@ -2,7 +2,7 @@
 ghost use Rattle.std.specs.Prelude.{◌≡◌, ◌≤◌, Bool, filter, length, map, IfOk};
 ghost use Rattle.std.specs.Arc.{arc_value};
 ghost use Rattle.super_version.specs.Changes.{no_levels, with_level, in_front};
-ghost use Rattle.super_version.specs.Levels.{compacted, count_before, is_kept, placed, placed_all, stands_before};
+ghost use Rattle.super_version.specs.Levels.{compacted_levels, count_before, is_table_kept, placed_on_level, placed_all, stands_before};
 
 use crate::NoMemory;
 use crate::family::LEVELS;
@@ -44,7 +44,7 @@ pub fn with_front(
 
 /// Whether a table has none of these numbers.
 fn stays(table: &LiveTable, gone: &[u64]) -> bool
-    ensures { result ≡ is_kept gone.now table.now }
+    ensures { result ≡ is_table_kept gone.now table.now }
 {
     !gone.contains(&table.number())
 }
@@ -55,7 +55,7 @@ fn kept(
     tables: &SharedList<LiveTable>,
     gone: &[u64],
 ) -> Result<SharedList<LiveTable>, NoMemory>
-    ensures { IfOk result (λ left. left ≡ filter (is_kept gone.now) tables.now) }
+    ensures { IfOk result (λ left. left ≡ filter (is_table_kept gone.now) tables.now) }
 {
     let mut left = Vec::new(alloc);
     for table in tables.as_slice() {
@@ -72,7 +72,7 @@ fn without(
     levels: &SharedList<SharedList<LiveTable>>,
     gone: &[u64],
 ) -> Result<SharedList<SharedList<LiveTable>>, NoMemory>
-    ensures { IfOk result (λ left. left ≡ map (filter (is_kept gone.now)) levels.now) }
+    ensures { IfOk result (λ left. left ≡ map (filter (is_table_kept gone.now)) levels.now) }
 {
     let mut left = Vec::with_capacity(alloc, levels.len())?;
     for tables in levels.as_slice() {
@@ -117,7 +117,7 @@ fn place(
     tables: &[Arc<LiveTable>],
     table: &LiveTable,
 ) -> Result<Vec<Arc<LiveTable>>, NoMemory>
-    ensures { IfOk result (λ new. map arc_value new.items ≡ placed level table.now (map arc_value tables.now)) }
+    ensures { IfOk result (λ new. map arc_value new.items ≡ placed_on_level level table.now (map arc_value tables.now)) }
 {
     let (before, after) = tables.split_at(place_of(level, tables, table));
     let mut all = Vec::with_capacity(alloc, tables.len() + 1)?;
@@ -153,7 +153,7 @@ pub fn compacted(
     level: u32,
     added: &[LiveTable],
 ) -> Result<SharedList<SharedList<LiveTable>>, NoMemory>
-    ensures { IfOk result (λ new. new ≡ compacted gone.now level added.now levels.now) }
+    ensures { IfOk result (λ new. new ≡ compacted_levels gone.now level added.now levels.now) }
 {
     let left = without(alloc, levels, gone)?;
     let index = level as usize;

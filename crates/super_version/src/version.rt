@@ -2,7 +2,7 @@
 ghost use Rattle.std.specs.Prelude.{◌≡◌, ◌+◌, ◌<◌, ◌≤◌, length, option_map, slice_get, slice_set, IfOk};
 ghost use Rattle.std.specs.Option.{option_copied};
 ghost use Rattle.ts_key.specs.Visible.{newest_ts};
-ghost use Rattle.super_version.specs.Changes.{ChangesFamily, with_floor as floor_set, with_seal as active_sealed, with_flush as flushed_by, with_compaction as compacted_by};
+ghost use Rattle.super_version.specs.Changes.{ChangesFamily, family_with_floor, family_with_seal, family_with_flush, family_with_compaction};
 ghost use Rattle.super_version.specs.Contents.{newest_in_family};
 ghost use Rattle.super_version.specs.Writes.{AddsBatch};
 
@@ -87,7 +87,7 @@ impl SuperVersion {
         family: Family,
         floor: Ts,
     ) -> Result<SuperVersion, NoMemory>
-        ensures { IfOk result (ChangesFamily family.0 (floor_set floor) self.now) }
+        ensures { IfOk result (ChangesFamily family.0 (family_with_floor floor) self.now) }
     {
         let Some(state) = self.family(family) else {
             return self.copy();
@@ -98,7 +98,7 @@ impl SuperVersion {
     /// The super version in which the active memtable of a family is the newest of its sealed ones, and an empty one takes
     /// what is written.
     pub fn sealed(&self, alloc: Global, family: Family) -> Result<SuperVersion, NoMemory>
-        ensures { IfOk result (ChangesFamily family.0 active_sealed self.now) }
+        ensures { IfOk result (ChangesFamily family.0 family_with_seal self.now) }
     {
         let Some(state) = self.family(family) else {
             return self.copy();
@@ -117,7 +117,7 @@ impl SuperVersion {
         floor: Ts,
         added: LiveTable,
     ) -> Result<SuperVersion, NoMemory>
-        ensures { IfOk result (ChangesFamily family.0 (flushed_by gone through floor added) self.now) }
+        ensures { IfOk result (ChangesFamily family.0 (family_with_flush gone through floor added) self.now) }
     {
         let Some(state) = self.family(family) else {
             return self.copy();
@@ -136,7 +136,7 @@ impl SuperVersion {
         level: u32,
         added: Vec<LiveTable>,
     ) -> Result<SuperVersion, NoMemory>
-        ensures { IfOk result (ChangesFamily family.0 (compacted_by gone.now level added.items) self.now) }
+        ensures { IfOk result (ChangesFamily family.0 (family_with_compaction gone.now level added.items) self.now) }
     {
         let Some(state) = self.family(family) else {
             return self.copy();

@@ -15,7 +15,7 @@ use Rattle.sv_gate.specs.declared.shown.Origin.{Origin}
 use Rattle.sv_gate.specs.declared.rule.Content.{Content}
 use Rattle.sv_gate.specs.declared.rule.Content.TheVariants.{Front, Commit}
 use Rattle.sv_gate.specs.declared.rule.Knowledge.{Knowledge}
-use Rattle.sv_gate.specs.Histories.{Ascends, IsLegal, entries, own_of, OwnersBelow, IsPart}
+use Rattle.sv_gate.specs.Histories.{Ascends, AreLegal, made_entries, own_of, OwnersBelow, HasSeenPart}
 use Rattle.sv_gate.specs.Knowledge.{SeatState, IsInOrder, with_front, without_front, with_commit, without_commit, height_of, with_entry, with_look}
 use Rattle.sv_gate.specs.Rule.{Account, KnowsTruly, IsAccount, IsOneHistory, weigh}
 use Rattle.sv_gate.specs.Steps.{TookFront, TookCommit, GaveFront, GaveCommit, SawHeight, Entered}
@@ -87,7 +87,7 @@ module _ {F C E : Type 0} (follows : Origin F C → List E → E → Type 0) (fr
       → (w : Known) × (a : Act Held) × Valid s.homes me.1 a × Rule (stepped s i (f (get_or s.words i 0)) id me.1 w a) × then (get_or s.words i 0) (w, carried_after me.1 a)
 
   -- what a seat knows of its own entries is in order, as far as it has seen the history
-  pub in_order : (id : ℕ) (v : Known) (now : Account E) (w : Known) → v.own ≡ own_of id o.height now.made → IsPart light now.made id w.seen w.has_commit → v.base ≡ o.height → w.own ≡ v.own → w.base ≡ v.base → IsInOrder w
+  pub in_order : (id : ℕ) (v : Known) (now : Account E) (w : Known) → v.own ≡ own_of id o.height now.made → HasSeenPart light now.made id w.seen w.has_commit → v.base ≡ o.height → w.own ≡ v.own → w.base ≡ v.base → IsInOrder w
   in_order id v now w own part base same_own same_base = let mine = own_in_order light now.made id o.height w.seen w.has_commit part in
       let P : ℕ × List (ℕ × E) → Type 0 = λ x. Ascends (x.0 + length w.seen) x.0 x.1 in
       let b : w.base ≡ o.height = same_base ∙ base in let l : w.own ≡ own_of id o.height now.made = same_own ∙ own in
@@ -98,7 +98,7 @@ module _ {F C E : Type 0} (follows : Origin F C → List E → E → Type 0) (fr
       → Allows Rule slots id me 1 lock (TookFront follows fronts commits light st me)
   takes_front slots id me lock st taken kept origin base live s k = opened (AllowsAt slots id me 1 lock (TookFront follows fronts commits light st me))
       (λ now fh ch vs stands sized at small. dite (ℕ_discrete now.front_lock 0)
-      (λ free. let v : Known = me.0 in let fit = stands.each id v at in let home = stands.front_home free in let w : Known = with_front v (entries now.made) in let now' : Account E = record now { front_lock = lock now.front_lock; holder = id } in (
+      (λ free. let v : Known = me.0 in let fit = stands.each id v at in let home = stands.front_home free in let w : Known = with_front v (made_entries now.made) in let now' : Account E = record now { front_lock = lock now.front_lock; holder = id } in (
         w,
         takes 0 (Front home.0),
         ap some home.1,
@@ -124,9 +124,9 @@ module _ {F C E : Type 0} (follows : Origin F C → List E → E → Type 0) (fr
         },
         (
           λ held. absurd (held free),
-          λ _ o' is. let same : o ≡ o' = cc (origin, is) in let P : Origin F C → Type 0 = λ z. fronts z home.0 (entries now.made) × IsLegal (follows z) [] (entries now.made) in let told = subst P same (home.2, stands.legal) in record {
+          λ _ o' is. let same : o ≡ o' = cc (origin, is) in let P : Origin F C → Type 0 = λ z. fronts z home.0 (made_entries now.made) × AreLegal (follows z) [] (made_entries now.made) in let told = subst P same (home.2, stands.legal) in record {
             front = home.0;
-            log = entries now.made;
+            log = made_entries now.made;
             is = refl;
             later = part_later light now.made id v.seen v.has_commit fit.part;
             shown = told.0;
@@ -250,9 +250,9 @@ module _ {F C E : Type 0} (follows : Origin F C → List E → E → Type 0) (fr
       let made' : List (ℕ × E) = now.made ++ (id, e) ∷ [] in let now' : Account E = record now { made = made' } in
       let long : height_of v ≡ o.height + length now.made = let l = ap length mine.2 ∙ entries_length now.made in omega arith in
       let more : length made' ≡ length now.made + 1 = length-append now.made ((id, e) ∷ []) in
-      let after : entries made' ≡ entries now.made ++ e ∷ [] = entries_snoc now.made id e in
-      let seen' : v.seen ++ e ∷ [] ≡ entries made' = ap (λ (l : List E). l ++ e ∷ []) mine.2 ∙ sym after in
-      let follow : follows o (entries now.made) e = subst (λ (l : List E). follows o l e) mine.2 legal in (
+      let after : made_entries made' ≡ made_entries now.made ++ e ∷ [] = entries_snoc now.made id e in
+      let seen' : v.seen ++ e ∷ [] ≡ made_entries made' = ap (λ (l : List E). l ++ e ∷ []) mine.2 ∙ sym after in
+      let follow : follows o (made_entries now.made) e = subst (λ (l : List E). follows o l e) mine.2 legal in (
         w,
         keeps,
         tt,
@@ -264,17 +264,17 @@ module _ {F C E : Type 0} (follows : Origin F C → List E → E → Type 0) (fr
           homes = refl;
           stands = record {
             room = omega arith;
-            legal = subst (IsLegal (follows o) []) (sym after) (legal_snoc (follows o) [] (entries now.made) e stands.legal follow);
+            legal = subst (AreLegal (follows o) []) (sym after) (legal_snoc (follows o) [] (made_entries now.made) e stands.legal follow);
             front_home = λ z. absurd (mine.1 z);
             commit_home = λ z. let home = stands.commit_home z in let no : v.has_commit ≡ false = not_true v.has_commit (λ h. (fit.commit h).1 z) in
-                (home.0, home.1, subst (commits o home.0) (sym after) (stays home.0 (entries now.made) e home.2 follow (alone no).1));
+                (home.0, home.1, subst (commits o home.0) (sym after) (stays home.0 (made_entries now.made) e home.2 follow (alone no).1));
             front_out = λ h. still (λ (u : Known). u.has_front ≡ true) vs now.holder id v w at (λ x. x) (stands.front_out h);
             commit_out = λ h. still (λ (u : Known). u.has_commit ≡ true) vs now.committer id v w at (λ x. x) (stands.commit_out h);
             each = each_after (KnowsTruly light o now') vs id w
                 record {
                   own = ap (λ (l : List (ℕ × E)). l ++ (height_of v + 1, e) ∷ []) fit.own ∙ (ap (λ (n : ℕ). own_of id o.height now.made ++ (n + 1, e) ∷ []) long ∙ sym (own_mine id o.height e now.made));
-                  heard = begin_more (entries now.made) (e ∷ []) v.heard (entries made') after fit.heard;
-                  part = subst (λ (l : List E). IsPart light made' id l v.has_commit) (sym seen') (whole light made' id v.has_commit);
+                  heard = begin_more (made_entries now.made) (e ∷ []) v.heard (made_entries made') after fit.heard;
+                  part = subst (λ (l : List E). HasSeenPart light made' id l v.has_commit) (sym seen') (whole light made' id v.has_commit);
                   front = λ _. (mine.0, mine.1, seen');
                   commit = fit.commit;
                   has_room = λ z. absurd (cc);
@@ -282,7 +282,7 @@ module _ {F C E : Type 0} (follows : Origin F C → List E → E → Type 0) (fr
                 }
                 (λ j u ne there. let g = stands.each j u there in let apart : u.has_commit ≡ true → v.has_commit ≡ false = λ h. not_true v.has_commit (λ x. ne ((g.commit h).0 ∙ sym (fit.commit x).0)) in record {
                   own = g.own ∙ sym (own_others j o.height id e now.made (λ x. ne (sym x)));
-                  heard = begin_more (entries now.made) (e ∷ []) u.heard (entries made') after g.heard;
+                  heard = begin_more (made_entries now.made) (e ∷ []) u.heard (made_entries made') after g.heard;
                   part = part_others light now.made j id e u.seen u.has_commit (λ x. ne (sym x)) (λ h. (alone (apart h)).1) g.part;
                   front = λ h. absurd (ne ((g.front h).0 ∙ sym mine.0));
                   commit = g.commit;
@@ -302,7 +302,7 @@ module _ {F C E : Type 0} (follows : Origin F C → List E → E → Type 0) (fr
       → Allows Rule slots id me 0 lock (TookCommit follows fronts commits light st me)
   takes_commit slots id me lock st taken kept origin base live s k = opened (AllowsAt slots id me 0 lock (TookCommit follows fronts commits light st me))
       (λ now fh ch vs stands sized at small. dite (ℕ_discrete now.commit_lock 0)
-      (λ free. let v : Known = me.0 in let fit = stands.each id v at in let home = stands.commit_home free in let w : Known = with_commit v (entries now.made) in let now' : Account E = record now { commit_lock = lock now.commit_lock; committer = id } in
+      (λ free. let v : Known = me.0 in let fit = stands.each id v at in let home = stands.commit_home free in let w : Known = with_commit v (made_entries now.made) in let now' : Account E = record now { commit_lock = lock now.commit_lock; committer = id } in
       let later = part_later light now.made id v.seen v.has_commit fit.part in (
         w,
         takes 1 (Commit home.0),
@@ -329,9 +329,9 @@ module _ {F C E : Type 0} (follows : Origin F C → List E → E → Type 0) (fr
         },
         (
           λ held. absurd (held free),
-          λ _ o' is. let same : o ≡ o' = cc (origin, is) in let P : Origin F C → Type 0 = λ z. commits z home.0 (entries now.made) × IsLegal (follows z) [] (entries now.made) in let told = subst P same (home.2, stands.legal) in record {
+          λ _ o' is. let same : o ≡ o' = cc (origin, is) in let P : Origin F C → Type 0 = λ z. commits z home.0 (made_entries now.made) × AreLegal (follows z) [] (made_entries now.made) in let told = subst P same (home.2, stands.legal) in record {
             commit = home.0;
-            log = entries now.made;
+            log = made_entries now.made;
             is = refl;
             later = (later.others, later.is);
             shown = told.0;
@@ -379,8 +379,8 @@ module _ {F C E : Type 0} (follows : Origin F C → List E → E → Type 0) (fr
   gives_commit stays slots id me c live has holds shows s k = opened (AllowsAt slots id me 0 (λ _. 0) (GaveCommit (step slots 0 0 0 none) me))
       (λ now fh ch vs stands sized at small. let v : Known = me.0 in let fit = stands.each id v at in let mine = fit.commit has in let w : Known = without_commit v in let now' : Account E = record now { commit_lock = 0 } in
       let later = part_later light now.made id v.seen v.has_commit fit.part in
-      let legal : IsLegal (follows o) v.seen later.others = legal_after (follows o) [] v.seen later.others (subst (IsLegal (follows o) []) later.is stands.legal) in
-      let all : commits o c (entries now.made) = subst (commits o c) (sym later.is) (stays_all (follows o) (commits o) light stays c v.seen later.others shows legal (later.are_light has)) in
+      let legal : AreLegal (follows o) v.seen later.others = legal_after (follows o) [] v.seen later.others (subst (AreLegal (follows o) []) later.is stands.legal) in
+      let all : commits o c (made_entries now.made) = subst (commits o c) (sym later.is) (stays_all (follows o) (commits o) light stays c v.seen later.others shows legal (later.are_light has)) in
       let P : List (ℕ × Held) → Type 0 = λ l. Valid (fh ∷ ch ∷ []) l gives × Rule (stepped (standing now fh ch vs) 0 0 id l w gives) in
       let kept : P ((1, Commit c) ∷ rest me.1) = (
         tt,

@@ -5,7 +5,7 @@ use Rattle.std.proofs.Common.{◌≡◌, ◌≢◌, ℕ, suc, ◌+◌, ◌<◌, 
 use mathlib.Core.Logic.{dite}
 use mathlib.Core.List.{map-append}
 use native.Mathlib.Decide.{ℕ_discrete, dec_le}
-use Rattle.sv_gate.specs.Histories.{BeginsWithAll, AreLight, numbered, entries, own_of, NoneOf, OwnersBelow, inserted, both_by_number, longer, IsPart}
+use Rattle.sv_gate.specs.Histories.{BeginsWithAll, AreLight, numbered, made_entries, own_of, NoneOfSeat, OwnersBelow, inserted, both_by_number, longer, HasSeenPart}
 use Rattle.sv_gate.proofs.Histories.{entries_length}
 use Rattle.sv_gate.proofs.Keeps.{not_true}
 
@@ -37,7 +37,7 @@ module _ {E : Type 0} where
   renamed_length id other [] = refl
   renamed_length id other (x ∷ xs) = ap suc (renamed_length id other xs)
 
-  pub renamed_entries : (id other : ℕ) (made : List (ℕ × E)) → entries (renamed id other made) ≡ entries made
+  pub renamed_entries : (id other : ℕ) (made : List (ℕ × E)) → made_entries (renamed id other made) ≡ made_entries made
   renamed_entries id other [] = refl
   renamed_entries id other (x ∷ xs) = ap (λ l. x.1 ∷ l) (renamed_entries id other xs)
 
@@ -56,15 +56,15 @@ module _ {E : Type 0} where
       (λ e. own_skip j n k x.1 (renamed id other xs) (λ h. a (sym h ∙ new_owner id other x.0 e)) ∙ (rest ∙ sym (own_skip j n x.0 x.1 xs (λ h. b (sym h ∙ e)))))
       (λ ne. own_as j n k x.0 x.1 (renamed id other xs) (old_owner id other x.0 ne) ∙ ap (λ l. cond (eqb x.0 j) ((n + 1, x.1) ∷ l) l) rest)
 
-  pub none_third : (id other j : ℕ) (made : List (ℕ × E)) → j ≢ id → NoneOf j made → NoneOf j (renamed id other made)
+  pub none_third : (id other j : ℕ) (made : List (ℕ × E)) → j ≢ id → NoneOfSeat j made → NoneOfSeat j (renamed id other made)
   none_third id other j [] a h = tt
   none_third id other j (x ∷ xs) a h = (dite (ℕ_discrete x.0 other) (λ e g. a (sym g ∙ new_owner id other x.0 e)) (λ ne g. h.0 (sym (old_owner id other x.0 ne) ∙ g)), none_third id other j xs a h.1)
 
-  pub none_spent : (id other : ℕ) (made : List (ℕ × E)) → other ≢ id → NoneOf other (renamed id other made)
+  pub none_spent : (id other : ℕ) (made : List (ℕ × E)) → other ≢ id → NoneOfSeat other (renamed id other made)
   none_spent id other [] a = tt
   none_spent id other (x ∷ xs) a = (dite (ℕ_discrete x.0 other) (λ e g. a (sym g ∙ new_owner id other x.0 e)) (λ ne g. ne (sym (old_owner id other x.0 ne) ∙ g)), none_spent id other xs a)
 
-  pub none_both : (id other : ℕ) (made : List (ℕ × E)) → NoneOf id made → NoneOf other made → NoneOf id (renamed id other made)
+  pub none_both : (id other : ℕ) (made : List (ℕ × E)) → NoneOfSeat id made → NoneOfSeat other made → NoneOfSeat id (renamed id other made)
   none_both id other [] h g = tt
   none_both id other (x ∷ xs) h g = ((λ e. h.0 (sym (old_owner id other x.0 g.0) ∙ e)), none_both id other xs h.1 g.1)
 
@@ -99,7 +99,7 @@ module _ {E : Type 0} where
       ∙ sym (own_hit id n k x.1 (renamed id other xs) (old_owner id other x.0 ne ∙ is)))))
       (λ not. ap (λ l. both_by_number l theirs) (own_skip id n x.0 x.1 xs not) ∙ (rest ∙ sym (own_skip id n k x.1 (renamed id other xs) (λ h. not (sym (old_owner id other x.0 ne) ∙ h)))))))
 
-  none_right : (j : ℕ) (a b : List (ℕ × E)) → NoneOf j (a ++ b) → NoneOf j b
+  none_right : (j : ℕ) (a b : List (ℕ × E)) → NoneOfSeat j (a ++ b) → NoneOfSeat j b
   none_right j [] b h = h
   none_right j (x ∷ a) b h = none_right j a b h.1
 
@@ -107,7 +107,7 @@ module _ {E : Type 0} where
   below_right n [] b h = h
   below_right n (x ∷ a) b h = below_right n a b h.1
 
-  light_right : (light : E → Type 0) (a b : List (ℕ × E)) → AreLight light (entries (a ++ b)) → AreLight light (entries b)
+  light_right : (light : E → Type 0) (a b : List (ℕ × E)) → AreLight light (made_entries (a ++ b)) → AreLight light (made_entries b)
   light_right light [] b h = h
   light_right light (x ∷ a) b h = light_right light a b h.1
 
@@ -117,7 +117,7 @@ module _ {E : Type 0} where
   longer_right : (xs ys : List E) → length xs < length ys → longer xs ys ≡ ys
   longer_right xs ys l = ap (λ (b : Bool). cond b ys xs) (lt-ltb (length xs) (length ys) l)
 
-  pub part_third : (light : E → Type 0) (id other j : ℕ) (made : List (ℕ × E)) (seen : List E) (only : Bool) → j ≢ id → IsPart light made j seen only → IsPart light (renamed id other made) j seen only
+  pub part_third : (light : E → Type 0) (id other j : ℕ) (made : List (ℕ × E)) (seen : List E) (only : Bool) → j ≢ id → HasSeenPart light made j seen only → HasSeenPart light (renamed id other made) j seen only
   part_third light id other j made seen only a p = record {
     front = renamed id other p.front;
     rest = renamed id other p.rest;
@@ -128,8 +128,8 @@ module _ {E : Type 0} where
   }
 
   -- the rest of the longer of two beginnings has no entry of either seat
-  rest_of : (light : E → Type 0) (id other : ℕ) (made a b : List (ℕ × E)) (seen : List E) (only : Bool) → made ≡ a ++ b → entries a ≡ seen → NoneOf id b → NoneOf other b → (only ≡ true → AreLight light (entries b))
-      → IsPart light (renamed id other made) id seen only
+  rest_of : (light : E → Type 0) (id other : ℕ) (made a b : List (ℕ × E)) (seen : List E) (only : Bool) → made ≡ a ++ b → made_entries a ≡ seen → NoneOfSeat id b → NoneOfSeat other b → (only ≡ true → AreLight light (made_entries b))
+      → HasSeenPart light (renamed id other made) id seen only
   rest_of light id other made a b seen only e s m t l = record {
     front = renamed id other a;
     rest = renamed id other b;
@@ -139,18 +139,18 @@ module _ {E : Type 0} where
     are_light = λ h. subst (AreLight light) (sym (renamed_entries id other b)) (l h);
   }
 
-  pub part_both : (light : E → Type 0) (id other : ℕ) (made : List (ℕ × E)) (seen told : List E) (only only' : Bool) → IsPart light made id seen only → IsPart light made other told only'
-      → IsPart light (renamed id other made) id (longer seen told) only
+  pub part_both : (light : E → Type 0) (id other : ℕ) (made : List (ℕ × E)) (seen told : List E) (only only' : Bool) → HasSeenPart light made id seen only → HasSeenPart light made other told only'
+      → HasSeenPart light (renamed id other made) id (longer seen told) only
   part_both light id other made seen told only only' p q = dite (dec_le (length told) (length seen))
       (λ le. let h = two_cuts q.front q.rest p.front p.rest (sym q.parts ∙ p.parts) (let x = entries_length p.front in let y = entries_length q.front in let z = ap length p.is_seen in let w = ap length q.is_seen in omega arith) in
-      subst (λ (l : List E). IsPart light (renamed id other made) id l only) (sym (longer_left seen told le))
-      (rest_of light id other made p.front p.rest seen only p.parts p.is_seen p.of_others (none_right other h.0 p.rest (subst (NoneOf other) h.2 q.of_others)) p.are_light))
+      subst (λ (l : List E). HasSeenPart light (renamed id other made) id l only) (sym (longer_left seen told le))
+      (rest_of light id other made p.front p.rest seen only p.parts p.is_seen p.of_others (none_right other h.0 p.rest (subst (NoneOfSeat other) h.2 q.of_others)) p.are_light))
       (λ gt. let h = two_cuts p.front p.rest q.front q.rest (sym p.parts ∙ q.parts) (let x = entries_length p.front in let y = entries_length q.front in let z = ap length p.is_seen in let w = ap length q.is_seen in omega arith) in
-      subst (λ (l : List E). IsPart light (renamed id other made) id l only) (sym (longer_right seen told (omega arith)))
-      (rest_of light id other made q.front q.rest told only q.parts q.is_seen (none_right id h.0 q.rest (subst (NoneOf id) h.2 p.of_others)) q.of_others
-      (λ is. light_right light h.0 q.rest (subst (λ (l : List (ℕ × E)). AreLight light (entries l)) h.2 (p.are_light is)))))
+      subst (λ (l : List E). HasSeenPart light (renamed id other made) id l only) (sym (longer_right seen told (omega arith)))
+      (rest_of light id other made q.front q.rest told only q.parts q.is_seen (none_right id h.0 q.rest (subst (NoneOfSeat id) h.2 p.of_others)) q.of_others
+      (λ is. light_right light h.0 q.rest (subst (λ (l : List (ℕ × E)). AreLight light (made_entries l)) h.2 (p.are_light is)))))
 
-  pub longer_whole : (light : E → Type 0) (j : ℕ) (made : List (ℕ × E)) (seen told : List E) (only : Bool) → seen ≡ entries made → IsPart light made j told only → longer seen told ≡ seen
+  pub longer_whole : (light : E → Type 0) (j : ℕ) (made : List (ℕ × E)) (seen told : List E) (only : Bool) → seen ≡ made_entries made → HasSeenPart light made j told only → longer seen told ≡ seen
   longer_whole light j made seen told only is q = longer_left seen told (let x = length-append q.front q.rest in let y = ap length q.parts in let z = ap length q.is_seen in let u = ap length is in let v = entries_length q.front in let w = entries_length made in omega arith)
 
   -- of two beginnings of one list, the longer begins with each
@@ -159,15 +159,15 @@ module _ {E : Type 0} where
       (λ le. let m = two_cuts told h.1.0.0 seen h.0.0 (sym h.1.0.1 ∙ h.0.1) le in subst (λ (l : List E). BeginsWithAll l (seen ∷ told ∷ [])) (sym (longer_left seen told le)) (([], sym (append-nil seen)), ((m.0, m.1), tt)))
       (λ gt. let m = two_cuts seen h.0.0 told h.1.0.0 (sym h.0.1 ∙ h.1.0.1) (omega arith) in subst (λ (l : List E). BeginsWithAll l (seen ∷ told ∷ [])) (sym (longer_right seen told (omega arith))) ((m.0, m.1), (([], sym (append-nil told)), tt)))
 
-  pub none_own : (j n : ℕ) (made : List (ℕ × E)) → own_of j n made ≡ [] → NoneOf j made
+  pub none_own : (j n : ℕ) (made : List (ℕ × E)) → own_of j n made ≡ [] → NoneOfSeat j made
   none_own j n [] e = tt
   none_own j n (x ∷ xs) e = dite (ℕ_discrete x.0 j) (λ is. let h = sym (own_hit j n x.0 x.1 xs is) ∙ e in absurd (cc)) (λ ne. (ne, none_own j (n + 1) xs (sym (own_skip j n x.0 x.1 xs ne) ∙ e)))
 
-  pub all_of : (id n : ℕ) (made : List (ℕ × E)) → OwnersBelow n made → ((j : ℕ) → j < n → j ≢ id → NoneOf j made) → OwnersAre id made
+  pub all_of : (id n : ℕ) (made : List (ℕ × E)) → OwnersBelow n made → ((j : ℕ) → j < n → j ≢ id → NoneOfSeat j made) → OwnersAre id made
   all_of id n [] h none = tt
   all_of id n (x ∷ xs) h none = (dite (ℕ_discrete x.0 id) (λ e. e) (λ ne. absurd ((none x.0 h.0 ne).0 refl)), all_of id n xs h.1 (λ j l ne. (none j l ne).1))
 
-  pub own_all : (id n : ℕ) (made : List (ℕ × E)) → OwnersAre id made → own_of id n made ≡ numbered n (entries made)
+  pub own_all : (id n : ℕ) (made : List (ℕ × E)) → OwnersAre id made → own_of id n made ≡ numbered n (made_entries made)
   own_all id n [] h = refl
   own_all id n (x ∷ xs) h = own_hit id n x.0 x.1 xs h.0 ∙ ap (λ l. (n + 1, x.1) ∷ l) (own_all id (n + 1) xs h.1)
 
@@ -175,10 +175,10 @@ module _ {E : Type 0} where
   all_right id [] b h = h
   all_right id (x ∷ a) b h = all_right id a b h.1
 
-  none_left : (id : ℕ) (b : List (ℕ × E)) → OwnersAre id b → NoneOf id b → b ≡ []
+  none_left : (id : ℕ) (b : List (ℕ × E)) → OwnersAre id b → NoneOfSeat id b → b ≡ []
   none_left id [] h n = refl
   none_left id (x ∷ b) h n = absurd (n.0 h.0)
 
-  pub seen_all : (light : E → Type 0) (id : ℕ) (made : List (ℕ × E)) (seen : List E) (only : Bool) → OwnersAre id made → IsPart light made id seen only → seen ≡ entries made
+  pub seen_all : (light : E → Type 0) (id : ℕ) (made : List (ℕ × E)) (seen : List E) (only : Bool) → OwnersAre id made → HasSeenPart light made id seen only → seen ≡ made_entries made
   seen_all light id made seen only h p = let rest : p.rest ≡ [] = none_left id p.rest (all_right id p.front p.rest (subst (OwnersAre id) p.parts h)) p.of_others in
-      sym p.is_seen ∙ sym (ap (λ (l : List (ℕ × E)). entries l) (p.parts ∙ (ap (λ l. p.front ++ l) rest ∙ append-nil p.front)))
+      sym p.is_seen ∙ sym (ap (λ (l : List (ℕ × E)). made_entries l) (p.parts ∙ (ap (λ l. p.front ++ l) rest ∙ append-nil p.front)))

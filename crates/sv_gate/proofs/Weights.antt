@@ -12,8 +12,8 @@ use Rattle.sv_gate.specs.declared.shown.Origin.{Origin}
 use Rattle.sv_gate.specs.declared.rule.Content.{Content}
 use Rattle.sv_gate.specs.declared.rule.Content.TheVariants.{Front, Commit}
 use Rattle.sv_gate.specs.declared.rule.Knowledge.{Knowledge}
-use Rattle.sv_gate.specs.Histories.{StartsWith, BeginsWithAll, IsLegal, numbered, entries, OwnersBelow, both_by_number}
-use Rattle.sv_gate.specs.Knowledge.{SeatState, first_knowledge, spent, after_split, split_off, just_joined, settled}
+use Rattle.sv_gate.specs.Histories.{StartsWith, BeginsWithAll, AreLegal, numbered, made_entries, OwnersBelow, both_by_number}
+use Rattle.sv_gate.specs.Knowledge.{SeatState, first_knowledge, spent, after_split, split_off, just_joined, with_nothing_heard}
 use Rattle.sv_gate.specs.Rule.{Account, KnowsTruly, IsAccount, IsOneHistory, weigh}
 use Rattle.sv_gate.specs.Steps.{Learned}
 use Rattle.sv_gate.proofs.Histories.{entries_length, own_none, none_below, below_more}
@@ -70,8 +70,8 @@ module _ {F C E : Type 0} (follows : Origin F C → List E → E → Type 0) (fr
   abbrev Stands : Account E → maybe.Option Held → maybe.Option Held → List Known → Type 0
   Stands = IsAccount follows fronts commits light o
 
-  begins_with : {made : List (ℕ × E)} {log : List E} (a b : List (ℕ × E)) (seen : List E) → made ≡ a ++ b → entries a ≡ seen → log ≡ entries made → StartsWith log seen
-  begins_with a b seen e s same = (entries b, same ∙ (ap (λ (l : List (ℕ × E)). entries l) e ∙ (map-append (λ (x : ℕ × E). x.1) a b ∙ ap (λ (l : List E). l ++ entries b) s)))
+  begins_with : {made : List (ℕ × E)} {log : List E} (a b : List (ℕ × E)) (seen : List E) → made ≡ a ++ b → made_entries a ≡ seen → log ≡ made_entries made → StartsWith log seen
+  begins_with a b seen e s same = (made_entries b, same ∙ (ap (λ (l : List (ℕ × E)). made_entries l) e ∙ (map-append (λ (x : ℕ × E). x.1) a b ∙ ap (λ (l : List E). l ++ made_entries b) s)))
 
   -- the table when it is made
   pub begins : (height : ℕ) (f : F) (c : C) → o.height ≡ height → o.height ≤ 2 ^ 63 → 0 < o.seats → fronts o f [] → commits o c [] → Rule (opening (0 ∷ 0 ∷ height ∷ []) (Front f ∷ Commit c ∷ []) (first_knowledge o))
@@ -143,7 +143,7 @@ module _ {F C E : Type 0} (follows : Origin F C → List E → E → Type 0) (fr
   -- a look after a join
   pub learns : (slots id : ℕ) (me : SeatState F C E) → me.0.origin ≡ Some o → me.0.base ≡ o.height → 0 < me.0.weight → Allows Rule slots id me 0 (λ n. n) (Learned (step slots 0 0 0 none) me)
   learns slots id me origin base live s k = opened follows fronts commits light o (AllowsAt follows fronts commits light o slots id me 0 (λ n. n) (Learned (step slots 0 0 0 none) me))
-      (λ now fh ch vs stands sized at small. let v : Known = me.0 in let fit = stands.each id v at in let w : Known = settled v in (
+      (λ now fh ch vs stands sized at small. let v : Known = me.0 in let fit = stands.each id v at in let w : Known = with_nothing_heard v in (
         w,
         keeps,
         tt,
@@ -167,7 +167,7 @@ module _ {F C E : Type 0} (follows : Origin F C → List E → E → Type 0) (fr
             weights = weigh_same vs id v w at refl ∙ stands.weights;
           };
         },
-        (refl, (entries now.made, fit.heard), in_order follows fronts commits light o id v now v fit.own fit.part base refl refl, λ o' is. let same : o ≡ o' = cc (origin, is) in let one = weigh_one vs id v at in let all = stands.weights in let end = ap (λ (z : Origin F C). z.seats) same in omega arith),
+        (refl, (made_entries now.made, fit.heard), in_order follows fronts commits light o id v now v fit.own fit.part base refl refl, λ o' is. let same : o ≡ o' = cc (origin, is) in let one = weigh_one vs id v at in let all = stands.weights in let end = ap (λ (z : Origin F C). z.seats) same in omega arith),
       ))
       s k
 
@@ -175,7 +175,7 @@ module _ {F C E : Type 0} (follows : Origin F C → List E → E → Type 0) (fr
   pub joins : (id : ℕ) (v : Known) (other : ℕ) (w : Known) → 0 < v.weight → w.has_front ≡ false → w.has_commit ≡ false → Joins Rule id v other w (just_joined v w) spent
   joins id v other w live no_front no_commit s k at apart there = let now = k.now in let stands = k.stands in let vs : List Known = s.views in let b : Known = just_joined v w in let vs' : List Known = set vs id b in
       let at' : get_elem? vs other ≡ some w = sym (set_else vs id other b apart) ∙ there in let fit = stands.each id v at in let gone = stands.each other w at' in
-      let made' : List (ℕ × E) = renamed id other now.made in let now' : Account E = record now { made = made' } in let same : entries made' ≡ entries now.made = renamed_entries id other now.made in
+      let made' : List (ℕ × E) = renamed id other now.made in let now' : Account E = record now { made = made' } in let same : made_entries made' ≡ made_entries now.made = renamed_entries id other now.made in
       let long : length made' ≡ length now.made = renamed_length id other now.made in let inside : id < length vs = at_below vs id v at in record {
         now = now';
         front = k.front;
@@ -184,7 +184,7 @@ module _ {F C E : Type 0} (follows : Origin F C → List E → E → Type 0) (fr
         homes = k.homes;
         stands = record {
           room = let r = stands.room in omega arith;
-          legal = subst (IsLegal (follows o) []) (sym same) stands.legal;
+          legal = subst (AreLegal (follows o) []) (sym same) stands.legal;
           front_home = λ z. let h = stands.front_home z in (h.0, h.1, subst (fronts o h.0) (sym same) h.2);
           commit_home = λ z. let h = stands.commit_home z in (h.0, h.1, subst (commits o h.0) (sym same) h.2);
           front_out = λ h. still (λ (u : Known). u.has_front ≡ true) vs' now.holder other w spent there (λ x. sym no_front ∙ x) (still (λ (u : Known). u.has_front ≡ true) vs now.holder id v b at (λ x. x) (stands.front_out h));
@@ -218,7 +218,7 @@ module _ {F C E : Type 0} (follows : Origin F C → List E → E → Type 0) (fr
 
   -- what is left where one seat has all of the weight
   pub closes : (id : ℕ) (v : Known) (ws : List ℕ) (xs : List Held) → Final (Seen Rule id v) ws xs → 0 < v.weight → v.weight ≡ o.seats → v.has_front ≡ false → v.has_commit ≡ false
-      → (f : F) × (c : C) × (get_elem? xs 0 ≡ some (Front f)) × (get_elem? xs 1 ≡ some (Commit c)) × fronts o f v.seen × commits o c v.seen × IsLegal (follows o) [] v.seen × (v.own ≡ numbered o.height v.seen)
+      → (f : F) × (c : C) × (get_elem? xs 0 ≡ some (Front f)) × (get_elem? xs 1 ≡ some (Commit c)) × fronts o f v.seen × commits o c v.seen × AreLegal (follows o) [] v.seen × (v.own ≡ numbered o.height v.seen)
       × (o.height + length v.seen ≤ 2 ^ 63)
   closes id v ws xs end live all no_front no_commit = let s = end.0 in let k = end.1.0 in let at = end.1.1 in let now = k.now in let stands = k.stands in let vs : List Known = s.views in let fit = stands.each id v at in
       let spent : (j : ℕ) (u : Known) → j ≢ id → get_elem? vs j ≡ some u → u.weight ≡ 0 = λ j u ne there. let h = weigh_two vs id j v u ne at there in let w = stands.weights in omega arith in
@@ -230,14 +230,14 @@ module _ {F C E : Type 0} (follows : Origin F C → List E → E → Type 0) (fr
       (λ ne. let h = ((stands.each now.committer t.0 t.1).idle (spent now.committer t.0 ne t.1)).2 in let g = t.2 in cc))) in
       let front = stands.front_home front_free in let commit = stands.commit_home commit_free in
       let mine : OwnersAre id now.made = all_of id (length vs) now.made stands.owners (λ j l ne. let t = at_there vs j l in let g = stands.each j t.0 t.1 in none_own j o.height now.made (sym g.own ∙ (g.idle (spent j t.0 ne t.1)).0)) in
-      let seen : v.seen ≡ entries now.made = seen_all light id now.made v.seen v.has_commit mine fit.part in (
+      let seen : v.seen ≡ made_entries now.made = seen_all light id now.made v.seen v.has_commit mine fit.part in (
         front.0,
         commit.0,
         end.4 0 (Front front.0) (ap (λ (l : List (maybe.Option Held)). get_elem? l 0) k.homes ∙ ap some front.1),
         end.4 1 (Commit commit.0) (ap (λ (l : List (maybe.Option Held)). get_elem? l 1) k.homes ∙ ap some commit.1),
         subst (fronts o front.0) (sym seen) front.2,
         subst (commits o commit.0) (sym seen) commit.2,
-        subst (IsLegal (follows o) []) (sym seen) stands.legal,
+        subst (AreLegal (follows o) []) (sym seen) stands.legal,
         fit.own ∙ (own_all id o.height now.made mine ∙ ap (numbered o.height) (sym seen)),
         let r = stands.room in let l = ap length seen ∙ entries_length now.made in omega arith,
       )

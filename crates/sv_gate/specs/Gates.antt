@@ -17,8 +17,8 @@ module _ {F C E : Type 0} where
   abbrev pub known : GateSeat F C E → Knowledge F C E
   known seat = seat.inner.me.0
 
-  abbrev pub weight_of : GateSeat F C E → ℕ
-  weight_of seat = seat.inner.me.0.weight
+  abbrev pub seat_weight : GateSeat F C E → ℕ
+  seat_weight seat = seat.inner.me.0.weight
 
   -- the entries that were made with the seat, each beside its number
   abbrev pub own : GateSeat F C E → List (ℕ × E)

@@ -33,9 +33,9 @@ module _ {E : Type 0} where
   HasNumber own n = (e : E) × Contains own (n, e)
 
   -- each entry may follow those before it
-  abbrev pub IsLegal : (List E → E → Type 0) → List E → List E → Type 0
-  IsLegal follows before [] = Unit {0}
-  IsLegal follows before (e ∷ es) = follows before e × IsLegal follows (before ++ e ∷ []) es
+  abbrev pub AreLegal : (List E → E → Type 0) → List E → List E → Type 0
+  AreLegal follows before [] = Unit {0}
+  AreLegal follows before (e ∷ es) = follows before e × AreLegal follows (before ++ e ∷ []) es
 
   -- the entries, each beside its number, of which the first is n + 1
   abbrev pub numbered : ℕ → List E → List (ℕ × E)
@@ -58,8 +58,8 @@ module _ {E : Type 0} where
 -- The rule keeps each entry of the history beside the seat that made it.
 module _ {E : Type 0} where
   -- the history
-  abbrev pub entries : List (ℕ × E) → List E
-  entries made = map (λ (x : ℕ × E). x.1) made
+  abbrev pub made_entries : List (ℕ × E) → List E
+  made_entries made = map (λ (x : ℕ × E). x.1) made
 
   -- the entries of the seat j, each beside its number, of which the first is n + 1
   abbrev pub own_of : ℕ → ℕ → List (ℕ × E) → List (ℕ × E)
@@ -67,9 +67,9 @@ module _ {E : Type 0} where
   own_of j n (x ∷ xs) = cond (x.0 == j) ((n + 1, x.1) ∷ own_of j (n + 1) xs) (own_of j (n + 1) xs)
 
   -- no entry is of the seat j
-  abbrev pub NoneOf : ℕ → List (ℕ × E) → Type 0
-  NoneOf j [] = Unit {0}
-  NoneOf j (x ∷ xs) = (x.0 ≢ j) × NoneOf j xs
+  abbrev pub NoneOfSeat : ℕ → List (ℕ × E) → Type 0
+  NoneOfSeat j [] = Unit {0}
+  NoneOfSeat j (x ∷ xs) = (x.0 ≢ j) × NoneOfSeat j xs
 
   -- each entry is of a seat below n
   abbrev pub OwnersBelow : ℕ → List (ℕ × E) → Type 0
@@ -77,10 +77,10 @@ module _ {E : Type 0} where
   OwnersBelow n (x ∷ xs) = (x.0 < n) × OwnersBelow n xs
 
   -- The history is what the seat j has seen, and then entries of others, which are light where it has the commit.
-  pub record IsPart (light : E → Type 0) (made : List (ℕ × E)) (j : ℕ) (seen : List E) (has_commit : Bool) : Type 0 where
+  pub record HasSeenPart (light : E → Type 0) (made : List (ℕ × E)) (j : ℕ) (seen : List E) (has_commit : Bool) : Type 0 where
     pub front : List (ℕ × E)
     pub rest : List (ℕ × E)
     pub parts : made ≡ front ++ rest
-    pub is_seen : entries front ≡ seen
-    pub of_others : NoneOf j rest
-    pub are_light : has_commit ≡ true → AreLight light (entries rest)
+    pub is_seen : made_entries front ≡ seen
+    pub of_others : NoneOfSeat j rest
+    pub are_light : has_commit ≡ true → AreLight light (made_entries rest)

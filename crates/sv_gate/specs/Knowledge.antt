@@ -78,5 +78,5 @@ module _ {F C E : Type 0} where
   abbrev pub just_joined : Knowledge F C E → Knowledge F C E → Knowledge F C E
   just_joined k other = record (after_join k other) { heard = k.seen ∷ other.seen ∷ [] }
 
-  abbrev pub settled : Knowledge F C E → Knowledge F C E
-  settled k = record k { heard = [] }
+  abbrev pub with_nothing_heard : Knowledge F C E → Knowledge F C E
+  with_nothing_heard k = record k { heard = [] }

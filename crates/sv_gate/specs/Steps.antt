@@ -4,8 +4,8 @@ use Rattle.atomic_table.specs.Table.{Step, rest}
 use Rattle.sv_gate.specs.declared.shown.Origin.{Origin}
 use Rattle.sv_gate.specs.declared.rule.Content.{Content}
 use Rattle.sv_gate.specs.declared.rule.Content.TheVariants.{Front, Commit}
-use Rattle.sv_gate.specs.Histories.{StartsWith, BeginsWithAll, IsLater, IsLegal}
-use Rattle.sv_gate.specs.Knowledge.{SeatState, height_of, IsInOrder, with_front, without_front, with_commit, without_commit, with_entry, with_look, settled}
+use Rattle.sv_gate.specs.Histories.{StartsWith, BeginsWithAll, IsLater, AreLegal}
+use Rattle.sv_gate.specs.Knowledge.{SeatState, height_of, IsInOrder, with_front, without_front, with_commit, without_commit, with_entry, with_look, with_nothing_heard}
 
 module _ {F C E : Type 0} (follows : Origin F C → List E → E → Type 0) (fronts : Origin F C → F → List E → Type 0) (commits : Origin F C → C → List E → Type 0) (light : E → Type 0) where
   -- The seat has the front, which shows the whole history, and has seen that.
@@ -15,7 +15,7 @@ module _ {F C E : Type 0} (follows : Origin F C → List E → E → Type 0) (fr
     pub is : after ≡ (with_front before.0 log, (0, Front front) ∷ before.1)
     pub later : IsLater light before.0.has_commit before.0.seen log
     pub shown : fronts o front log
-    pub legal : IsLegal (follows o) [] log
+    pub legal : AreLegal (follows o) [] log
     pub order : IsInOrder after.0
     pub room : before.0.has_room ≡ true → before.0.base + length log < 2 ^ 63
 
@@ -26,7 +26,7 @@ module _ {F C E : Type 0} (follows : Origin F C → List E → E → Type 0) (fr
     pub is : after ≡ (with_commit before.0 log, (1, Commit commit) ∷ before.1)
     pub later : StartsWith log before.0.seen
     pub shown : commits o commit log
-    pub legal : IsLegal (follows o) [] log
+    pub legal : AreLegal (follows o) [] log
     pub order : IsInOrder after.0
 
   -- where the lock was free the seat has the front; else nothing happened
@@ -53,4 +53,4 @@ module _ {F C E : Type 0} where
 
   -- One list begins with all that the seat has heard of, its own entries are in order, and its weight is part of the whole.
   abbrev pub Learned : Step (Content F C) → SeatState F C E → ℕ → SeatState F C E → Type 0
-  Learned st m n m' = (m' ≡ (settled m.0, m.1)) × ((log : List E) × BeginsWithAll log m.0.heard) × IsInOrder m.0 × ((o : Origin F C) → m.0.origin ≡ Some o → m.0.weight ≤ o.seats)
+  Learned st m n m' = (m' ≡ (with_nothing_heard m.0, m.1)) × ((log : List E) × BeginsWithAll log m.0.heard) × IsInOrder m.0 × ((o : Origin F C) → m.0.origin ≡ Some o → m.0.weight ≤ o.seats)

@@ -1,6 +1,6 @@
 //! The gate and its calls.
 ghost use Rattle.std.specs.Prelude.{◌≡◌, ℕ, ◌+◌, ◌^◌, ◌<◌, ◌≤◌, true, false, [], ◌∷◌, ◌++◌, IfOk, IfErr, OnErr, IfSome};
-ghost use Rattle.sv_gate.specs.Histories.{HasNumber, StartsWith, IsLater, IsLegal, numbered};
+ghost use Rattle.sv_gate.specs.Histories.{HasNumber, StartsWith, IsLater, AreLegal, numbered};
 ghost use Rattle.sv_gate.specs.Knowledge.{IsOrigin, IsInOrder, first_knowledge, with_front, without_front, with_commit, without_commit, with_entry, with_look, after_split, split_off, after_join};
 
 use crate::rule::{Content, Knowledge, OneHistory};
@@ -28,7 +28,7 @@ pub struct GateRefused<F, C> {
 }
 
 impl<C, F: Shown<C>> Gate<F, C> {
-    ghost use Rattle.sv_gate.specs.Gates.{origin, known, weight_of, own, seen, seen_height, HoldsNothing, IsSeatOf, Knows};
+    ghost use Rattle.sv_gate.specs.Gates.{origin, known, seat_weight, own, seen, seen_height, HoldsNothing, IsSeatOf, Knows};
 
     /// A gate whose next event has the number after `height`, and its first seat, which has the weight of all `seats`. The
     /// front and the commit show the empty list. `Err` comes where memory ran out, and hands both back.
@@ -80,7 +80,7 @@ impl<C, F: Shown<C>> Gate<F, C> {
         weight: u32,
     ) -> Result<GateSeat<F, C, F::Entry>, NoMemory>
         requires gate { IsSeatOf self.now seat.old }
-        requires weight { (0 < weight) × (weight < weight_of seat.old) }
+        requires weight { (0 < weight) × (weight < seat_weight seat.old) }
         ensures old { IfOk result (λ new. Knows self.now seat.new (after_split weight (known seat.old))) }
         ensures new { IfOk result (λ new. Knows self.now new (split_off weight (known seat.old))) }
         ensures refused { OnErr result (Knows self.now seat.new (known seat.old)) }
@@ -113,7 +113,7 @@ impl<C, F: Shown<C>> Gate<F, C> {
         ensures later { StartsWith (seen seat.new) (seen seat.old) }
         ensures order { IsInOrder (known seat.new) }
         ensures shown { F.commit_shows (origin self.now) result.commit (seen seat.new) }
-        ensures legal { IsLegal (F.follows (origin self.now)) [] (seen seat.new) }
+        ensures legal { AreLegal (F.follows (origin self.now)) [] (seen seat.new) }
     {
         let commit = steps::take_commit(rt, &self.table.shared, &mut seat.inner);
         HeldCommit { commit }
@@ -140,7 +140,7 @@ impl<C, F: Shown<C>> Gate<F, C> {
         ensures later { IsLater F.is_light (known seat.old).has_commit (seen seat.old) (seen seat.new) }
         ensures order { IsInOrder (known seat.new) }
         ensures shown { F.front_shows (origin self.now) result.front (seen seat.new) }
-        ensures legal { IsLegal (F.follows (origin self.now)) [] (seen seat.new) }
+        ensures legal { AreLegal (F.follows (origin self.now)) [] (seen seat.new) }
         ensures room { (known seat.old).has_room ≡ true → seen_height seat.new < 2 ^ 63 }
     {
         let front = steps::take_front(rt, &self.table.shared, &mut seat.inner);
@@ -199,11 +199,11 @@ impl<C, F: Shown<C>> Gate<F, C> {
     /// and both values show that.
     pub fn close(self, seat: GateSeat<F, C, F::Entry>) -> (F, C)
         requires gate { IsSeatOf self seat }
-        requires whole { weight_of seat ≡ (origin self).seats }
+        requires whole { seat_weight seat ≡ (origin self).seats }
         requires empty { HoldsNothing seat }
         ensures front { F.front_shows (origin self) result.0 (seen seat) }
         ensures commit { F.commit_shows (origin self) result.1 (seen seat) }
-        ensures legal { IsLegal (F.follows (origin self)) [] (seen seat) }
+        ensures legal { AreLegal (F.follows (origin self)) [] (seen seat) }
         ensures own { own seat ≡ numbered (origin self).height (seen seat) }
         ensures room { seen_height seat ≤ 2 ^ 63 }
     {

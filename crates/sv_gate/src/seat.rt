@@ -16,11 +16,11 @@ pub struct GateSeat<F, C, E> {
 }
 
 impl<F, C, E> GateSeat<F, C, E> {
-    ghost use Rattle.sv_gate.specs.Gates.{weight_of};
+    ghost use Rattle.sv_gate.specs.Gates.{seat_weight};
 
     /// The seat's part of the seats that its gate was made with.
     pub fn weight(&self) -> u32
-        ensures { result ≡ weight_of self.now }
+        ensures { result ≡ seat_weight self.now }
     {
         self.weight
     }

@@ -1,6 +1,6 @@
 //! The steps on a gate's table, over the seat that the table knows.
 ghost use Rattle.std.specs.Prelude.{◌≡◌, ℕ, ◌+◌, ◌^◌, ◌<◌, ◌≤◌, true, false, [], ◌∷◌, ◌++◌, length, Some};
-ghost use Rattle.sv_gate.specs.Histories.{StartsWith, IsLater, IsLegal, BeginsWithAll};
+ghost use Rattle.sv_gate.specs.Histories.{StartsWith, IsLater, AreLegal, BeginsWithAll};
 ghost use Rattle.sv_gate.specs.Knowledge.{carried, with_front, without_front, with_commit, without_commit, height_of, IsInOrder, with_entry, with_look, after_split, split_off, after_join};
 ghost use Rattle.sv_gate.specs.Seats.{knowledge, IsOf, IsSameSeat};
 ghost use Rattle.sv_gate.specs.Steps.{HasTakenFront, HasTakenCommit};
@@ -51,7 +51,7 @@ pub(crate) fn take_front<C, F: Shown<C>, R: Wait>(
     ensures later { IsLater F.is_light (knowledge seat.old).has_commit (knowledge seat.old).seen (knowledge seat.new).seen }
     ensures order { IsInOrder (knowledge seat.new) }
     ensures shown { F.front_shows shared.now.key result (knowledge seat.new).seen }
-    ensures legal { IsLegal (F.follows shared.now.key) [] (knowledge seat.new).seen }
+    ensures legal { AreLegal (F.follows shared.now.key) [] (knowledge seat.new).seen }
     ensures room { (knowledge seat.old).has_room ≡ true → height_of (knowledge seat.new) < 2 ^ 63 }
 {
     lock_front(rt, shared, seat);
@@ -146,7 +146,7 @@ pub(crate) fn take_commit<C, F: Shown<C>, R: Wait>(
     ensures later { StartsWith (knowledge seat.new).seen (knowledge seat.old).seen }
     ensures order { IsInOrder (knowledge seat.new) }
     ensures shown { F.commit_shows shared.now.key result (knowledge seat.new).seen }
-    ensures legal { IsLegal (F.follows shared.now.key) [] (knowledge seat.new).seen }
+    ensures legal { AreLegal (F.follows shared.now.key) [] (knowledge seat.new).seen }
 {
     lock_commit(rt, shared, seat);
     let content = shared.exchange(seat, COMMIT_SLOT, Content::Out);

@@ -14,9 +14,9 @@ use Rattle.ts_key.specs.Items.{Item}
 use Rattle.ts_key.specs.Lists.{IsOrdered, below}
 use Rattle.ts_key.specs.Ordered.{none_low}
 use Rattle.ts_key.specs.Firsts.{key_upto}
-use Rattle.ts_key.specs.Visible.{is_within}
+use Rattle.ts_key.specs.Visible.{is_item_within}
 use Rattle.udt_model.specs.Orders.{is_below}
-use Rattle.ts_iterator.specs.Rows.{are_of_one_key, emit, emit_of, given_before, is_between, is_decided, is_past, range_rows, rows_down, rows_up}
+use Rattle.ts_iterator.specs.Rows.{are_of_one_key, emit, emit_of, given_before, is_key_between, is_decided, is_past, range_rows, rows_down, rows_up}
 use Rattle.ts_iterator.proofs.Lasts.{down_is, first_at, firsts, lasts}
 use Rattle.ts_iterator.proofs.Ranges.{start, scan_is, unwanted, wanted as wanted_key, drop_sorted}
 use Rattle.ts_iterator.proofs.Keys.{key_trans, past_on}
@@ -26,7 +26,7 @@ clash b x y = cc
 
 module _ (floor : Ts) (low : List ℕ) (high : Option (List ℕ)) (t s : ℕ) where
   abbrev out : Item → Bool
-  out v = is_past high v.sort_key.key || not (is_within t s v)
+  out v = is_past high v.sort_key.key || not (is_item_within t s v)
 
   abbrev pub wanted : Item → Bool
   wanted v = not (is_below v.sort_key.key low) && not (out v)
@@ -147,9 +147,9 @@ module _ (floor : Ts) (low : List ℕ) (high : Option (List ℕ)) (t s : ℕ) wh
             let w : filter open_one (v ∷ vs) ≡ [] = rw x (past_all v vs x so.0) in
             let r : rows_up floor high t s d (v ∷ vs) ≡ [] = rw x refl in
             r ∙ sym (ap (firsts floor o) w)
-        | inr x ↦ elim (cases_Bool (is_within t s v)) [
+        | inr x ↦ elim (cases_Bool (is_item_within t s v)) [
           | inr y ↦
-              let h : (is_decided d v.sort_key.key || not (is_within t s v)) ≡ true = ap (λ b. is_decided d v.sort_key.key || not b) y ∙ or_true (is_decided d v.sort_key.key) in
+              let h : (is_decided d v.sort_key.key || not (is_item_within t s v)) ≡ true = ap (λ b. is_decided d v.sort_key.key || not b) y ∙ or_true (is_decided d v.sort_key.key) in
               let w : filter open_one (v ∷ vs) ≡ filter open_one vs = rw (x, y) refl in
               let r : rows_up floor high t s d (v ∷ vs) ≡ rows_up floor high t s d vs = rw (x, h) refl in
               r ∙ rows_firsts d o vs k so.1 ∙ sym (ap (firsts floor o) w)
@@ -157,12 +157,12 @@ module _ (floor : Ts) (low : List ℕ) (high : Option (List ℕ)) (t s : ℕ) wh
               let w : filter open_one (v ∷ vs) ≡ v ∷ filter open_one vs = rw (x, y) refl in
               elim (cases_Bool (is_decided d v.sort_key.key)) [
                 | inl z ↦
-                    let h : (is_decided d v.sort_key.key || not (is_within t s v)) ≡ true = ap (λ b. b || not (is_within t s v)) z in
+                    let h : (is_decided d v.sort_key.key || not (is_item_within t s v)) ≡ true = ap (λ b. b || not (is_item_within t s v)) z in
                     let r : rows_up floor high t s d (v ∷ vs) ≡ rows_up floor high t s d vs = rw (x, h) refl in
                     let q = decided_first d o v k z in
                     r ∙ rows_firsts d (Some v) vs q.1 so.1 ∙ sym (ap (λ ls. ls ++ firsts floor (Some v) (filter open_one vs)) q.0) ∙ sym (ap (firsts floor o) w)
                 | inr z ↦
-                    let h : (is_decided d v.sort_key.key || not (is_within t s v)) ≡ false = ap (λ b. b || not (is_within t s v)) z ∙ ap not y in
+                    let h : (is_decided d v.sort_key.key || not (is_item_within t s v)) ≡ false = ap (λ b. b || not (is_item_within t s v)) z ∙ ap not y in
                     let r : rows_up floor high t s d (v ∷ vs) ≡ emit floor v ++ rows_up floor high t s (Some v.sort_key.key) vs = rw (x, h) refl in
                     r ∙ ap (λ ls. emit floor v ++ ls) (rows_firsts (Some v.sort_key.key) (Some v) vs refl so.1) ∙ sym (ap (λ ls. ls ++ firsts floor (Some v) (filter open_one vs)) (new_first d o v k z)) ∙ sym (ap (firsts floor o) w)
               ]
@@ -172,14 +172,14 @@ module _ (floor : Ts) (low : List ℕ) (high : Option (List ℕ)) (t s : ℕ) wh
   abbrev first_place : SortKey
   first_place = start floor t s high low
 
-  not_wanted : (v : Item) → (is_between low high v.sort_key.key ≡ false) ⊎ (is_within t s v ≡ false) → wanted v ≡ false
-  not_wanted v (inl e) = tests (is_below v.sort_key.key low) (is_past high v.sort_key.key) (is_within t s v) e
+  not_wanted : (v : Item) → (is_key_between low high v.sort_key.key ≡ false) ⊎ (is_item_within t s v ≡ false) → wanted v ≡ false
+  not_wanted v (inl e) = tests (is_below v.sort_key.key low) (is_past high v.sort_key.key) (is_item_within t s v) e
     where
       tests : (a b c : Bool) → (not a && not b) ≡ false → (not a && not (b || not c)) ≡ false
       tests true b c e = refl
       tests false true c e = refl
       tests false false c e = absurd cc
-  not_wanted v (inr e) = tests (is_below v.sort_key.key low) (is_past high v.sort_key.key) (is_within t s v) e
+  not_wanted v (inr e) = tests (is_below v.sort_key.key low) (is_past high v.sort_key.key) (is_item_within t s v) e
     where
       tests : (a b c : Bool) → c ≡ false → (not a && not (b || not c)) ≡ false
       tests true b c e = refl
@@ -214,7 +214,7 @@ module _ (floor : Ts) (low : List ℕ) (high : Option (List ℕ)) (t s : ℕ) wh
             (λ i. cond (q i) (v ∷ open_from v vs k so.0 i) (open_from v vs k so.0 i)) ∙ sym (ap (λ m. filter open_one (drop m (v ∷ vs))) n)
       ]
 
-  -- D5 descending
+  -- a walk down shows the rows of a walk up, turned about
   pub scan_backwards : (vs : List Item) → IsOrdered vs → rows_down floor low high t s None (reverse vs) ≡ reverse (range_rows vs floor low high t s)
   scan_backwards vs so =
       rows_backwards vs so

@@ -12,12 +12,12 @@ use Rattle.ts_key.specs.Lists.{IsOrdered, below}
 use Rattle.ts_key.specs.Ordered.{none_low}
 use Rattle.ts_key.specs.Counts.{count_of_within}
 use Rattle.ts_key.specs.Firsts.{key_upto}
-use Rattle.ts_key.specs.Visible.{is_within}
+use Rattle.ts_key.specs.Visible.{is_item_within}
 use Rattle.udt_model.specs.declared.reply.Row.{Row}
 use Rattle.udt_model.specs.Orders.{is_below}
 use Rattle.ts_iterator.specs.Rows.{is_past, range_rows, rows_down}
 use Rattle.ts_iterator.specs.Rests.{rows_given}
-use Rattle.ts_iterator.specs.Walks.{IsLastBelow, behind, top_of}
+use Rattle.ts_iterator.specs.Walks.{IsLastBelow, back_from, top_of}
 use Rattle.ts_iterator.proofs.Keys.{not_after, past_on}
 use Rattle.ts_iterator.proofs.Lasts.{firsts}
 use Rattle.ts_iterator.proofs.Backwards.{rows_backwards, scan_backwards, wanted}
@@ -40,7 +40,7 @@ module _ (floor : Ts) (low high : List ℕ) (t s : ℕ) where
   among v = wanted floor low (Some high) t s v
 
   past_out : (v : Item) → is_past (Some high) v.sort_key.key ≡ true → among v ≡ false
-  past_out v y = ap (λ b. not (is_below v.sort_key.key low) && not (b || not (is_within t s v))) y ∙ none (is_below v.sort_key.key low)
+  past_out v y = ap (λ b. not (is_below v.sort_key.key low) && not (b || not (is_item_within t s v))) y ∙ none (is_below v.sort_key.key low)
     where
       none : (b : Bool) → (not b && false) ≡ false
       none true = refl
@@ -68,14 +68,14 @@ module _ (floor : Ts) (low high : List ℕ) (t s : ℕ) where
             ap (λ m. filter among (take m (v ∷ vs))) n ∙ sym (ap (λ b. cond b (v ∷ filter among vs) (filter among vs)) (past_out v p) ∙ past_all v vs p so.0)
       ]
 
-pub from_last : (floor : Ts) (low : List ℕ) (high : Option (List ℕ)) (t s : ℕ) (n : ℕ) (vs : List Item) → IsOrdered vs → IsLastBelow high n vs → rows_down floor low high t s None (behind n vs) ≡ reverse (range_rows vs floor low high t s)
+pub from_last : (floor : Ts) (low : List ℕ) (high : Option (List ℕ)) (t s : ℕ) (n : ℕ) (vs : List Item) → IsOrdered vs → IsLastBelow high n vs → rows_down floor low high t s None (back_from n vs) ≡ reverse (range_rows vs floor low high t s)
 from_last floor low None t s n vs so h =
-    ap (λ m. rows_down floor low None t s None (behind m vs)) h
+    ap (λ m. rows_down floor low None t s None (back_from m vs)) h
     ∙ ap (rows_down floor low None t s None) (behind_upto vs (length vs) (omega arith) ∙ ap reverse (take-length vs))
     ∙ scan_backwards floor low None t s vs so
 from_last floor low (Some high) t s n vs so h =
     let m = below (top_of high) vs in
-    ap (λ k. rows_down floor low (Some high) t s None (behind k vs)) h
+    ap (λ k. rows_down floor low (Some high) t s None (back_from k vs)) h
     ∙ ap (rows_down floor low (Some high) t s None) (behind_upto vs m (count_of_within (λ v. is_before v.sort_key (top_of high)) vs))
     ∙ rows_backwards floor low (Some high) t s (take m vs) (take_ordered m vs so)
     ∙ ap (λ fs. reverse (firsts floor None fs)) (wanted_upto floor low high t s vs so)

@@ -4,6 +4,8 @@ pub mod Lasts
 pub mod Backwards
 pub mod Steps
 pub mod StepsDown
+pub mod Passing
+pub mod PassingDown
 pub mod Ends
 pub mod Merged
 pub mod Whole

@@ -15,18 +15,18 @@ use Rattle.ts_key.specs.declared.numbers.Ts.{Ts}
 use Rattle.ts_key.specs.Order.{is_before}
 use Rattle.ts_key.specs.Orders.{is_Less}
 use Rattle.ts_key.specs.Items.{Item}
-use Rattle.ts_key.specs.Lists.{stored, with_item}
-use Rattle.ts_key.specs.Visible.{is_newer, is_seen, newer, newest_of, visible}
+use Rattle.ts_key.specs.Lists.{stored_items, with_item}
+use Rattle.ts_key.specs.Visible.{is_item_newer, is_item_seen, newer_item, newest_item, visible_item}
 use Rattle.ts_key.specs.Firsts.{lower, seen_of_key, slice_self}
 use Rattle.sorted_run.proofs.Sorting.{items-sorted}
 use Rattle.memtable.specs.Memtables as memtables
 use Rattle.memtable.specs.Memtables.{Memtable}
 use Rattle.memtable.proofs.Bests.{newer-assoc}
 use Rattle.super_version.specs.declared.family.FamilyState.{FamilyState}
-use Rattle.super_version.specs.Contents.{items_in, items_of_level, items_of_memtable}
+use Rattle.super_version.specs.Contents.{items_of_family, items_of_level, items_of_memtable}
 use Rattle.super_version.proofs.Greatest.{tested-append}
 use Rattle.udt_model.specs.Scans.{with_key}
-use Rattle.ts_iterator.specs.Rows.{emit_of, is_between, keys, range_rows}
+use Rattle.ts_iterator.specs.Rows.{emit_of, is_key_between, keys, range_rows}
 use Rattle.ts_iterator.specs.Sources.{items_of_runs, runs_and_tables}
 use Rattle.ts_iterator.proofs.Keys.{flat_agree, with_key_at, insert_at}
 
@@ -99,9 +99,9 @@ onto-with ks v (x ∷ xs) =
       | inr y ↦ rw y refl
     ]
 
-onto-stored : (ks : List (List ℕ)) (vs : List Item) → keys_onto ks (stored vs) ≡ keys_onto ks vs
+onto-stored : (ks : List (List ℕ)) (vs : List Item) → keys_onto ks (stored_items vs) ≡ keys_onto ks vs
 onto-stored ks [] = refl
-onto-stored ks (v ∷ vs) = onto-with ks v (stored vs) ∙ ap (with_key v.sort_key.key) (onto-stored ks vs)
+onto-stored ks (v ∷ vs) = onto-with ks v (stored_items vs) ∙ ap (with_key v.sort_key.key) (onto-stored ks vs)
 
 -- ---- the newest of those that pass a test
 
@@ -118,7 +118,7 @@ leave : {X : Type 0} (b : Bool) (x y : X) → b ≡ false → cond b x y ≡ y
 leave b x y e = rw e refl
 
 -- what comes first of one key in the stored order is newer
-before_newer : (x v : Item) → is_before x.sort_key v.sort_key ≡ true → x.sort_key.key ≡ v.sort_key.key → is_newer x v ≡ true
+before_newer : (x v : Item) → is_before x.sort_key v.sort_key ≡ true → x.sort_key.key ≡ v.sort_key.key → is_item_newer x v ≡ true
 before_newer x v h same =
     let p = x.sort_key in
     let q = v.sort_key in
@@ -127,21 +127,21 @@ before_newer x v h same =
     above q.ts p.ts q.seq p.seq (lower (nat_cmp q.ts p.ts) (nat_cmp q.seq p.seq) q.ts p.ts q.seq p.seq (ranked q.ts p.ts (nat_cmp q.ts p.ts) refl) (ranked q.seq p.seq (nat_cmp q.seq p.seq) refl) (is_Less (ordering_then (nat_cmp q.ts p.ts) (nat_cmp q.seq p.seq)) rest))
 
 module _ (key : List ℕ) (test : Item → Bool) (own : (v : Item) → test v ≡ true → v.sort_key.key ≡ key) where
-  swap : (x v : Item) → is_newer x v ≡ true → newer (Some x) (Some v) ≡ newer (Some v) (Some x)
+  swap : (x v : Item) → is_item_newer x v ≡ true → newer_item (Some x) (Some v) ≡ newer_item (Some v) (Some x)
   swap x v h =
-      let back : is_newer v x ≡ false = newer_back v.sort_key.ts v.sort_key.seq x.sort_key.ts x.sort_key.seq h in
-      leave (is_newer v x) (Some v) (Some x) back ∙ sym (choose (is_newer x v) (Some x) (Some v) h)
+      let back : is_item_newer v x ≡ false = newer_back v.sort_key.ts v.sort_key.seq x.sort_key.ts x.sort_key.seq h in
+      leave (is_item_newer v x) (Some v) (Some x) back ∙ sym (choose (is_item_newer x v) (Some x) (Some v) h)
 
-  over : (a b : Bool) (x v : Item) (F G : List Item) → (a ≡ true → b ≡ true → is_newer x v ≡ true) → newest_of G ≡ newest_of (cond b (v ∷ F) F) → newest_of (cond a (x ∷ G) G) ≡ newest_of (cond b (v ∷ cond a (x ∷ F) F) (cond a (x ∷ F) F))
+  over : (a b : Bool) (x v : Item) (F G : List Item) → (a ≡ true → b ≡ true → is_item_newer x v ≡ true) → newest_item G ≡ newest_item (cond b (v ∷ F) F) → newest_item (cond a (x ∷ G) G) ≡ newest_item (cond b (v ∷ cond a (x ∷ F) F) (cond a (x ∷ F) F))
   over false b x v F G h ih = ih
-  over true false x v F G h ih = ap (newer (Some x)) ih
+  over true false x v F G h ih = ap (newer_item (Some x)) ih
   over true true x v F G h ih =
-      ap (newer (Some x)) ih
-      ∙ newer-assoc (Some x) (Some v) (newest_of F)
-      ∙ ap (λ o. newer o (newest_of F)) (swap x v (h refl refl))
-      ∙ sym (newer-assoc (Some v) (Some x) (newest_of F))
+      ap (newer_item (Some x)) ih
+      ∙ newer-assoc (Some x) (Some v) (newest_item F)
+      ∙ ap (λ o. newer_item o (newest_item F)) (swap x v (h refl refl))
+      ∙ sym (newer-assoc (Some v) (Some x) (newest_item F))
 
-  tested-with : (v : Item) (vs : List Item) → newest_of (filter test (with_item v vs)) ≡ newest_of (filter test (v ∷ vs))
+  tested-with : (v : Item) (vs : List Item) → newest_item (filter test (with_item v vs)) ≡ newest_item (filter test (v ∷ vs))
   tested-with v [] = refl
   tested-with v (x ∷ xs) =
       elim (cases_Bool (is_before x.sort_key v.sort_key)) [
@@ -150,33 +150,33 @@ module _ (key : List ℕ) (test : Item → Bool) (own : (v : Item) → test v �
         | inr y ↦ rw y refl
       ]
 
-  on_front : (b : Bool) (x : Item) (F G : List Item) → newest_of F ≡ newest_of G → newest_of (cond b (x ∷ F) F) ≡ newest_of (cond b (x ∷ G) G)
-  on_front true x F G h = ap (newer (Some x)) h
+  on_front : (b : Bool) (x : Item) (F G : List Item) → newest_item F ≡ newest_item G → newest_item (cond b (x ∷ F) F) ≡ newest_item (cond b (x ∷ G) G)
+  on_front true x F G h = ap (newer_item (Some x)) h
   on_front false x F G h = h
 
-  tested-stored : (vs : List Item) → newest_of (filter test (stored vs)) ≡ newest_of (filter test vs)
+  tested-stored : (vs : List Item) → newest_item (filter test (stored_items vs)) ≡ newest_item (filter test vs)
   tested-stored [] = refl
-  tested-stored (v ∷ vs) = tested-with v (stored vs) ∙ on_front (test v) v (filter test (stored vs)) (filter test vs) (tested-stored vs)
+  tested-stored (v ∷ vs) = tested-with v (stored_items vs) ∙ on_front (test v) v (filter test (stored_items vs)) (filter test vs) (tested-stored vs)
 
 -- ---- lists that are alike to a scan
 
 pub record AreAlike (xs ys : List Item) : Type 0 where
-  pub seen : (key : List ℕ) (t s : ℕ) → visible xs key t s ≡ visible ys key t s
+  pub seen : (key : List ℕ) (t s : ℕ) → visible_item xs key t s ≡ visible_item ys key t s
   pub keyed : (ks : List (List ℕ)) → keys_onto ks xs ≡ keys_onto ks ys
 
 same_alike : (xs : List Item) → AreAlike xs xs
 same_alike xs = record { seen = λ key t s. refl; keyed = λ ks. refl }
 
-stored_alike : (vs : List Item) → AreAlike (stored vs) vs
-stored_alike vs = record { seen = λ key t s. tested-stored key (is_seen key t s) (seen_of_key key t s) vs; keyed = λ ks. onto-stored ks vs }
+stored_alike : (vs : List Item) → AreAlike (stored_items vs) vs
+stored_alike vs = record { seen = λ key t s. tested-stored key (is_item_seen key t s) (seen_of_key key t s) vs; keyed = λ ks. onto-stored ks vs }
 
 alike-append : (ws xs ys zs : List Item) → AreAlike ws xs → AreAlike ys zs → AreAlike (ws ++ ys) (xs ++ zs)
 alike-append ws xs ys zs g h = record {
   seen = λ key t s.
-      tested-append (is_seen key t s) ws ys
-      ∙ ap (λ (o : Option Item). newer o (visible ys key t s)) (g.seen key t s)
-      ∙ ap (newer (visible xs key t s)) (h.seen key t s)
-      ∙ sym (tested-append (is_seen key t s) xs zs);
+      tested-append (is_item_seen key t s) ws ys
+      ∙ ap (λ (o : Option Item). newer_item o (visible_item ys key t s)) (g.seen key t s)
+      ∙ ap (newer_item (visible_item xs key t s)) (h.seen key t s)
+      ∙ sym (tested-append (is_item_seen key t s) xs zs);
   keyed = λ ks. onto-append ks ws ys ∙ ap (λ ls. keys_onto ls ws) (h.keyed ks) ∙ g.keyed (keys_onto ks zs) ∙ sym (onto-append ks xs zs);
 }
 
@@ -187,7 +187,7 @@ memtables_alike : (ms : List Memtable) → AreAlike (flat_map items_of_memtable 
 memtables_alike [] = same_alike []
 memtables_alike (m ∷ ms) = alike-append (items_of_memtable m) (items_of_runs m) (flat_map items_of_memtable ms) (flat_map items_of_runs ms) (memtable_alike m) (memtables_alike ms)
 
-lists_alike : (f : FamilyState) → AreAlike (items_in f) (runs_and_tables f)
+lists_alike : (f : FamilyState) → AreAlike (items_of_family f) (runs_and_tables f)
 lists_alike f =
     let tables = flat_map items_of_level f.levels in
     alike-append (items_of_memtable f.active) (items_of_runs f.active) (flat_map items_of_memtable f.sealed ++ tables) (flat_map items_of_runs f.sealed ++ tables) (memtable_alike f.active)
@@ -195,11 +195,11 @@ lists_alike f =
 
 rows_alike : (floor : Ts) (low : List ℕ) (high : Option (List ℕ)) (t s : ℕ) (xs ys : List Item) → AreAlike xs ys → range_rows xs floor low high t s ≡ range_rows ys floor low high t s
 rows_alike floor low high t s xs ys h =
-    ap (λ ks. flat_map (λ key. emit_of floor (visible xs key t s)) (filter (is_between low high) ks)) (keys_are xs ∙ h.keyed [] ∙ sym (keys_are ys))
-    ∙ flat_agree (λ key. emit_of floor (visible xs key t s)) (λ key. emit_of floor (visible ys key t s)) (is_between low high) (keys ys) (λ key y. ap (emit_of floor) (h.seen key t s))
+    ap (λ ks. flat_map (λ key. emit_of floor (visible_item xs key t s)) (filter (is_key_between low high) ks)) (keys_are xs ∙ h.keyed [] ∙ sym (keys_are ys))
+    ∙ flat_agree (λ key. emit_of floor (visible_item xs key t s)) (λ key. emit_of floor (visible_item ys key t s)) (is_key_between low high) (keys ys) (λ key y. ap (emit_of floor) (h.seen key t s))
 
 -- a scan of the merged runs and tables has the rows of the family's lists
-pub merged_rows : (floor : Ts) (low : List ℕ) (high : Option (List ℕ)) (t s : ℕ) (f : FamilyState) → range_rows (stored (runs_and_tables f)) floor low high t s ≡ range_rows (items_in f) floor low high t s
+pub merged_rows : (floor : Ts) (low : List ℕ) (high : Option (List ℕ)) (t s : ℕ) (f : FamilyState) → range_rows (stored_items (runs_and_tables f)) floor low high t s ≡ range_rows (items_of_family f) floor low high t s
 merged_rows floor low high t s f =
-    rows_alike floor low high t s (stored (runs_and_tables f)) (runs_and_tables f) (stored_alike (runs_and_tables f))
-    ∙ sym (rows_alike floor low high t s (items_in f) (runs_and_tables f) (lists_alike f))
+    rows_alike floor low high t s (stored_items (runs_and_tables f)) (runs_and_tables f) (stored_alike (runs_and_tables f))
+    ∙ sym (rows_alike floor low high t s (items_of_family f) (runs_and_tables f) (lists_alike f))

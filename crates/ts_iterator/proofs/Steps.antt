@@ -5,11 +5,11 @@ use Rattle.std.proofs.lemmas.Bool.{le-leb}
 use Rattle.ts_key.specs.declared.numbers.Ts.{Ts}
 use Rattle.ts_key.specs.Items.{Item}
 use Rattle.ts_key.specs.Lists.{standing, onward}
-use Rattle.ts_key.specs.Visible.{is_within}
+use Rattle.ts_key.specs.Visible.{is_item_within}
 use Rattle.ts_iterator.specs.Rows.{rows_up, emit, is_past, is_decided}
 use Rattle.ts_iterator.specs.Walks.{ahead}
 
-head_at : (vs : List Item) (n : ℕ) (v : Item) → slice_get vs n ≡ Some v → drop n vs ≡ v ∷ drop (suc n) vs
+pub head_at : (vs : List Item) (n : ℕ) (v : Item) → slice_get vs n ≡ Some v → drop n vs ≡ v ∷ drop (suc n) vs
 head_at [] n v e = absurd cc
 head_at (x ∷ xs) zero v e = let q : x ≡ v = cc in ap (λ (y : Item). y ∷ xs) q
 head_at (x ∷ xs) (suc n) v e = head_at xs n v e
@@ -52,12 +52,12 @@ module _ (floor : Ts) (high : Option (List ℕ)) (t s : ℕ) (decided : Option (
   past_high y = ap (rows_up floor high t s decided) (ahead_at vs p (onward (length vs) p) v at refl) ∙ ends y (ahead (onward (length vs) p) vs)
 
   module _ (o : q ≡ onward (length vs) p) (n : is_past high v.sort_key.key ≡ false) where
-    pub skipped : (is_decided decided v.sort_key.key || not (is_within t s v)) ≡ true → rows_up floor high t s decided (ahead q vs) ≡ rows_up floor high t s decided (ahead p vs)
+    pub skipped : (is_decided decided v.sort_key.key || not (is_item_within t s v)) ≡ true → rows_up floor high t s decided (ahead q vs) ≡ rows_up floor high t s decided (ahead p vs)
     skipped y =
         let e : rows_up floor high t s decided (v ∷ ahead q vs) ≡ rows_up floor high t s decided (ahead q vs) = rw (n, y) refl in
         sym (ap (rows_up floor high t s decided) (ahead_at vs p q v at o) ∙ e)
 
-    pub given : (is_decided decided v.sort_key.key || not (is_within t s v)) ≡ false → rows_up floor high t s decided (ahead p vs) ≡ emit floor v ++ rows_up floor high t s (Some v.sort_key.key) (ahead q vs)
+    pub given : (is_decided decided v.sort_key.key || not (is_item_within t s v)) ≡ false → rows_up floor high t s decided (ahead p vs) ≡ emit floor v ++ rows_up floor high t s (Some v.sort_key.key) (ahead q vs)
     given y =
         let e : rows_up floor high t s decided (v ∷ ahead q vs) ≡ emit floor v ++ rows_up floor high t s (Some v.sort_key.key) (ahead q vs) = rw (n, y) refl in
         ap (rows_up floor high t s decided) (ahead_at vs p q v at o) ∙ e

@@ -2,7 +2,7 @@
 use Rattle.std.specs.Prelude.{ℕ, ◌+◌, ◌≤◌, Bool, List, ◌++◌, length, map}
 use Rattle.std.specs.List.{flat_map}
 use Rattle.ts_key.specs.Items.{Item, items_of}
-use Rattle.ts_key.specs.Lists.{IsOrdered, joined}
+use Rattle.ts_key.specs.Lists.{IsOrdered, joined_lists}
 use Rattle.ts_key.specs.Ordered.{ordered_from}
 use Rattle.memtable.specs.Memtables as memtables
 use Rattle.memtable.specs.Memtables.{Memtable}
@@ -31,7 +31,7 @@ within (Table c) = c.within
 
 -- what several walk over, one after the other
 abbrev pub items_of_all : List Source → List Item
-items_of_all sources = joined (map items sources)
+items_of_all sources = joined_lists (map items sources)
 
 -- the runs of a memtable, one after the other
 abbrev pub items_of_runs : Memtable → List Item
@@ -43,9 +43,9 @@ runs_and_tables f = items_of_runs f.active ++ (flat_map items_of_runs f.sealed +
 
 -- ---- a walk over several
 
-abbrev pub walked : List Source → List Item
-walked sources = all (sides items place sources)
+abbrev pub walked_sources : List Source → List Item
+walked_sources sources = all (sides items place sources)
 
 -- where it stands: 0 before the first, i + 1 at the one with index i, and one more after the last
-abbrev pub walk_place : Bool → List Source → ℕ
-walk_place before sources = merged_place before (sides items place sources)
+abbrev pub source_walk_place : Bool → List Source → ℕ
+source_walk_place before sources = merged_place before (sides items place sources)

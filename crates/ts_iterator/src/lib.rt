@@ -2,7 +2,9 @@
 #![tactic(auto)]
 
 mod down;
+mod held;
 pub mod laws;
+mod passed;
 mod rows;
 pub mod scan;
 mod source;

@@ -1,13 +1,13 @@
 //! The scan of a range.
 ghost use Rattle.std.specs.Prelude.{◌≡◌, ◌+◌, ◌<◌, ◌≤◌, [], ◌∷◌, length, reverse, slice_get, IfErr, IfOk, MatchOption, MatchResult, Some};
 ghost use Rattle.std.specs.Option.{option_copied};
-ghost use Rattle.ts_key.specs.Lists.{below, stored};
+ghost use Rattle.ts_key.specs.Lists.{below, stored_items};
 ghost use Rattle.super_version.specs.declared.family.FamilyState.{FamilyState as StateOf};
-ghost use Rattle.super_version.specs.Contents.{items_in, versions_in};
+ghost use Rattle.super_version.specs.Contents.{items_of_family, versions_in};
 ghost use Rattle.udt_model.specs.Scans.{rows_of};
 ghost use Rattle.ts_iterator.specs.Rests.{in_order_of, rest, rest_of};
-ghost use Rattle.ts_iterator.specs.Rows.{least_of, range_rows};
-ghost use Rattle.ts_iterator.specs.Sources.{runs_and_tables, walk_place, walked};
+ghost use Rattle.ts_iterator.specs.Rows.{least_key, range_rows};
+ghost use Rattle.ts_iterator.specs.Sources.{runs_and_tables, source_walk_place, walked_sources};
 ghost use Rattle.ts_iterator.specs.Walks.{IsLastBelow};
 
 use crate::NoMemory;
@@ -66,9 +66,9 @@ fn walk_up<'a>(
     t: Ts,
     s: Seq,
 ) -> Result<Walk<'a>, NoMemory>
-    ensures walked { IfOk result (λ walk. walked walk.children.items ≡ stored (runs_and_tables state.now)) }
-    ensures place { IfOk result (λ walk. walk_place walk.before walk.children.items
-        ≡ below (record { key = least_of (option_copied low.entry); ts = t.0; seq = s.0 }) (stored (runs_and_tables state.now)) + 1) }
+    ensures walked { IfOk result (λ walk. walked_sources walk.children.items ≡ stored_items (runs_and_tables state.now)) }
+    ensures place { IfOk result (λ walk. source_walk_place walk.before walk.children.items
+        ≡ below (record { key = least_key (option_copied low.entry); ts = t.0; seq = s.0 }) (stored_items (runs_and_tables state.now)) + 1) }
 {
     let key: &[u8] = match low {
         None => &[],
@@ -84,8 +84,8 @@ fn walk_down<'a>(
     state: &'a FamilyState,
     high: Option<&Key>,
 ) -> Result<Walk<'a>, NoMemory>
-    ensures walked { IfOk result (λ walk. walked walk.children.items ≡ stored (runs_and_tables state.now)) }
-    ensures place { IfOk result (λ walk. IsLastBelow (option_copied high.entry) (walk_place walk.before walk.children.items) (stored (runs_and_tables state.now))) }
+    ensures walked { IfOk result (λ walk. walked_sources walk.children.items ≡ stored_items (runs_and_tables state.now)) }
+    ensures place { IfOk result (λ walk. IsLastBelow (option_copied high.entry) (source_walk_place walk.before walk.children.items) (stored_items (runs_and_tables state.now))) }
 {
     let key: &[u8] = match high {
         None => &[],
@@ -114,7 +114,7 @@ fn upwards<'a>(
     s: Seq,
 ) -> Result<Way<'a>, NoMemory>
     ensures { IfOk result (λ way. rest_of way
-        ≡ range_rows (items_in state.now) state.now.floor (least_of (option_copied low.entry)) (option_copied high.entry) t.0 s.0) }
+        ≡ range_rows (items_of_family state.now) state.now.floor (least_key (option_copied low.entry)) (option_copied high.entry) t.0 s.0) }
 {
     let walk = walk_up(alloc, state, low, t, s)?;
     let up = Up::new(walk, bound(high)?, state.floor, t, s);
@@ -131,7 +131,7 @@ fn downwards<'a>(
     s: Seq,
 ) -> Result<Way<'a>, NoMemory>
     ensures { IfOk result (λ way. rest_of way
-        ≡ reverse (range_rows (items_in state.now) state.now.floor (least_of (option_copied low.entry)) (option_copied high.entry) t.0 s.0)) }
+        ≡ reverse (range_rows (items_of_family state.now) state.now.floor (least_key (option_copied low.entry)) (option_copied high.entry) t.0 s.0)) }
 {
     let walk = walk_down(alloc, state, high)?;
     let (low, high) = (bound(low)?, bound(high)?);
@@ -150,7 +150,7 @@ fn way_of<'a>(
     forward: bool,
 ) -> Result<Way<'a>, NoMemory>
     ensures { IfOk result (λ way. rest_of way ≡ in_order_of forward
-        (range_rows (items_in state.now) state.now.floor (least_of (option_copied low.entry)) (option_copied high.entry) t.0 s.0)) }
+        (range_rows (items_of_family state.now) state.now.floor (least_key (option_copied low.entry)) (option_copied high.entry) t.0 s.0)) }
 {
     if forward {
         return upwards(alloc, state, low, high, t, s);

@@ -6,7 +6,7 @@ use Rattle.std.specs.declared.cmp.Ordering.TheVariants.{Less}
 use Rattle.std.proofs.lemmas.Bool.{cases_Bool}
 use Rattle.ts_key.specs.Order.{SortKey, sort_cmp, is_before}
 use Rattle.ts_key.specs.Items.{Item}
-use Rattle.ts_key.specs.Lists.{count_of, with_item, stored}
+use Rattle.ts_key.specs.Lists.{count_of, with_item, stored_items}
 use Rattle.ts_key.specs.Orders.{before_from, before_trans}
 
 abbrev pub In : Item → List Item → Type 0
@@ -32,9 +32,9 @@ count_of-with_item p v (x ∷ xs) =
       | inr y ↦ rw y refl
     ]
 
-pub count_of-stored : (p : Item → Bool) (xs : List Item) → count_of p (stored xs) ≡ count_of p xs
+pub count_of-stored : (p : Item → Bool) (xs : List Item) → count_of p (stored_items xs) ≡ count_of p xs
 count_of-stored p [] = refl
-count_of-stored p (x ∷ xs) = count_of-with_item p x (stored xs) ∙ ap (λ n. (if p x then 1 else 0) + n) (count_of-stored p xs)
+count_of-stored p (x ∷ xs) = count_of-with_item p x (stored_items xs) ∙ ap (λ n. (if p x then 1 else 0) + n) (count_of-stored p xs)
 
 pub length-with_item : (v : Item) (xs : List Item) → length (with_item v xs) ≡ suc (length xs)
 length-with_item v [] = refl
@@ -44,9 +44,9 @@ length-with_item v (x ∷ xs) =
       | inr y ↦ rw y refl
     ]
 
-pub length-stored : (xs : List Item) → length (stored xs) ≡ length xs
+pub length-stored : (xs : List Item) → length (stored_items xs) ≡ length xs
 length-stored [] = refl
-length-stored (x ∷ xs) = length-with_item x (stored xs) ∙ ap suc (length-stored xs)
+length-stored (x ∷ xs) = length-with_item x (stored_items xs) ∙ ap suc (length-stored xs)
 
 pub count_of_within : (p : Item → Bool) (vs : List Item) → count_of p vs ≤ length vs
 count_of_within p [] = omega arith

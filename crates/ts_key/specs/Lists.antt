@@ -47,15 +47,15 @@ with_item v [] = v ∷ []
 with_item v (x ∷ xs) = if is_before x.sort_key v.sort_key then x ∷ with_item v xs else v ∷ x ∷ xs
 
 -- the versions in the stored order; of two with one sort key the first comes first
-abbrev pub stored : List Item → List Item
-stored [] = []
-stored (v ∷ vs) = with_item v (stored vs)
+abbrev pub stored_items : List Item → List Item
+stored_items [] = []
+stored_items (v ∷ vs) = with_item v (stored_items vs)
 
 -- one list after the other
-abbrev pub joined : List (List Item) → List Item
-joined [] = []
-joined (vs ∷ rest) = vs ++ joined rest
+abbrev pub joined_lists : List (List Item) → List Item
+joined_lists [] = []
+joined_lists (vs ∷ rest) = vs ++ joined_lists rest
 
 -- several lists merged
 abbrev pub merged : List (List Item) → List Item
-merged lists = stored (joined lists)
+merged lists = stored_items (joined_lists lists)

@@ -7,7 +7,7 @@ use Rattle.std.specs.declared.cmp.Ordering.TheVariants.{Less}
 use Rattle.std.proofs.lemmas.Bool.{cases_Bool}
 use Rattle.ts_key.specs.Order.{SortKey, sort_cmp, is_before}
 use Rattle.ts_key.specs.Items.{Item}
-use Rattle.ts_key.specs.Lists.{IsSorted, IsOrdered, IsDistinct, count_of, below, standing, with_item, stored}
+use Rattle.ts_key.specs.Lists.{IsSorted, IsOrdered, IsDistinct, count_of, below, standing, with_item, stored_items}
 use Rattle.ts_key.specs.Orders.{less_from, before_from, before_back, cmp_itself, upto_upto, apart_before}
 use Rattle.ts_key.specs.Counts.{get_In, In_after, count_of-stored, count_of_some}
 
@@ -51,7 +51,7 @@ sorted_from (v ∷ vs) o one =
     (after_sorted v vs (omega (arith, h')) o.0, sorted_from vs o.1 (λ p. let t : here p (v ∷ vs) ≤ 1 = one p in omega (arith, t)))
 
 -- the merged list has no two at one place where the joined one hasn't
-pub stored_distinct : (w : List Item) → IsDistinct w → IsDistinct (stored w)
+pub stored_distinct : (w : List Item) → IsDistinct w → IsDistinct (stored_items w)
 stored_distinct w one p = let h = count_of-stored (λ v. is_eq (sort_cmp v.sort_key p)) w in let q : here p w ≤ 1 = one p in omega (arith, h, q)
 
 -- ---- the stored list is ordered
@@ -76,9 +76,9 @@ with_item_ordered v (x ∷ xs) o =
       | inr y ↦ rw y ((y, rest_after v x xs y o.0), o)
     ]
 
-pub stored_ordered : (w : List Item) → IsOrdered (stored w)
+pub stored_ordered : (w : List Item) → IsOrdered (stored_items w)
 stored_ordered [] = tt
-stored_ordered (x ∷ xs) = with_item_ordered x (stored xs) (stored_ordered xs)
+stored_ordered (x ∷ xs) = with_item_ordered x (stored_items xs) (stored_ordered xs)
 
 -- ---- neighbours
 
@@ -174,5 +174,5 @@ count_cut q down (x ∷ xs) (suc n) o l b f =
     rw y (omega (arith, r))
 
 -- where no two of the lists' versions stand at one place, the merged list is strictly sorted
-pub stored_sorted : (w : List Item) → IsDistinct w → IsSorted (stored w)
-stored_sorted w one = sorted_from (stored w) (stored_ordered w) (stored_distinct w one)
+pub stored_sorted : (w : List Item) → IsDistinct w → IsSorted (stored_items w)
+stored_sorted w one = sorted_from (stored_items w) (stored_ordered w) (stored_distinct w one)

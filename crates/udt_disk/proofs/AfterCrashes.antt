@@ -8,7 +8,7 @@ use Rattle.udt_disk.specs.Bytes.{Torn}
 use Rattle.udt_disk.specs.Crash.{Image}
 use Rattle.udt_disk.specs.History.{undone, is_synced, First, CallsLeave}
 use Rattle.udt_disk.specs.Outcomes.{synced_bytes, spoiled, spoiled_at}
-use Rattle.udt_disk.specs.Tree.{entry_of, place_of}
+use Rattle.udt_disk.specs.Tree.{entry_named, place_in_entry}
 use Rattle.udt_disk.specs.Files.{FileLeaves, PlaceLeaves, file_stays}
 use Rattle.udt_disk.specs.Crashed.{lost_birth, file_crash, place_crash, synced_before, entry_crash}
 use Rattle.udt_disk.specs.Directory.{NameLeaves}
@@ -96,10 +96,10 @@ place_left Hostile (Gone f) before = inr (file_left f Hostile before)
 place_left outcome Out before = tt
 place_left outcome Missing before = refl
 
-entry_left : (outcome : Outcome) (entry : Option Entry) → PlaceLeaves (place_of entry) (entry_crash outcome entry)
+entry_left : (outcome : Outcome) (entry : Option Entry) → PlaceLeaves (place_in_entry entry) (entry_crash outcome entry)
 entry_left outcome None = refl
 entry_left outcome (Some e) = place_left outcome e.place (synced_before e.before)
 
 -- each outcome is one of the images that a crash may leave
 pub name_left : (outcome : Outcome) (dir : Directory) (n : FileName) → NameLeaves dir n (crash_image outcome dir n)
-name_left outcome dir n = entry_left outcome (entry_of dir.tree n)
+name_left outcome dir n = entry_left outcome (entry_named dir.tree n)

@@ -2,7 +2,7 @@
 use Rattle.std.specs.Prelude.{◌≡◌, ◌||◌, ℕ, Bool, not, max, cond, List, length, reverse, Option, Some, None}
 use Rattle.udt_disk.specs.Crash.{Image}
 use Rattle.udt_disk.specs.Outcomes.{synced_bytes, spoiled}
-use Rattle.udt_disk.specs.Tree.{place_of, early}
+use Rattle.udt_disk.specs.Tree.{place_in_entry, early}
 use Rattle.udt_disk.specs.Files.{PlaceLeaves, place_stands}
 use Rattle.udt_disk.specs.declared.mem_file.FileData.{FileData}
 use Rattle.udt_disk.specs.declared.outcome.Outcome.{Outcome}
@@ -69,12 +69,12 @@ pub record IsCleanPlace (place : Option Place) (image : Image) : Type 0 where
 
 -- the new entry is clean and has what the outcome leaves of the old one; nothing comes back there
 pub record IsCrashed (outcome : Outcome) (old new : Option Entry) : Type 0 where
-  pub clean : IsCleanPlace (place_of new) (entry_crash outcome old)
+  pub clean : IsCleanPlace (place_in_entry new) (entry_crash outcome old)
   pub first : early new ≡ 0
   pub back : image_before new ≡ None
 
 -- the new entry is clean and has what stands at the old one; nothing comes back there
 pub record IsCleaned (old new : Option Entry) : Type 0 where
-  pub clean : IsCleanPlace (place_of new) (place_stands (place_of old))
+  pub clean : IsCleanPlace (place_in_entry new) (place_stands (place_in_entry old))
   pub same : early new ≡ early old
   pub back : image_before new ≡ None

@@ -5,7 +5,7 @@ use Rattle.udt_disk.specs.Causes.{plus_faults}
 use Rattle.udt_disk.specs.Opens.{Standing}
 use Rattle.udt_disk.specs.OpensFolder.{Holding, MayStay}
 use Rattle.udt_disk.specs.Files.{place_stands}
-use Rattle.udt_disk.specs.Directory.{NameLeaves, comes_back, name_stays, place_at}
+use Rattle.udt_disk.specs.Directory.{NameLeaves, comes_back, name_stays, place_named}
 use Rattle.udt_disk.specs.Memory.{Reading}
 use Rattle.udt_disk.specs.Places.{has_path, stands_in, source_of, folder_of}
 use Rattle.udt_disk.specs.declared.name.FileName.{FileName}
@@ -13,8 +13,8 @@ use Rattle.udt_disk.specs.declared.mem_disk.MemDisk.{MemDisk}
 use Rattle.udt_disk.specs.declared.mem_host.MemHost.{MemHost}
 
 -- what stands under the names of a folder
-abbrev pub contents_of : MemDisk → FileName → Image
-contents_of disk name = place_stands (place_at disk.directory name)
+abbrev pub folder_contents : MemDisk → FileName → Image
+folder_contents disk name = place_stands (place_named disk.directory name)
 
 -- its count of faults
 abbrev pub faults_of : MemDisk → ℕ
@@ -22,16 +22,16 @@ faults_of disk = plus_faults (plus_faults disk.troubled disk.starved) disk.given
 
 -- a folder that was opened is clean, and has what stood there, with its count; nothing comes back in it
 pub record IsOpening (opened stood : MemDisk) : Type 0 where
-  pub stands : (n : FileName) → contents_of opened n ≡ contents_of stood n
-  pub clean : (n : FileName) (c : Image) → NameLeaves opened.directory n c → c ≡ contents_of opened n
+  pub stands : (n : FileName) → folder_contents opened n ≡ folder_contents stood n
+  pub clean : (n : FileName) (c : Image) → NameLeaves opened.directory n c → c ≡ folder_contents opened n
   pub back : (n : FileName) → comes_back opened.directory n ≡ None
   pub faults : faults_of opened ≡ faults_of stood
   pub troubles : opened.troubles.items ≡ stood.troubles.items
 
 -- a new folder is empty and clean, its count is 0, and nothing is to go wrong in it
 pub record IsNewFolder (disk : MemDisk) : Type 0 where
-  pub stands : (n : FileName) → contents_of disk n ≡ None
-  pub clean : (n : FileName) (c : Image) → NameLeaves disk.directory n c → c ≡ contents_of disk n
+  pub stands : (n : FileName) → folder_contents disk n ≡ None
+  pub clean : (n : FileName) (c : Image) → NameLeaves disk.directory n c → c ≡ folder_contents disk n
   pub back : (n : FileName) → comes_back disk.directory n ≡ None
   pub faults : faults_of disk ≡ 0
   pub troubles : disk.troubles.items ≡ []
@@ -49,7 +49,7 @@ abbrev pub source_standing : MemHost → List ℕ → Standing
 source_standing host path = Some (option_map (λ source. source.left) (source_at host path))
 
 abbrev pub folder_standing : MemHost → List ℕ → Holding
-folder_standing host path = Some (option_map contents_of (folder_in host path))
+folder_standing host path = Some (option_map folder_contents (folder_in host path))
 
 -- what a crash may leave of a folder, if there is one
 abbrev pub leaves_of : Option MemDisk → FileName → Image → Type 0
@@ -57,7 +57,7 @@ leaves_of None n c = ⊥
 leaves_of (Some disk) n c = NameLeaves disk.directory n c
 
 -- what stands there is one of the images
-pub folder_stays : (folder : Option MemDisk) → MayStay (Some (option_map contents_of folder)) (leaves_of folder)
+pub folder_stays : (folder : Option MemDisk) → MayStay (Some (option_map folder_contents folder)) (leaves_of folder)
 folder_stays None = tt
 folder_stays (Some disk) = λ n. name_stays disk.directory n
 

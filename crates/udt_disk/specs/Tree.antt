@@ -12,12 +12,12 @@ abbrev pub entry_from : Tree → ℕ → FileName → Option Entry
 entry_from Empty bits n = None
 entry_from (Fork' p e even odd) bits n = cond (same_name e.name n) (Some e) (cond (bits % 2 == 1) (entry_from odd (bits / 2) n) (entry_from even (bits / 2) n))
 
-abbrev pub entry_of : Tree → FileName → Option Entry
-entry_of tree n = entry_from tree (number_of n) n
+abbrev pub entry_named : Tree → FileName → Option Entry
+entry_named tree n = entry_from tree (number_of n) n
 
-abbrev pub place_of : Option Entry → Option Place
-place_of None = None
-place_of (Some e) = Some e.place
+abbrev pub place_in_entry : Option Entry → Option Place
+place_in_entry None = None
+place_in_entry (Some e) = Some e.place
 
 -- when the file of the name was last given back, 0 where none was
 abbrev pub early : Option Entry → ℕ
@@ -26,8 +26,8 @@ early (Some e) = e.since
 
 -- the name has this entry, if any, and the others have what they had
 pub record Changed (name : FileName) (entry : Option Entry) (old new : Tree) : Type 0 where
-  pub there : entry_of new name ≡ entry
-  pub others : (n : FileName) → n ≢ name → entry_of new n ≡ entry_of old n
+  pub there : entry_named new name ≡ entry
+  pub others : (n : FileName) → n ≢ name → entry_named new n ≡ entry_named old n
 
 -- the entry that is lent
 abbrev pub lent : Option (Bor Entry) → Option Entry

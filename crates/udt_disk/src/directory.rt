@@ -3,7 +3,7 @@
 ghost use Rattle.std.specs.Prelude.{◌≡◌, ◌≢◌, ◌<◌, ◌≤◌, ℕ, ◌+◌, if◌then◌else◌, Option, Some, None, IfSome, IfNone, IfOk};
 ghost use Rattle.udt_disk.specs.declared.name.FileName.{FileName as NameOf};
 ghost use Rattle.udt_disk.specs.declared.tree.Place.TheVariants.{Home, Out};
-ghost use Rattle.udt_disk.specs.Tree.{entry_of, place_of, early};
+ghost use Rattle.udt_disk.specs.Tree.{entry_named, place_in_entry, early};
 ghost use Rattle.udt_disk.specs.Files.{place_stands, bytes_of, LeavesBirth};
 ghost use Rattle.udt_disk.specs.Crashed.{emptied_by};
 ghost use Rattle.udt_disk.specs.Late.{late_long, late_since};
@@ -28,7 +28,7 @@ pub(crate) struct Directory {
     pub(crate) returns: u64,
     /// Those that `returns` can't count, so that each file that is given back makes a new moment.
     pub(crate) late: Late,
-    pub(crate) ghost counted: { (n : NameOf) → early (entry_of tree n) ≤ returns },
+    pub(crate) ghost counted: { (n : NameOf) → early (entry_named tree n) ≤ returns },
 }
 
 /// The room in which a file is given back, so that this takes no memory.
@@ -58,11 +58,11 @@ impl Room {
 }
 
 impl Directory {
-    ghost use Rattle.udt_disk.specs.Directory.{Put, Moved, Removed, Same, Made, NameLeaves, comes_back, place_at};
+    ghost use Rattle.udt_disk.specs.Directory.{Put, Moved, Removed, Same, Made, NameLeaves, comes_back, place_named};
     ghost use Rattle.udt_disk.specs.AfterCrash.{IsReopened};
 
     pub(crate) fn new() -> Directory
-        ensures places { (n : NameOf) → place_at result n ≡ None }
+        ensures places { (n : NameOf) → place_named result n ≡ None }
         ensures back { (n : NameOf) → comes_back result n ≡ None }
     {
         Directory {
@@ -74,7 +74,7 @@ impl Directory {
 
     /// The bytes that stand under a name.
     pub(crate) fn contents(&self, name: FileName) -> Option<&[u8]>
-        ensures { bytes_of result ≡ place_stands (place_at self.now name) }
+        ensures { bytes_of result ≡ place_stands (place_named self.now name) }
     {
         match &self.tree.entry(name)?.place {
             Place::Home(file) => Some(&file.bytes),
@@ -85,7 +85,7 @@ impl Directory {
     /// What a file may be after a crash that is created now under a name.
     pub(crate) fn birth(&self, name: FileName) -> Birth
         ensures leaves { LeavesBirth result.may_miss result.may_differ (NameLeaves self.now name) }
-        ensures emptied { result.emptied ≡ emptied_by (place_at self.now name) }
+        ensures emptied { result.emptied ≡ emptied_by (place_named self.now name) }
     {
         match self.tree.entry(name) {
             Some(entry) => entry.place.birth(),
@@ -107,8 +107,8 @@ impl Directory {
 
     /// Takes the file of a name out, if it is there.
     pub(crate) fn take_out(&mut self, name: FileName) -> Option<FileData>
-        ensures taken { IfSome result (λ f. (place_at self.old name ≡ Some (Home f)) × Moved name Out self.old self.new) }
-        ensures missing { IfNone result (place_stands (place_at self.old name) ≡ None) }
+        ensures taken { IfSome result (λ f. (place_named self.old name ≡ Some (Home f)) × Moved name Out self.old self.new) }
+        ensures missing { IfNone result (place_stands (place_named self.old name) ≡ None) }
         ensures same { IfNone result (Same self.old self.new) }
         ensures back { (n : NameOf) → comes_back self.new n ≡ comes_back self.old n }
     {

@@ -6,7 +6,7 @@ ghost use Rattle.udt_disk.specs.Causes.{plus_faults};
 ghost use Rattle.udt_disk.specs.History.{LeftSince, counts_since, only_since};
 ghost use Rattle.udt_disk.specs.Files.{FileLeaves, IsFresh, LeavesBirth, place_stands, file_stays, bytes_of};
 ghost use Rattle.udt_disk.specs.Crashed.{emptied_by};
-ghost use Rattle.udt_disk.specs.Directory.{Made, NameLeaves, place_at};
+ghost use Rattle.udt_disk.specs.Directory.{Made, NameLeaves, place_named};
 ghost use Rattle.udt_disk.specs.Crash.{Image};
 ghost use Rattle.udt_disk.specs.declared.tree.Place.TheVariants.{Home, Out};
 ghost use Rattle.udt_disk.specs.declared.name.FileName.{FileName as NameOf};
@@ -187,7 +187,7 @@ impl MemDisk {
     /// `Disk::create`. A call that fails changes nothing, and fails only where a trouble is due or memory wanted.
     pub fn create(&mut self, name: FileName) -> Result<MemFile, Failed>
         ensures tried { FolderTried name self.old self.new result }
-        ensures file { IfOk result (λ f. IsFresh name f.data f.data.may_miss f.data.may_differ (emptied_by (place_at self.old.directory name))) }
+        ensures file { IfOk result (λ f. IsFresh name f.data f.data.may_miss f.data.may_differ (emptied_by (place_named self.old.directory name))) }
         ensures birth { IfOk result (λ f. LeavesBirth f.data.may_miss f.data.may_differ (NameLeaves self.old.directory name)) }
         ensures made { OnOk result (Made name self.old.directory self.new.directory) }
         ensures troubles { IfOk result (λ f. f.data.troubles.items ≡ self.new.troubles.items) }
@@ -208,9 +208,9 @@ impl MemDisk {
     /// `Disk::open_file`. A call that fails changes nothing, and fails only where a trouble is due or memory wanted.
     pub fn open_file(&mut self, name: FileName) -> Result<Option<MemFile>, Failed>
         ensures tried { FolderTried name self.old self.new result }
-        ensures found { IfSome (opened result) (λ f. (was : DataOf) × (place_at self.old.directory name ≡ Some (Home was)) × IsGiven name was f.data) }
+        ensures found { IfSome (opened result) (λ f. (was : DataOf) × (place_named self.old.directory name ≡ Some (Home was)) × IsGiven name was f.data) }
         ensures held { OnSome (opened result) (Moved name Out self.old.directory self.new.directory) }
-        ensures missing { IfOk result (λ o. IfNone o (place_stands (place_at self.old.directory name) ≡ None)) }
+        ensures missing { IfOk result (λ o. IfNone o (place_stands (place_named self.old.directory name) ≡ None)) }
         ensures same { IfOk result (λ o. IfNone o (Same self.old.directory self.new.directory)) }
         ensures back { (n : NameOf) → comes_back self.new.directory n ≡ comes_back self.old.directory n }
         ensures troubles { IfSome (opened result) (λ f. f.data.troubles.items ≡ self.new.troubles.items) }
@@ -342,7 +342,7 @@ fn create_in(
     name: FileName,
     troubles: &[Trouble],
 ) -> Result<MemFile, NoMemory>
-    ensures file { IfOk result (λ f. IsFresh name f.data f.data.may_miss f.data.may_differ (emptied_by (place_at directory.old name))) }
+    ensures file { IfOk result (λ f. IsFresh name f.data f.data.may_miss f.data.may_differ (emptied_by (place_named directory.old name))) }
     ensures birth { IfOk result (λ f. LeavesBirth f.data.may_miss f.data.may_differ (NameLeaves directory.old name)) }
     ensures made { OnOk result (Made name directory.old directory.new) }
     ensures err { OnErr result (directory.new ≡ directory.old) }
@@ -369,7 +369,7 @@ impl Disk for MemDisk {
 
     ghost is_told = { λ _. true };
 
-    ghost stands = { λ d n. place_stands (place_at d.directory n) };
+    ghost stands = { λ d n. place_stands (place_named d.directory n) };
 
     ghost keeps_model = { λ _. true };
 

@@ -2,7 +2,7 @@
 
 ghost use Rattle.std.specs.Prelude.{◌≡◌, ◌≢◌, ℕ, if◌then◌else◌, Some, None, IfSome, option_map};
 ghost use Rattle.udt_disk.specs.declared.name.FileName.{FileName as NameOf};
-ghost use Rattle.udt_disk.specs.Tree.{entry_from, entry_of, early, lent, Changed};
+ghost use Rattle.udt_disk.specs.Tree.{entry_from, entry_named, early, lent, Changed};
 ghost use Rattle.udt_disk.specs.Files.{PlaceLeaves, LeavesBirth, place_stands, without_home, removed, file_at};
 ghost use Rattle.udt_disk.specs.Crashed.{IsCleanPlace, IsCleaned, emptied_by, image_before, synced_before, file_crash, place_crash, entry_crash};
 ghost use Rattle.udt_disk.specs.declared.tree.Place.TheVariants.{Home, Out, Missing};
@@ -256,7 +256,7 @@ impl Tree {
 
     /// The entry of a name.
     pub(crate) fn entry(&self, name: FileName) -> Option<&Entry>
-        ensures { lent result ≡ entry_of self.now name }
+        ensures { lent result ≡ entry_named self.now name }
     {
         self.entry_from(name.number(), name)
     }
@@ -280,7 +280,7 @@ impl Tree {
 
     /// Puts an entry in the place of that of its name, which it gives. Without one nothing changes.
     pub(crate) fn exchange(&mut self, entry: Entry) -> Option<Entry>
-        ensures old { result ≡ entry_of self.old entry.name }
+        ensures old { result ≡ entry_named self.old entry.name }
         ensures named { IfSome result (λ e. e.name ≡ entry.name) }
         ensures changed { Changed entry.name (option_map (λ _. entry) result) self.old self.new }
     {
@@ -310,10 +310,10 @@ impl Tree {
     /// Takes the entry of a name, which then has a new one if it had one.
     pub(crate) fn take(&mut self, name: FileName) -> Entry
         ensures name { result.name ≡ name }
-        ensures since { result.since ≡ early (entry_of self.old name) }
-        ensures lost { entry_crash Lost (Some result) ≡ entry_crash Lost (entry_of self.old name) }
-        ensures back { image_before (Some result) ≡ image_before (entry_of self.old name) }
-        ensures others { (n : NameOf) → n ≢ name → entry_of self.new n ≡ entry_of self.old n }
+        ensures since { result.since ≡ early (entry_named self.old name) }
+        ensures lost { entry_crash Lost (Some result) ≡ entry_crash Lost (entry_named self.old name) }
+        ensures back { image_before (Some result) ≡ image_before (entry_named self.old name) }
+        ensures others { (n : NameOf) → n ≢ name → entry_named self.new n ≡ entry_named self.old n }
     {
         match self.exchange(Entry::new(name)) {
             Some(entry) => entry,

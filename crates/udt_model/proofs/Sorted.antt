@@ -24,7 +24,7 @@ use Rattle.ts_key.specs.Visible as seen
 use Rattle.ts_key.specs.Firsts.{later_not_newer}
 use Rattle.udt_model.specs.Versions.{is_newer, newer, newest_of, is_of, is_within}
 use Rattle.udt_model.specs.Greatest.{is_seen}
-use Rattle.udt_model.specs.Orders.{is_before, with_version, stored}
+use Rattle.udt_model.specs.Orders.{is_version_before, with_version, stored}
 use Rattle.udt_model.specs.SortedLaws.{OrdersAgree, SortingAgrees, VisibleAgrees, FirstIsVisible, FirstIsNewest}
 
 -- ---- the order
@@ -54,7 +54,7 @@ orders_agree a b =
 with_agrees : (v : Version) (os : List Version) → items_of (with_version v os) ≡ lists.with_item (item_of v) (items_of os)
 with_agrees v [] = refl
 with_agrees v (o ∷ os) =
-    elim (cases_Bool (is_before o v)) [
+    elim (cases_Bool (is_version_before o v)) [
       | inl y ↦ let z : keys.is_before (item_of o).sort_key (item_of v).sort_key ≡ true = sym (orders_agree o v) ∙ y in rw (y, z) (ap (λ (xs : List Item). item_of o ∷ xs) (with_agrees v os))
       | inr y ↦ let z : keys.is_before (item_of o).sort_key (item_of v).sort_key ≡ false = sym (orders_agree o v) ∙ y in rw (y, z) refl
     ]
@@ -75,17 +75,17 @@ filter_twice p q (v ∷ vs) = twice_on (q v) (p v) p v (filter q vs) refl ∙ ap
 
 -- ---- the newest of those that pass a test
 
-newest_on : (b : Bool) (v w : Version) → is_newer w v ≡ b → option_map item_of (newer (Some v) (Some w)) ≡ seen.newer (Some (item_of v)) (Some (item_of w))
+newest_on : (b : Bool) (v w : Version) → is_newer w v ≡ b → option_map item_of (newer (Some v) (Some w)) ≡ seen.newer_item (Some (item_of v)) (Some (item_of w))
 newest_on true v w e = rw e refl
 newest_on false v w e = rw e refl
 
-newer_agrees : (v : Version) (o : Option Version) → option_map item_of (newer (Some v) o) ≡ seen.newer (Some (item_of v)) (option_map item_of o)
+newer_agrees : (v : Version) (o : Option Version) → option_map item_of (newer (Some v) o) ≡ seen.newer_item (Some (item_of v)) (option_map item_of o)
 newer_agrees v None = refl
 newer_agrees v (Some w) = newest_on (is_newer w v) v w refl
 
-newest_agrees : (vs : List Version) → option_map item_of (newest_of vs) ≡ seen.newest_of (items_of vs)
+newest_agrees : (vs : List Version) → option_map item_of (newest_of vs) ≡ seen.newest_item (items_of vs)
 newest_agrees [] = refl
-newest_agrees (v ∷ vs) = newer_agrees v (newest_of vs) ∙ ap (seen.newer (Some (item_of v))) (newest_agrees vs)
+newest_agrees (v ∷ vs) = newer_agrees v (newest_of vs) ∙ ap (seen.newer_item (Some (item_of v))) (newest_agrees vs)
 
 pass_on : (a b : Bool) (v : Version) (vs : List Version) (xs : List Item) → a ≡ b → items_of vs ≡ xs → items_of (cond a (v ∷ vs) vs) ≡ cond b (item_of v ∷ xs) xs
 pass_on true true v vs xs e h = ap (λ (ys : List Item). item_of v ∷ ys) h
@@ -96,16 +96,16 @@ pass_on false false v vs xs e h = h
 own_family : (a b : ℕ) (x y : Bool) → a ≡ b → ((a == b && x) && y) ≡ (x && y)
 own_family a b x y e = let z : (a == b) ≡ true = grind (arith, nat_tests) in rw z refl
 
-pass_agrees : (family : Family) (key : List ℕ) (t : Ts) (s : Seq) (vs : List Version) → AllByRecursion (λ v. v.family.0 ≡ family.0) vs → items_of (filter (is_seen family key t s) vs) ≡ filter (seen.is_seen key t.0 s.0) (items_of vs)
+pass_agrees : (family : Family) (key : List ℕ) (t : Ts) (s : Seq) (vs : List Version) → AllByRecursion (λ v. v.family.0 ≡ family.0) vs → items_of (filter (is_seen family key t s) vs) ≡ filter (seen.is_item_seen key t.0 s.0) (items_of vs)
 pass_agrees family key t s [] h = refl
 pass_agrees family key t s (v ∷ vs) h =
-    pass_on (is_seen family key t s v) (seen.is_seen key t.0 s.0 (item_of v)) v (filter (is_seen family key t s) vs) (filter (seen.is_seen key t.0 s.0) (items_of vs))
+    pass_on (is_seen family key t s v) (seen.is_item_seen key t.0 s.0 (item_of v)) v (filter (is_seen family key t s) vs) (filter (seen.is_item_seen key t.0 s.0) (items_of vs))
     (own_family v.family.0 family.0 (bytes_eq v.key key) (is_within t s v) h.0) (pass_agrees family key t s vs h.1)
 
 pub visible_agrees : VisibleAgrees
 visible_agrees w family key t s h =
     ap (λ (xs : List Version). option_map item_of (newest_of xs)) (filter_twice (is_within t s) (is_of family key) w)
-    ∙ newest_agrees (filter (is_seen family key t s) w) ∙ ap seen.newest_of (pass_agrees family key t s w h)
+    ∙ newest_agrees (filter (is_seen family key t s) w) ∙ ap seen.newest_item (pass_agrees family key t s w h)
 
 -- ---- the first is the newest
 

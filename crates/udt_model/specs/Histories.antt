@@ -8,7 +8,7 @@ use Rattle.udt_model.specs.declared.line.Who.{Who}
 use Rattle.udt_model.specs.declared.line.Who.TheVariants.{Client, Flusher, Compactor, Runner}
 use Rattle.udt_model.specs.State.{State}
 use Rattle.udt_model.specs.Names.{Names, fits, names_after, no_names, snap_names, view_names}
-use Rattle.udt_model.specs.Lines.{IsReply, after, is_step, says_fault, says_files}
+use Rattle.udt_model.specs.Lines.{IsReply, after_event, is_step, says_fault, says_files}
 
 abbrev pub is_same : Who → Who → Bool
 is_same (Client m) (Client n) = m == n
@@ -70,7 +70,7 @@ names_behind p l who = if is_same who l.who && keeps_names who then names_after 
 -- the point behind a line
 abbrev pub behind : Point → Line → Point
 behind p l = record p {
-  state = after p.state (p.number + 1) (p.names l.who) l.event l.reply;
+  state = after_event p.state (p.number + 1) (p.names l.who) l.event l.reply;
   number = if is_step l.event l.reply then p.number + 1 else p.number;
   last = λ who. if is_same who l.who then l.mark else p.last who;
   names = names_behind p l;
@@ -92,8 +92,8 @@ HasFiles l = says_files l.reply ≡ false
 -- ---- actors
 
 -- the lines that somebody made
-abbrev pub own : Who → List Line → List Line
-own who ls = filter (λ l. is_same l.who who) ls
+abbrev pub own_lines : Who → List Line → List Line
+own_lines who ls = filter (λ l. is_same l.who who) ls
 
 -- ---- the order in which lines are printed
 

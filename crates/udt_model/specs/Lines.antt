@@ -87,5 +87,5 @@ after_or m number None reply = m
 after_or m number (Some act) reply = after_act m number act reply
 
 -- what the event of this number leaves with this reply
-abbrev pub after : State → ℕ → Names → Event → Reply → State
-after m number names event reply = if is_step event reply then after_or m number (act_of (heads_of m) names event) reply else m
+abbrev pub after_event : State → ℕ → Names → Event → Reply → State
+after_event m number names event reply = if is_step event reply then after_or m number (act_of (heads_of m) names event) reply else m

@@ -18,13 +18,13 @@ is_at_most a b = is_le (slice_cmp nat_cmp a b)
 -- ---- the stored order
 
 -- by key, and of one key the newer first
-abbrev pub is_before : Version → Version → Bool
-is_before a b = is_below a.key b.key || (bytes_eq a.key b.key && is_newer a b)
+abbrev pub is_version_before : Version → Version → Bool
+is_version_before a b = is_below a.key b.key || (bytes_eq a.key b.key && is_newer a b)
 
 -- put where it belongs in a list that is in order
 abbrev pub with_version : Version → List Version → List Version
 with_version v [] = v ∷ []
-with_version v (o ∷ os) = if is_before o v then o ∷ with_version v os else v ∷ o ∷ os
+with_version v (o ∷ os) = if is_version_before o v then o ∷ with_version v os else v ∷ o ∷ os
 
 -- the versions in the stored order
 abbrev pub stored : List Version → List Version

@@ -25,8 +25,8 @@ abbrev pub IsBeside : Compaction → ℕ → Version → Version → Type 0
 IsBeside job level a b = a.key ≡ b.key → ((level < job.level) × (a.seq.0 < b.seq.0)) ⊎ ((job.level < level) × (b.seq.0 < a.seq.0) × IsTrue (is_in_some job.deeper b.key))
 
 -- the table is an input, or each of its versions lies beside those of the inputs
-abbrev pub IsOutside : State → Compaction → LiveTable → Type 0
-IsOutside m job t = is_input job.inputs t ≡ false → All (λ (a : Version). All (IsBeside job t.level a) t.versions) (inputs_hold m job)
+abbrev pub IsBesideInputs : State → Compaction → LiveTable → Type 0
+IsBesideInputs m job t = is_input job.inputs t ≡ false → All (λ (a : Version). All (IsBeside job t.level a) t.versions) (inputs_hold m job)
 
 -- a table on the output level that is no input doesn't meet the hull of the inputs
 abbrev pub IsClear : State → Compaction → LiveTable → Type 0
@@ -42,7 +42,7 @@ pub record IsCompacting (m : State) (job : Compaction) (f : FamilyState) : Type 
   pub above : 1 ≤ job.level
   pub below : job.level ≤ 6
   pub old : All (λ (v : Version). v.seq.0 ≤ job.last.0) (inputs_hold m job)
-  pub outside : All (IsOutside m job) f.tables
+  pub outside : All (IsBesideInputs m job) f.tables
   pub clear : All (IsClear m job) f.tables
   pub deeper : job.deeper ≡ deeper_of m job.family job.inputs job.level
   pub to : job.last.0 ≤ m.last.0

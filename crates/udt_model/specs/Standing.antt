@@ -11,20 +11,20 @@ use Rattle.udt_model.specs.Versions.{AreRising, visible}
 use Rattle.udt_model.specs.Collecting.{without_ts}
 
 -- v is w, or, in a family that strips its timestamps, w without its timestamp, which is below the floor
-abbrev pub IsImage : Form → Ts → Version → Version → Type 0
-IsImage Persist floor v w = v ≡ w
-IsImage Strip floor v w = (v ≡ w) ⊎ ((w.ts.0 < floor.0) × (v ≡ without_ts w))
+abbrev pub IsVersionImage : Form → Ts → Version → Version → Type 0
+IsVersionImage Persist floor v w = v ≡ w
+IsVersionImage Strip floor v w = (v ≡ w) ⊎ ((w.ts.0 < floor.0) × (v ≡ without_ts w))
 
 -- it is the image of a version of this family in the list
 abbrev pub HasSource : Family → Form → Ts → List Version → Version → Type 0
-HasSource family form floor w v = (source : Version) × Contains w source × (source.family ≡ family) × IsImage form floor v source
+HasSource family form floor w v = (source : Version) × Contains w source × (source.family ≡ family) × IsVersionImage form floor v source
 
 -- what one list sees, and what the other: both nothing; an image; or nothing for a delete up to the floor
 abbrev pub AreAlike : Form → Ts → Option Version → Option Version → Type 0
 AreAlike form floor None None = ⊤
 AreAlike form floor None (Some v) = ⊥
 AreAlike form floor (Some w) None = (w.op ≡ Del) × (w.ts.0 ≤ floor.0)
-AreAlike form floor (Some w) (Some v) = IsImage form floor v w
+AreAlike form floor (Some w) (Some v) = IsVersionImage form floor v w
 
 -- the sequence of a snapshot, or one that no version is above
 abbrev pub IsSight : List Version → List Seq → Seq → Type 0

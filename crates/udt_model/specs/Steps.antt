@@ -127,9 +127,9 @@ abbrev pub IsFault : State → Act → Reply → Type 0
 IsFault m act reply = (reply ≡ Fault) × IsTrue (takes_commit act) × (refusal m act ≡ None)
 
 -- there may be no file left for what a flush would take
-abbrev pub IsFull : State → Act → Reply → Type 0
-IsFull m (flush_start family) reply = (reply ≡ Files file_limit) × (refusal m (flush_start family) ≡ None) × IsTrue (nat_lt 0 (length (unflushed_of m family)))
-IsFull m act reply = ⊥
+abbrev pub IsOutOfFiles : State → Act → Reply → Type 0
+IsOutOfFiles m (flush_start family) reply = (reply ≡ Files file_limit) × (refusal m (flush_start family) ≡ None) × IsTrue (nat_lt 0 (length (unflushed_of m family)))
+IsOutOfFiles m act reply = ⊥
 
 -- what ends is a job that runs
 abbrev pub is_running : State → Act → Bool
@@ -140,7 +140,7 @@ is_running m act = true
 -- the reply to an act is legal: the model's, or a fault of the disk, or that there are no files
 pub record IsReplyTo (m : State) (act : Act) (reply : Reply) : Type 0 where
   pub running : IsTrue (is_running m act)
-  pub is : IsTold m act reply ⊎ (IsFault m act reply ⊎ IsFull m act reply)
+  pub is : IsTold m act reply ⊎ (IsFault m act reply ⊎ IsOutOfFiles m act reply)
 
 -- ---- what changes
 

@@ -8,7 +8,7 @@ use Rattle.udt_disk.specs.declared.file.DiskFile.{Ghosts}
 use Rattle.wal.specs.Records.{batch_bytes, IsLoggedBatch}
 use Rattle.wal.specs.Sequences.{sequence_after, next_sequence, IsNextSequence}
 use Rattle.wal.specs.Bodies.{front_bytes, HoldsBatches}
-use Rattle.wal.specs.Reserving.{IsReserved}
+use Rattle.wal.specs.Reserving.{OnlyReserves}
 use Rattle.wal.specs.Wals.{wal_file, waiting_bytes, IsWalOf, Holds, MayGoOn}
 use Rattle.wal.proofs.Appends.{waits_more, sequence_more, next_push}
 use Rattle.wal.specs.declared.numbered.Numbered.{Numbered}
@@ -18,7 +18,7 @@ use Rattle.wal.proofs.Showing.{wal_same}
 
 module _ {F : Type 0} (g : Ghosts F) where
   -- one batch more waits
-  pub appended : (old new : Wal F g) (n : Numbered) (listed : List ℕ) → listed ≡ old.sizes → IsReserved g old.log new.log → new.sizes ≡ old.sizes → new.is_fresh ≡ old.is_fresh → length old.sizes ≤ 16
+  pub appended : (old new : Wal F g) (n : Numbered) (listed : List ℕ) → listed ≡ old.sizes → OnlyReserves g old.log new.log → new.sizes ≡ old.sizes → new.is_fresh ≡ old.is_fresh → length old.sizes ≤ 16
       → new.waiting.items ≡ old.waiting.items ++ (front_bytes listed (old.is_fresh && (length old.waiting.items == 0)) ++ batch_bytes n) → IsLoggedBatch (length old.sizes) n → MayGoOn g old n.first.0 → (bs ws : List Numbered) → IsWalOf g old bs ws → IsWalOf g new bs (ws ++ n ∷ [])
   appended old new n listed same_sizes reserved sizes fresh few more allowed next bs ws shown =
       let goes = next shown.logged.told in
@@ -34,7 +34,7 @@ module _ {F : Type 0} (g : Ghosts F) where
         sequence = sequence_more bs ws n shown.sequence first;
       }
 
-  pub appended_holds : (old new : Wal F g) (n : Numbered) (listed : List ℕ) → listed ≡ old.sizes → IsReserved g old.log new.log → new.sizes ≡ old.sizes → new.is_fresh ≡ old.is_fresh → length old.sizes ≤ 16
+  pub appended_holds : (old new : Wal F g) (n : Numbered) (listed : List ℕ) → listed ≡ old.sizes → OnlyReserves g old.log new.log → new.sizes ≡ old.sizes → new.is_fresh ≡ old.is_fresh → length old.sizes ≤ 16
       → new.waiting.items ≡ old.waiting.items ++ (front_bytes listed (old.is_fresh && (length old.waiting.items == 0)) ++ batch_bytes n) → IsLoggedBatch (length old.sizes) n → MayGoOn g old n.first.0 → (bs ws : List Numbered) → Holds g old bs ws → Holds g new bs (ws ++ n ∷ [])
   appended_holds old new n listed same_sizes reserved sizes fresh few more allowed next bs ws holds = record {
     shown = appended old new n listed same_sizes reserved sizes fresh few more allowed next bs ws holds.shown;
@@ -42,7 +42,7 @@ module _ {F : Type 0} (g : Ghosts F) where
   }
 
   -- as it was, but for the log's room
-  pub kept_back : (old new : Wal F g) → IsReserved g old.log new.log → new.sizes ≡ old.sizes → new.is_fresh ≡ old.is_fresh → new.waiting.items ≡ old.waiting.items → (bs ws : List Numbered) → IsWalOf g old bs ws → IsWalOf g new bs ws
+  pub kept_back : (old new : Wal F g) → OnlyReserves g old.log new.log → new.sizes ≡ old.sizes → new.is_fresh ≡ old.is_fresh → new.waiting.items ≡ old.waiting.items → (bs ws : List Numbered) → IsWalOf g old bs ws → IsWalOf g new bs ws
   kept_back old new reserved sizes fresh waiting bs ws shown = record {
     bodies = shown.bodies;
     logged = reserved.logged shown.bodies shown.logged;
@@ -54,7 +54,7 @@ module _ {F : Type 0} (g : Ghosts F) where
   }
 
   -- the next batch may follow
-  pub goes_on_appended : (old new : Wal F g) (n : Numbered) (listed : List ℕ) → listed ≡ old.sizes → IsReserved g old.log new.log → new.sizes ≡ old.sizes → new.is_fresh ≡ old.is_fresh → length old.sizes ≤ 16
+  pub goes_on_appended : (old new : Wal F g) (n : Numbered) (listed : List ℕ) → listed ≡ old.sizes → OnlyReserves g old.log new.log → new.sizes ≡ old.sizes → new.is_fresh ≡ old.is_fresh → length old.sizes ≤ 16
       → new.waiting.items ≡ old.waiting.items ++ (front_bytes listed (old.is_fresh && (length old.waiting.items == 0)) ++ batch_bytes n) → IsLoggedBatch (length old.sizes) n → MayGoOn g old n.first.0 → MayGoOn g new (sequence_after n)
   goes_on_appended old new n listed same_sizes reserved sizes fresh few more allowed next told =
       let told_old : IsTrue (g.is_told (wal_file old)) = subst (λ (x : F). IsTrue (g.is_told x)) reserved.file told in
@@ -63,7 +63,7 @@ module _ {F : Type 0} (g : Ghosts F) where
       let after : next_sequence (goes.0 ++ (goes.1 ++ n ∷ [])) ≡ Some (sequence_after n) = ap next_sequence (sym (append_assoc goes.0 goes.1 (n ∷ []))) ∙ next_push (goes.0 ++ goes.1) n in
       (goes.0, goes.1 ++ n ∷ [], shown, subst (λ (o : Option ℕ). IsNextSequence o (sequence_after n)) (sym after) refl)
 
-  pub goes_on_kept : (old new : Wal F g) (first : ℕ) → IsReserved g old.log new.log → new.sizes ≡ old.sizes → new.is_fresh ≡ old.is_fresh → new.waiting.items ≡ old.waiting.items → MayGoOn g old first → MayGoOn g new first
+  pub goes_on_kept : (old new : Wal F g) (first : ℕ) → OnlyReserves g old.log new.log → new.sizes ≡ old.sizes → new.is_fresh ≡ old.is_fresh → new.waiting.items ≡ old.waiting.items → MayGoOn g old first → MayGoOn g new first
   goes_on_kept old new first reserved sizes fresh waiting next told =
       let told_old : IsTrue (g.is_told (wal_file old)) = subst (λ (x : F). IsTrue (g.is_told x)) reserved.file told in
       let goes = next told_old in

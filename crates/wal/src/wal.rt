@@ -24,7 +24,7 @@ ghost use Rattle.ts_key.specs.Writing.{Extends};
 ghost use Rattle.wal.specs.Writing.{IsShortOp};
 ghost use Rattle.wal.specs.Sequences.{IsNumberedWithin};
 ghost use Rattle.wal.specs.Making.{IsWhileMade, held_with};
-ghost use Rattle.wal.specs.Reserving.{IsReserved};
+ghost use Rattle.wal.specs.Reserving.{OnlyReserves};
 ghost use Rattle.wal.specs.Replays.{LogHolds, IsBeforeOrAfter, IsReplayFault, is_replay_disk_fault, log_fault_of};
 
 use crate::NoMemory;
@@ -83,7 +83,7 @@ fn lay_out<F: DiskFile>(
     ensures short { OnOk result (All IsShortOp batch.now) }
     ensures room { OnOk result (length waiting.new.items ≤ log_room log.new) }
     ensures extends { Extends waiting.old.items waiting.new.items }
-    ensures kept { IsReserved F.DiskFile log.old log.new }
+    ensures kept { OnlyReserves F.DiskFile log.old log.new }
 {
     let is_first = is_fresh && waiting.is_empty();
     put_front(waiting, sizes, is_first)?;

@@ -155,10 +155,17 @@ fn failing(alloc: Global, name: u64, call: u64) -> Result<DiskFiles, Fail> {
 fn files_are_given_back_on_a_refusal(rt: HostRuntime) -> Result<(), Fail> {
     let alloc = rt.alloc();
     let plan = plan_of(alloc, &forty(alloc)?)?;
-    for (name, call) in [(10, 1), (10, 2), (11, 1), (11, 2), (11, 3)] {
+    for (name, call, next) in [
+        (10, 1, 10),
+        (10, 2, 11),
+        (11, 1, 11),
+        (11, 2, 12),
+        (11, 3, 12),
+    ] {
         let mut files = failing(alloc, name, call)?;
         assert!(rt; refused(alloc, &plan, &mut files)? == Some(JobCause::Fault));
-        assert!(rt; files.out == 0);
+        // No file is drawn behind the one that fails, which the first call makes.
+        assert!(rt; files.out == 0 && files.next == next);
     }
     let mut few = files(alloc, u64::MAX / 2)?;
     assert!(rt; refused(alloc, &plan, &mut few)? == Some(JobCause::Files { next: 1 << 63 }));

@@ -1,4 +1,4 @@
-//! Events of one family, and what is replied to them.
+//! Events as rows of a table, and what is replied to them.
 
 use floor_core::{Core, CoreEvent, CoreReply, Piece};
 use std::alloc::Global;
@@ -7,83 +7,92 @@ use std::test::Fail;
 use ts_key::{Batch, Family, Form, Key, Op, Ts, Value, WriteOp};
 use udt_model::{Answer, Items, ModelRead, Stamp};
 
-/// A core with one family of this form.
-pub fn core(alloc: Global, form: Form) -> Result<Core, Fail> {
-    Ok(Core::fresh(vec![in alloc; form]?)?)
+/// An event of a core, written short: a key and a value are one byte.
+#[derive(Clone, Copy, Debug)]
+pub enum Ask<'a> {
+    /// A family, a key, a timestamp and a value: none deletes.
+    Write(u32, u8, u64, Option<u8>),
+    /// A family, a key, a timestamp and a snapshot.
+    Get(u32, u8, u64, Option<u64>),
+    /// A pin, a family, a key, a timestamp and a snapshot.
+    PinnedGet(u64, u32, u8, u64, Option<u64>),
+    /// A family and a floor.
+    Raise(u32, u64),
+    Snap,
+    Release(u64),
+    Pin,
+    FlushStart(u32),
+    FlushEnd(u64),
+    FlushDrop,
+    /// A family, tables and a level.
+    CompactStart(u32, &'a [u64], u32),
+    /// Tables with their counts of versions.
+    CompactEnd(&'a [(u64, u64)]),
+    CompactDrop,
+    Halt,
+}
+
+/// A reply of a core, written short.
+#[derive(Clone, Copy, Debug, PartialEq)]
+pub enum Told {
+    Done,
+    /// The last sequence.
+    Written(u64),
+    Absent,
+    Found(u8, Stamp),
+    /// The floor.
+    Collapsed(u64),
+    Refused,
 }
 
 /// One operation on a key of a family.
-pub fn op(alloc: Global, family: u32, key: &[u8], ts: u64, op: Op) -> Result<WriteOp, Fail> {
+pub fn write_op(
+    alloc: Global,
+    family: u32,
+    key: u8,
+    ts: u64,
+    value: Option<u8>,
+) -> Result<WriteOp, Fail> {
+    let op = match value {
+        None => Op::Del,
+        Some(byte) => Op::Put(Value::of(alloc, &[byte])?),
+    };
     Ok(WriteOp {
         family: Family(family),
-        key: Key::of(alloc, key)?,
+        key: Key::of(alloc, &[key])?,
         ts: Ts(ts),
         op,
     })
 }
 
-/// A write of one put.
-pub fn put(alloc: Global, key: &[u8], ts: u64, value: &[u8]) -> Result<CoreEvent, Fail> {
-    let put = op(alloc, 0, key, ts, Op::Put(Value::of(alloc, value)?))?;
-    let batch = Batch::of(vec![in alloc; put]?)?;
+/// A write of one operation.
+fn write(
+    alloc: Global,
+    family: u32,
+    key: u8,
+    ts: u64,
+    value: Option<u8>,
+) -> Result<CoreEvent, Fail> {
+    let op = write_op(alloc, family, key, ts, value)?;
+    let batch = Batch::of(vec![in alloc; op]?)?;
     Ok(CoreEvent::Write { batch })
 }
 
-/// A get with a snapshot, where one is given.
-pub fn get_with(alloc: Global, key: &[u8], t: u64, snap: Option<u64>) -> Result<CoreEvent, Fail> {
-    Ok(CoreEvent::Get {
-        family: Family(0),
-        key: Key::of(alloc, key)?,
-        t: Ts(t),
-        snap,
-    })
-}
-
-pub fn get(alloc: Global, key: &[u8], t: u64) -> Result<CoreEvent, Fail> {
-    get_with(alloc, key, t, None)
-}
-
-/// A get in the view of a pin, with a snapshot, where one is given.
-pub fn pinned_get(
-    alloc: Global,
-    pin: u64,
-    key: &[u8],
-    t: u64,
-    snap: Option<u64>,
-) -> Result<CoreEvent, Fail> {
-    Ok(CoreEvent::PinnedGet {
-        pin,
-        family: Family(0),
-        key: Key::of(alloc, key)?,
-        t: Ts(t),
-        snap,
-    })
-}
-
-pub fn raise(floor: u64) -> CoreEvent {
-    CoreEvent::Raise {
-        family: Family(0),
-        floor: Ts(floor),
-    }
-}
-
-pub const FLUSH: CoreEvent = CoreEvent::FlushStart { family: Family(0) };
-
-/// A compaction of these tables to a level.
-pub fn compaction(alloc: Global, tables: &[u64], level: u32) -> Result<CoreEvent, Fail> {
+/// The start of a compaction of these tables.
+fn compaction(alloc: Global, family: u32, tables: &[u64], level: u32) -> Result<CoreEvent, Fail> {
     let mut inputs = Vec::new(alloc);
     for table in tables {
         inputs.push(*table)?;
     }
     Ok(CoreEvent::CompactStart {
-        family: Family(0),
+        family: Family(family),
         inputs: Items::of(inputs),
         level,
     })
 }
 
-/// The end of a compaction with tables of so many versions.
-pub fn ended(alloc: Global, tables: &[(u64, u64)]) -> Result<CoreEvent, Fail> {
+/// The end of a compaction with these tables.
+fn ended(alloc: Global, tables: &[(u64, u64)]) -> Result<CoreEvent, Fail> {
     let mut pieces = Vec::new(alloc);
     for (table, count) in tables {
         pieces.push(Piece {
@@ -96,73 +105,80 @@ pub fn ended(alloc: Global, tables: &[(u64, u64)]) -> Result<CoreEvent, Fail> {
     })
 }
 
-fn is_done(reply: &CoreReply) -> bool {
-    matches!(reply, CoreReply::Done)
+/// The event of a row.
+fn event(alloc: Global, ask: Ask) -> Result<CoreEvent, Fail> {
+    Ok(match ask {
+        Ask::Write(family, key, ts, value) => write(alloc, family, key, ts, value)?,
+        Ask::Get(family, key, t, snap) => CoreEvent::Get {
+            family: Family(family),
+            key: Key::of(alloc, &[key])?,
+            t: Ts(t),
+            snap,
+        },
+        Ask::PinnedGet(pin, family, key, t, snap) => CoreEvent::PinnedGet {
+            pin,
+            family: Family(family),
+            key: Key::of(alloc, &[key])?,
+            t: Ts(t),
+            snap,
+        },
+        Ask::Raise(family, floor) => CoreEvent::Raise {
+            family: Family(family),
+            floor: Ts(floor),
+        },
+        Ask::Snap => CoreEvent::Snap,
+        Ask::Release(id) => CoreEvent::Release { id },
+        Ask::Pin => CoreEvent::Pin,
+        Ask::FlushStart(family) => CoreEvent::FlushStart {
+            family: Family(family),
+        },
+        Ask::FlushEnd(table) => CoreEvent::FlushEnd { table },
+        Ask::FlushDrop => CoreEvent::FlushDrop,
+        Ask::CompactStart(family, tables, level) => compaction(alloc, family, tables, level)?,
+        Ask::CompactEnd(tables) => ended(alloc, tables)?,
+        Ask::CompactDrop => CoreEvent::CompactDrop,
+        Ask::Halt => CoreEvent::Halt,
+    })
 }
 
-pub fn is_refused(reply: &CoreReply) -> bool {
-    matches!(reply, CoreReply::Refused)
-}
-
-/// The event is done, or written.
-pub fn done(rt: &impl Abort, core: &mut Core, event: &CoreEvent) -> Result<(), Fail> {
-    let reply = core.step(event)?;
-    let written = matches!(reply, CoreReply::Written { .. });
-    assert!(rt; is_done(&reply) || written, "{event:?}");
-    Ok(())
-}
-
-/// The event is refused.
-pub fn refused(rt: &impl Abort, core: &mut Core, event: &CoreEvent) -> Result<(), Fail> {
-    let reply = core.step(event)?;
-    assert!(rt; is_refused(&reply), "{event:?}");
-    Ok(())
-}
-
-/// The write gets this last sequence.
-pub fn written(rt: &impl Abort, core: &mut Core, event: &CoreEvent, last: u64) -> Result<(), Fail> {
-    match core.step(event)? {
-        CoreReply::Written { last: found } => assert_eq!(rt; found.0, last),
-        _ => return Err("the write is refused".into()),
-    }
-    Ok(())
-}
-
-/// The read finds this value with this stamp.
-pub fn found(
-    rt: &impl Abort,
-    core: &mut Core,
-    event: &CoreEvent,
-    value: &[u8],
-    stamp: Stamp,
-) -> Result<(), Fail> {
-    match core.step(event)? {
-        CoreReply::Read(
-            ModelRead::Told(
-                Answer::Found {
-                    value: seen,
-                    stamp: at,
-                },
-            ),
-        ) => {
-            assert!(rt; seen.bytes() == value);
-            assert!(rt; at == stamp);
+impl Told {
+    pub fn of_read(read: &ModelRead) -> Told {
+        match read {
+            ModelRead::Collapsed { floor } => Told::Collapsed(floor.0),
+            ModelRead::Told(Answer::Absent) => Told::Absent,
+            ModelRead::Told(Answer::Found { value, stamp }) => match value.bytes() {
+                [byte] => Told::Found(*byte, *stamp),
+                _ => Told::Absent,
+            },
         }
-        _ => return Err("nothing is found".into()),
     }
-    Ok(())
+
+    fn of(reply: &CoreReply) -> Told {
+        match reply {
+            CoreReply::Done => Told::Done,
+            CoreReply::Written { last } => Told::Written(last.0),
+            CoreReply::Read(read) => Told::of_read(read),
+            CoreReply::Refused => Told::Refused,
+        }
+    }
 }
 
-/// The read is below this floor.
-pub fn collapsed(
-    rt: &impl Abort,
-    core: &mut Core,
-    event: &CoreEvent,
-    floor: u64,
+/// What the core replies to the event of a row.
+pub fn reply_to(alloc: Global, core: &mut Core, ask: Ask) -> Result<Told, Fail> {
+    let reply = core.step(&event(alloc, ask)?)?;
+    Ok(Told::of(&reply))
+}
+
+/// A core with one family of this form replies to each row what stands there.
+pub fn replies(
+    rt: &(impl Abort + AllocGlobal),
+    form: Form,
+    rows: &[(Ask, Told)],
 ) -> Result<(), Fail> {
-    match core.step(event)? {
-        CoreReply::Read(ModelRead::Collapsed { floor: at }) => assert_eq!(rt; at.0, floor),
-        _ => return Err("the read isn't below the floor".into()),
+    let alloc = rt.alloc();
+    let mut core = Core::fresh(vec![in alloc; form]?)?;
+    for (ask, wanted) in rows {
+        assert_eq!(rt; reply_to(alloc, &mut core, *ask)?, *wanted, "{ask:?}");
     }
     Ok(())
 }

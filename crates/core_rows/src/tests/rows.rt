@@ -1,55 +1,55 @@
 //! A write that is read again, a flush that strips, and a view that keeps its lists.
 
-use super::events::{
-    FLUSH, collapsed, compaction, core, done, ended, found, get, pinned_get, put, raise, written,
+use super::events::Ask::{
+    CompactEnd, CompactStart, FlushEnd, FlushStart, Get, Pin, PinnedGet, Raise, Write,
 };
-use floor_core::CoreEvent;
+use super::events::Told::{Collapsed, Done, Found, Written};
+use super::events::{Ask, Told, replies};
 use std::test::Fail;
 use ts_key::{Form, Ts};
 use udt_model::Stamp;
 
+const WRITE: [(Ask, Told); 2] = [
+    (Write(0, b'a', 5, Some(b'v')), Written(1)),
+    (Get(0, b'a', 5, None), Found(b'v', Stamp::At(Ts(5)))),
+];
+
+const FLUSH: [(Ask, Told); 6] = [
+    (Write(0, b'a', 10, Some(b'x')), Written(1)),
+    (FlushStart(0), Done),
+    (Write(0, b'b', 5, Some(b'y')), Written(2)),
+    (FlushEnd(3), Done),
+    (Get(0, b'b', 11, None), Found(b'y', Stamp::Below)),
+    (Get(0, b'b', 10, None), Collapsed(11)),
+];
+
+const VIEW: [(Ask, Told); 10] = [
+    (Write(0, b'a', 5, Some(b'u')), Written(1)),
+    (Write(0, b'a', 6, Some(b'v')), Written(2)),
+    (FlushStart(0), Done),
+    (FlushEnd(1), Done),
+    (Pin, Done),
+    (Raise(0, 9), Done),
+    (CompactStart(0, &[1], 6), Done),
+    (CompactEnd(&[(2, 1)]), Done),
+    (
+        PinnedGet(5, 0, b'a', 5, None),
+        Found(b'u', Stamp::At(Ts(5))),
+    ),
+    (Get(0, b'a', 5, None), Collapsed(9)),
+];
+
 #[test]
 fn a_write_is_read(rt: HostRuntime) -> Result<(), Fail> {
-    let alloc = rt.alloc();
-    let mut core = core(alloc, Form::Persist)?;
-    written(&rt, &mut core, &put(alloc, b"a", 5, b"v")?, 1)?;
-    found(
-        &rt,
-        &mut core,
-        &get(alloc, b"a", 5)?,
-        b"v",
-        Stamp::At(Ts(5)),
-    )?;
-    Ok(())
+    replies(&rt, Form::Persist, &WRITE)
 }
 
 #[test]
 fn a_flush_strips(rt: HostRuntime) -> Result<(), Fail> {
-    let alloc = rt.alloc();
-    let mut core = core(alloc, Form::Strip)?;
-    written(&rt, &mut core, &put(alloc, b"a", 10, b"x")?, 1)?;
-    done(&rt, &mut core, &FLUSH)?;
-    written(&rt, &mut core, &put(alloc, b"b", 5, b"y")?, 2)?;
-    done(&rt, &mut core, &CoreEvent::FlushEnd { table: 3 })?;
-    found(&rt, &mut core, &get(alloc, b"b", 11)?, b"y", Stamp::Below)?;
-    collapsed(&rt, &mut core, &get(alloc, b"b", 10)?, 11)?;
-    Ok(())
+    replies(&rt, Form::Strip, &FLUSH)
 }
 
 #[test]
 fn a_view_keeps_its_lists(rt: HostRuntime) -> Result<(), Fail> {
-    let alloc = rt.alloc();
-    let mut core = core(alloc, Form::Persist)?;
-    written(&rt, &mut core, &put(alloc, b"a", 5, b"u")?, 1)?;
-    written(&rt, &mut core, &put(alloc, b"a", 6, b"v")?, 2)?;
-    done(&rt, &mut core, &FLUSH)?;
-    done(&rt, &mut core, &CoreEvent::FlushEnd { table: 1 })?;
-    done(&rt, &mut core, &CoreEvent::Pin)?;
-    done(&rt, &mut core, &raise(9))?;
-    done(&rt, &mut core, &compaction(alloc, &[1], 6)?)?;
-    done(&rt, &mut core, &ended(alloc, &[(2, 1)])?)?;
-    let read = pinned_get(alloc, 5, b"a", 5, None)?;
-    found(&rt, &mut core, &read, b"u", Stamp::At(Ts(5)))?;
-    collapsed(&rt, &mut core, &get(alloc, b"a", 5)?, 9)?;
-    Ok(())
+    replies(&rt, Form::Persist, &VIEW)
 }

@@ -1,33 +1,33 @@
 //! A script of events of all kinds, each of whose reads is compared with a plain read of all that was written.
 
-use super::events::{is_refused, op};
-use floor_core::{Core, CoreEvent, CoreReply, Piece};
+use super::events::{Ask, Told, reply_to, write_op};
+use floor_core::Core;
 use std::alloc::Global;
 use std::process::Abort;
 use std::test::Fail;
-use ts_key::{Batch, Family, Form, Key, Op, Seq, Ts, Value, Version};
-use udt_model::{Answer, Items, ModelRead, plain_read};
-
-/// A view: the number of its pin, and the last sequence and the floors there.
-#[derive(Clone, Copy)]
-struct Pinned {
-    number: u64,
-    last: Seq,
-    floors: Floors,
-}
+use ts_key::{Family, Form, Seq, Ts, Version};
+use udt_model::plain_read;
 
 /// The floors of both families.
 #[derive(Clone, Copy)]
 struct Floors {
-    persist: Ts,
-    strip: Ts,
+    persist: u64,
+    strip: u64,
 }
 
-/// A snapshot: the number of its event, and the last sequence there.
+/// A snapshot or a pin: the number of its event, and the last sequence and the floors there.
 #[derive(Clone, Copy)]
-struct Held {
+struct Mark {
     number: u64,
-    last: Seq,
+    last: u64,
+    floors: Floors,
+}
+
+/// A job of a family, and what there was when it started: a flush's last sequence, a compaction's next table.
+#[derive(Clone, Copy)]
+struct Job {
+    family: u32,
+    from: u64,
 }
 
 /// A core with a family that keeps its timestamps and one that strips them, and what its replies have told of it.
@@ -38,52 +38,31 @@ struct Script {
     events: u64,
     reads: u64,
     versions: Vec<Version>,
+    last: u64,
     floors: Floors,
-    snaps: Vec<Held>,
-    views: Vec<Pinned>,
-    flush: Option<Family>,
-    flush_to: Seq,
-    compaction: Option<Family>,
+    snaps: Vec<Mark>,
+    views: Vec<Mark>,
+    flush: Option<Job>,
+    compaction: Option<Job>,
     tables: Vec<(u32, u64)>,
-    inputs: Vec<u64>,
     next_table: u64,
 }
 
-const FAMILIES: u64 = 2;
-
-const KEYS: u64 = 5;
-
 impl Floors {
-    fn of(&self, family: Family) -> Ts {
-        if family.0 == 0 {
+    fn of(&self, family: u32) -> u64 {
+        if family == 0 {
             self.persist
         } else {
             self.strip
         }
     }
 
-    fn set(&mut self, family: Family, floor: Ts) {
-        if family.0 == 0 {
+    fn set(&mut self, family: u32, floor: u64) {
+        if family == 0 {
             self.persist = floor;
         } else {
             self.strip = floor;
         }
-    }
-}
-
-/// The reply is this read.
-fn is_read(reply: &CoreReply, wanted: &ModelRead) -> bool {
-    let CoreReply::Read(read) = reply else {
-        return false;
-    };
-    match (read, wanted) {
-        (ModelRead::Collapsed { floor: a }, ModelRead::Collapsed { floor: b }) => a == b,
-        (ModelRead::Told(Answer::Absent), ModelRead::Told(Answer::Absent)) => true,
-        (
-            ModelRead::Told(Answer::Found { value: a, stamp: s }),
-            ModelRead::Told(Answer::Found { value: b, stamp: t }),
-        ) => a.bytes() == b.bytes() && s == t,
-        _ => false,
     }
 }
 
@@ -96,17 +75,16 @@ impl Script {
             events: 0,
             reads: 0,
             versions: Vec::new(alloc),
+            last: 0,
             floors: Floors {
-                persist: Ts(0),
-                strip: Ts(0),
+                persist: 0,
+                strip: 0,
             },
             snaps: Vec::new(alloc),
             views: Vec::new(alloc),
             flush: None,
-            flush_to: Seq(0),
             compaction: None,
             tables: Vec::new(alloc),
-            inputs: Vec::new(alloc),
             next_table: 1,
         })
     }
@@ -120,97 +98,99 @@ impl Script {
         (self.random >> 33).checked_rem(below).unwrap_or(0)
     }
 
-    fn pick_family(&mut self) -> Family {
-        if self.pick(FAMILIES) == 0 {
-            Family(0)
-        } else {
-            Family(1)
-        }
+    fn pick_byte(&mut self, below: u64) -> u8 {
+        (self.pick(below) % 256) as u8
     }
 
-    fn pick_key(&mut self, alloc: Global) -> Result<Key, Fail> {
-        let n = self.pick(KEYS);
-        Ok(Key::of(alloc, &[(n % 256) as u8])?)
+    fn pick_family(&mut self) -> u32 {
+        u32::from(self.pick_byte(2))
     }
 
-    /// A timestamp near the floor of a family.
-    fn pick_stamp(&mut self, family: Family) -> Ts {
-        let floor = self.floors.of(family);
-        let more = self.pick(6);
-        Ts(floor.0.wrapping_add(more))
+    fn pick_key(&mut self) -> u8 {
+        self.pick_byte(5)
     }
 
-    fn step(&mut self, event: &CoreEvent) -> Result<CoreReply, Fail> {
+    /// A timestamp at this floor or a little above.
+    fn pick_stamp(&mut self, floor: u64) -> u64 {
+        floor.saturating_add(self.pick(6))
+    }
+
+    fn step(&mut self, alloc: Global, ask: Ask) -> Result<Told, Fail> {
         self.events = self.events.wrapping_add(1);
-        Ok(self.core.step(event)?)
-    }
-
-    fn last(&self) -> Seq {
-        match self.versions.last() {
-            None => Seq(0),
-            Some(v) => v.seq,
-        }
-    }
-
-    fn pick_op(&mut self, alloc: Global) -> Result<Op, Fail> {
-        let n = self.pick(256);
-        if n % 4 == 0 {
-            return Ok(Op::Del);
-        }
-        Ok(Op::Put(Value::of(alloc, &[(n % 256) as u8])?))
+        reply_to(alloc, &mut self.core, ask)
     }
 
     fn write(&mut self, alloc: Global) -> Result<(), Fail> {
         let family = self.pick_family();
-        let key = self.pick_key(alloc)?;
-        let ts = self.pick_stamp(family);
-        let made = self.pick_op(alloc)?;
-        let one = op(alloc, family.0, key.bytes(), ts.0, made.copy()?)?;
-        let batch = Batch::of(vec![in alloc; one]?)?;
-        if let CoreReply::Written { last } = self.step(&CoreEvent::Write { batch })? {
-            self.versions.push(Version {
-                family,
-                key,
-                ts,
-                seq: last,
-                op: made,
-            })?;
-        }
+        let key = self.pick_key();
+        let floor = self.floors.of(family);
+        let ts = self.pick_stamp(floor);
+        let byte = self.pick_byte(256);
+        let value = if byte % 4 == 0 { None } else { Some(byte) };
+        let Told::Written(last) = self.step(alloc, Ask::Write(family, key, ts, value))? else {
+            return Ok(());
+        };
+        let written = write_op(alloc, family, key, ts, value)?;
+        self.last = last;
+        self.versions.push(Version {
+            family: written.family,
+            key: written.key,
+            ts: written.ts,
+            seq: Seq(last),
+            op: written.op,
+        })?;
         Ok(())
+    }
+
+    /// The read of a key over all that was written up to a sequence, by this floor.
+    fn read(
+        &self,
+        alloc: Global,
+        floor: u64,
+        family: u32,
+        key: u8,
+        t: u64,
+        s: u64,
+    ) -> Result<Told, Fail> {
+        let family = Family(family);
+        let read = plain_read(
+            alloc,
+            &self.versions,
+            Ts(floor),
+            family,
+            &[key],
+            Ts(t),
+            Seq(s),
+        )?;
+        Ok(Told::of_read(&read))
     }
 
     fn compare(
         &mut self,
         rt: &impl Abort,
-        event: &CoreEvent,
-        wanted: &ModelRead,
+        alloc: Global,
+        ask: Ask,
+        wanted: Told,
     ) -> Result<(), Fail> {
-        let reply = self.step(event)?;
-        assert!(rt; is_read(&reply, wanted), "event {}: {event:?}", self.events);
+        let found = self.step(alloc, ask)?;
+        assert_eq!(rt; found, wanted, "event {}: {ask:?}", self.events);
         self.reads = self.reads.wrapping_add(1);
         Ok(())
     }
 
-    fn snapshot_at(&self, n: u64) -> Option<Held> {
-        self.snaps.get(n as usize).copied()
+    fn snapshot_at(&self, n: u64) -> Option<Mark> {
+        let place = n.checked_rem(self.snaps.len() as u64)?;
+        self.snaps.get(place as usize).copied()
     }
 
-    fn view_at(&self, n: u64) -> Option<Pinned> {
-        self.views.get(n as usize).copied()
-    }
-
-    fn view_count(&self) -> u64 {
-        self.views.len() as u64
-    }
-
-    fn snapshot_count(&self) -> u64 {
-        self.snaps.len() as u64
+    fn view_at(&self, n: u64) -> Option<Mark> {
+        let place = n.checked_rem(self.views.len() as u64)?;
+        self.views.get(place as usize).copied()
     }
 
     /// A snapshot, in half of the calls, where there is one.
-    fn pick_snapshot(&mut self) -> Option<Held> {
-        let count = self.snapshot_count();
-        let n = self.pick(count);
+    fn pick_snapshot(&mut self) -> Option<Mark> {
+        let n = self.pick(1024);
         if self.pick(2) == 0 {
             return None;
         }
@@ -219,139 +199,120 @@ impl Script {
 
     fn get(&mut self, rt: &impl Abort, alloc: Global) -> Result<(), Fail> {
         let family = self.pick_family();
-        let key = self.pick_key(alloc)?;
-        let stamp = self.pick_stamp(family);
-        let t = Ts(stamp.0.saturating_sub(1));
-        let held = self.pick_snapshot();
-        let s = match held {
-            None => self.last(),
-            Some(h) => h.last,
-        };
+        let key = self.pick_key();
         let floor = self.floors.of(family);
-        let wanted = plain_read(alloc, &self.versions, floor, family, key.bytes(), t, s)?;
-        let snap = held.map(|h| h.number);
-        let event = CoreEvent::Get {
-            family,
-            key,
-            t,
-            snap,
+        let t = self.pick_stamp(floor).saturating_sub(1);
+        let (snap, s) = match self.pick_snapshot() {
+            None => (None, self.last),
+            Some(held) => (Some(held.number), held.last),
         };
-        self.compare(rt, &event, &wanted)
+        let wanted = self.read(alloc, floor, family, key, t, s)?;
+        self.compare(rt, alloc, Ask::Get(family, key, t, snap), wanted)
     }
 
     fn get_in_view(&mut self, rt: &impl Abort, alloc: Global) -> Result<(), Fail> {
-        let count = self.view_count();
-        let n = self.pick(count);
+        let n = self.pick(1024);
         let Some(view) = self.view_at(n) else {
             return Ok(());
         };
         let family = self.pick_family();
-        let key = self.pick_key(alloc)?;
+        let key = self.pick_key();
         let floor = view.floors.of(family);
-        let t = Ts(floor.0.wrapping_add(self.pick(8)));
-        let held = self.pick_snapshot();
-        let s = match held {
-            None => view.last,
-            Some(h) => Seq(h.last.0.min(view.last.0)),
+        let t = self.pick_stamp(floor);
+        let (snap, s) = match self.pick_snapshot() {
+            None => (None, view.last),
+            Some(held) => (Some(held.number), held.last.min(view.last)),
         };
-        let wanted = plain_read(alloc, &self.versions, floor, family, key.bytes(), t, s)?;
-        let snap = held.map(|h| h.number);
-        let event = CoreEvent::PinnedGet {
-            pin: view.number,
-            family,
-            key,
-            t,
-            snap,
-        };
-        self.compare(rt, &event, &wanted)
+        let wanted = self.read(alloc, floor, family, key, t, s)?;
+        let ask = Ask::PinnedGet(view.number, family, key, t, snap);
+        self.compare(rt, alloc, ask, wanted)
     }
 
-    fn raise(&mut self) -> Result<(), Fail> {
+    fn raise(&mut self, alloc: Global) -> Result<(), Fail> {
         let family = self.pick_family();
-        let floor = self.pick_stamp(family);
-        let reply = self.step(&CoreEvent::Raise { family, floor })?;
-        if !is_refused(&reply) {
+        let old = self.floors.of(family);
+        let floor = self.pick_stamp(old);
+        if self.step(alloc, Ask::Raise(family, floor))? == Told::Done {
             self.floors.set(family, floor);
         }
         Ok(())
     }
 
-    fn snap(&mut self) -> Result<(), Fail> {
-        self.step(&CoreEvent::Snap)?;
-        let number = self.events;
-        let last = self.last();
-        self.snaps.push(Held { number, last })?;
+    /// The mark of an event that registers or pins.
+    fn mark(&mut self, alloc: Global, ask: Ask) -> Result<Mark, Fail> {
+        self.step(alloc, ask)?;
+        Ok(Mark {
+            number: self.events,
+            last: self.last,
+            floors: self.floors,
+        })
+    }
+
+    fn snap(&mut self, alloc: Global) -> Result<(), Fail> {
+        let mark = self.mark(alloc, Ask::Snap)?;
+        self.snaps.push(mark)?;
         Ok(())
     }
 
-    fn release(&mut self) -> Result<(), Fail> {
+    fn release(&mut self, alloc: Global) -> Result<(), Fail> {
         if let Some(held) = self.snaps.pop() {
-            self.step(&CoreEvent::Release { id: held.number })?;
+            self.step(alloc, Ask::Release(held.number))?;
         }
         Ok(())
     }
 
-    fn pin(&mut self) -> Result<(), Fail> {
-        self.step(&CoreEvent::Pin)?;
-        let number = self.events;
-        let last = self.last();
-        let floors = self.floors;
-        self.views.push(Pinned {
-            number,
-            last,
-            floors,
-        })?;
+    fn pin(&mut self, alloc: Global) -> Result<(), Fail> {
+        let mark = self.mark(alloc, Ask::Pin)?;
+        self.views.push(mark)?;
         Ok(())
     }
 
-    fn start_flush(&mut self) -> Result<(), Fail> {
+    fn start_flush(&mut self, alloc: Global) -> Result<(), Fail> {
         let family = self.pick_family();
-        let reply = self.step(&CoreEvent::FlushStart { family })?;
-        if !is_refused(&reply) {
-            self.flush = Some(family);
-            self.flush_to = self.last();
+        if self.step(alloc, Ask::FlushStart(family))? == Told::Done {
+            let from = self.last;
+            self.flush = Some(Job { family, from });
         }
         Ok(())
     }
 
-    /// The floor that a flush of a family leaves.
-    fn floor_left(&self, family: Family) -> Ts {
-        let mut floor = self.floors.of(family).0;
-        if family.0 == 1 {
-            for v in &self.versions {
-                if v.family == family && v.seq.0 <= self.flush_to.0 {
-                    floor = floor.max(v.ts.0.wrapping_add(1));
-                }
+    /// The floor that a flush leaves.
+    fn floor_left(&self, flush: Job) -> u64 {
+        let mut floor = self.floors.of(flush.family);
+        if flush.family == 0 {
+            return floor;
+        }
+        for v in &self.versions {
+            if v.family.0 == flush.family && v.seq.0 <= flush.from {
+                floor = floor.max(v.ts.0.wrapping_add(1));
             }
         }
-        Ts(floor)
+        floor
     }
 
-    fn end_flush(&mut self) -> Result<(), Fail> {
-        let Some(family) = self.flush else {
+    fn end_flush(&mut self, alloc: Global) -> Result<(), Fail> {
+        let Some(flush) = self.flush else {
             return Ok(());
         };
-        let table = self.next_table;
-        self.step(&CoreEvent::FlushEnd { table })?;
-        self.next_table = table.wrapping_add(1);
-        self.tables.push((family.0, table))?;
+        self.step(alloc, Ask::FlushEnd(self.next_table))?;
+        let floor = self.floor_left(flush);
+        self.floors.set(flush.family, floor);
         self.flush = None;
-        let floor = self.floor_left(family);
-        self.floors.set(family, floor);
-        Ok(())
+        self.add_table(flush.family)
     }
 
-    fn drop_flush(&mut self) -> Result<(), Fail> {
-        self.step(&CoreEvent::FlushDrop)?;
-        self.flush = None;
+    /// The next table is one of this family.
+    fn add_table(&mut self, family: u32) -> Result<(), Fail> {
+        self.tables.push((family, self.next_table))?;
+        self.next_table = self.next_table.wrapping_add(1);
         Ok(())
     }
 
     /// The numbers of the tables of a family.
-    fn tables_of(&self, alloc: Global, family: Family) -> Result<Vec<u64>, Fail> {
+    fn tables_of(&self, alloc: Global, family: u32) -> Result<Vec<u64>, Fail> {
         let mut tables = Vec::new(alloc);
         for (of, table) in &self.tables {
-            if *of == family.0 {
+            if *of == family {
                 tables.push(*table)?;
             }
         }
@@ -361,64 +322,53 @@ impl Script {
     fn start_compaction(&mut self, alloc: Global) -> Result<(), Fail> {
         let family = self.pick_family();
         let level = if self.pick(2) == 0 { 1 } else { 6 };
-        let inputs = Items::of(self.tables_of(alloc, family)?);
-        let held = self.tables_of(alloc, family)?;
-        let event = CoreEvent::CompactStart {
-            family,
-            inputs,
-            level,
-        };
-        let reply = self.step(&event)?;
-        if !is_refused(&reply) {
-            self.compaction = Some(family);
-            self.inputs = held;
+        let inputs = self.tables_of(alloc, family)?;
+        let ask = Ask::CompactStart(family, &inputs, level);
+        if self.step(alloc, ask)? == Told::Done {
+            let from = self.next_table;
+            self.compaction = Some(Job { family, from });
         }
         Ok(())
     }
 
     /// The end of a compaction with one table of so many versions, or with none.
-    fn end_with(&mut self, alloc: Global, count: u64) -> Result<CoreReply, Fail> {
-        let mut pieces = Vec::new(alloc);
-        if count > 0 {
-            pieces.push(Piece {
-                table: self.next_table,
-                count,
-            })?;
+    fn end_with(&mut self, alloc: Global, count: u64) -> Result<Told, Fail> {
+        if count == 0 {
+            return self.step(alloc, Ask::CompactEnd(&[]));
         }
-        let pieces = Items::of(pieces);
-        self.step(&CoreEvent::CompactEnd { pieces })
-    }
-
-    /// The inputs leave, and a table of so many versions comes, where there are some.
-    fn compacted(&mut self, family: Family, count: u64) -> Result<(), Fail> {
-        let inputs = &self.inputs;
-        self.tables.retain(|(_, t)| !inputs.contains(t));
-        if count > 0 {
-            self.tables.push((family.0, self.next_table))?;
-            self.next_table = self.next_table.wrapping_add(1);
-        }
-        self.compaction = None;
-        Ok(())
+        let piece = (self.next_table, count);
+        self.step(alloc, Ask::CompactEnd(&[piece]))
     }
 
     /// Ends the compaction with the count of versions that isn't refused.
     fn end_compaction(&mut self, rt: &impl Abort, alloc: Global) -> Result<(), Fail> {
-        let Some(family) = self.compaction else {
+        let Some(Job { family, from }) = self.compaction else {
             return Ok(());
         };
         for count in 0..=self.versions.len() as u64 {
-            let reply = self.end_with(alloc, count)?;
-            if !is_refused(&reply) {
-                return self.compacted(family, count);
+            if self.end_with(alloc, count)? == Told::Done {
+                self.compaction = None;
+                self.tables.retain(|(of, t)| *of != family || *t >= from);
+                return if count > 0 {
+                    self.add_table(family)
+                } else {
+                    Ok(())
+                };
             }
         }
         assert!(rt; false, "no count of versions is the collection's");
         Ok(())
     }
 
-    fn drop_compaction(&mut self) -> Result<(), Fail> {
-        self.step(&CoreEvent::CompactDrop)?;
+    fn drop_flush(&mut self, alloc: Global) -> Result<(), Fail> {
+        self.flush = None;
+        self.step(alloc, Ask::FlushDrop)?;
+        Ok(())
+    }
+
+    fn drop_compaction(&mut self, alloc: Global) -> Result<(), Fail> {
         self.compaction = None;
+        self.step(alloc, Ask::CompactDrop)?;
         Ok(())
     }
 
@@ -428,16 +378,16 @@ impl Script {
             0..=5 => self.write(alloc),
             6..=9 => self.get(rt, alloc),
             10..=12 => self.get_in_view(rt, alloc),
-            13 => self.raise(),
-            14 => self.snap(),
-            15 => self.release(),
-            16 => self.pin(),
-            17 => self.start_flush(),
-            18 | 19 => self.end_flush(),
+            13 => self.raise(alloc),
+            14 => self.snap(alloc),
+            15 => self.release(alloc),
+            16 => self.pin(alloc),
+            17 => self.start_flush(alloc),
+            18 | 19 => self.end_flush(alloc),
             20 => self.start_compaction(alloc),
             21 => self.end_compaction(rt, alloc),
-            22 => self.drop_flush(),
-            _ => self.drop_compaction(),
+            22 => self.drop_flush(alloc),
+            _ => self.drop_compaction(alloc),
         }
     }
 }
@@ -449,7 +399,7 @@ fn a_thousand_events(rt: HostRuntime) -> Result<(), Fail> {
     for _ in 0..1000 {
         script.turn(&rt, alloc)?;
     }
-    script.step(&CoreEvent::Halt)?;
+    script.step(alloc, Ask::Halt)?;
     for _ in 0..50 {
         script.get(&rt, alloc)?;
         script.get_in_view(&rt, alloc)?;

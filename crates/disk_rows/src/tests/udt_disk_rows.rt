@@ -1,91 +1,13 @@
-//! Folders, files and hosts, in memory and real.
+//! Folders in memory, what crashes leave of them, and real folders, files and hosts.
 
-use std::alloc::{AllocError, Global};
-use std::{env, fs, io, process};
+use Step::{Create, Remove, Sync, Write};
+use std::alloc::Global;
+use std::test::Fail;
+use std::{env, fs, process};
 use udt_disk::{
-    Disk, DiskFile, Failed, FileName, Host, HostSink, MemDisk, MemHost, MemSink, MemSource,
-    Outcome, RealHost, Sink, Source, Text, TextFault, Trouble,
+    Disk, DiskFile, Failed, FileName, Host, HostSink, MemDisk, MemFile, Outcome, RealHost, Sink,
+    Source, Text, Trouble,
 };
-
-fn source(alloc: Global, bytes: &[u8], fail_at: Option<u64>) -> Result<MemSource, AllocError> {
-    Ok(MemSource::new(Vec::from_slice(alloc, bytes)?, fail_at))
-}
-
-#[test]
-fn texts_have_at_most_4096_bytes(rt: HostRuntime) {
-    let bytes = [120u8; 4097];
-    for len in [0, 1, 4096] {
-        let text = Text::of(rt.alloc(), &bytes[..len]);
-        assert_eq!(rt; text.map(|text| text.bytes().len()), Ok(len), "{len} bytes");
-    }
-    let fault = Text::of(rt.alloc(), &bytes).map(|_| ());
-    assert_eq!(rt; fault, Err(TextFault::TooLong { len: 4097 }));
-    let text = Text::of(rt.alloc(), b"x");
-    assert!(rt; text.is_ok_and(|text| text.bytes() == b"x".as_slice()));
-}
-
-#[test]
-fn a_source_gives_its_bytes_in_turn(rt: HostRuntime) {
-    let source = source(rt.alloc(), b"abcde", Some(2));
-    assert!(rt; source.is_ok());
-    let Ok(mut source) = source else {
-        return;
-    };
-    let mut into = [0u8; 3];
-    for (want, front) in [
-        (Ok(3), [97, 98, 99]),
-        (Err(Failed), [97, 98, 99]),
-        (Ok(2), [100, 101, 99]),
-        (Ok(0), [100, 101, 99]),
-        (Ok(0), [100, 101, 99]),
-    ] {
-        assert_eq!(rt; source.read(&mut into), want);
-        assert_eq!(rt; into, front);
-    }
-}
-
-#[test]
-fn a_sink_keeps_what_it_takes(rt: HostRuntime) {
-    let mut sink = MemSink::new(rt.alloc(), Some(2));
-    assert_eq!(rt; sink.write(b"ab"), Ok(2));
-    assert_eq!(rt; sink.write(b"cd"), Err(Failed));
-    assert_eq!(rt; sink.write(b"ef"), Ok(2));
-    assert_eq!(rt; sink.write(b""), Ok(0));
-    assert_eq!(rt; sink.taken(), b"abef".as_slice());
-    assert_eq!(rt; sink.starved(), 0);
-}
-
-/// Reads a source of the host to its end, which is within 8 bytes, and gives it back.
-fn read_source(host: &mut MemHost, path: &Text) -> Option<([u8; 8], usize)> {
-    let Ok(Some(mut source)) = host.open_source(path) else {
-        return None;
-    };
-    let mut into = [0u8; 8];
-    let count = source.read(&mut into).ok();
-    host.close_source(source);
-    count.map(|count| (into, count))
-}
-
-#[test]
-fn a_host_gives_each_source_once(rt: HostRuntime) -> Result<(), TextFault> {
-    let mut host = MemHost::new(rt.alloc());
-    let one = Text::of(rt.alloc(), b"one")?;
-    let two = Text::of(rt.alloc(), b"two")?;
-    for (path, bytes) in [("one", "old"), ("two", "bytes"), ("one", "new")] {
-        let path = Text::of(rt.alloc(), path.as_bytes())?;
-        host.put_source(path, source(rt.alloc(), bytes.as_bytes(), None)?)?;
-    }
-
-    assert_eq!(rt; read_source(&mut host, &one), Some((*b"new\0\0\0\0\0", 3)));
-    assert_eq!(rt; read_source(&mut host, &one), None);
-    assert_eq!(rt; read_source(&mut host, &two), Some((*b"bytes\0\0\0", 5)));
-
-    let path = Text::of(rt.alloc(), b"one")?;
-    host.put_source(path, source(rt.alloc(), b"again", None)?)?;
-    assert_eq!(rt; read_source(&mut host, &one), Some((*b"again\0\0\0", 5)));
-    assert_eq!(rt; host.starved(), 0);
-    Ok(())
-}
 
 /// What becomes of a file in a test.
 #[derive(Clone, Copy, Debug)]
@@ -98,89 +20,82 @@ enum Step {
     Remove,
 }
 
+/// Writes the file or syncs it, as the step says, and gives it back.
+fn touch(disk: &mut MemDisk, mut file: MemFile, step: Step) -> Result<(), Failed> {
+    let done = match step {
+        Write(bytes) => file.write_at(0, bytes.as_bytes()),
+        Sync => file.sync(),
+        Create | Remove => Ok(()),
+    };
+    disk.retire(file);
+    done
+}
+
 fn take_step(disk: &mut MemDisk, step: Step) -> Result<(), Failed> {
     let name = FileName::Current;
-    match step {
-        Step::Create => {
-            let file = disk.create(name)?;
-            disk.retire(file);
-        }
-        Step::Remove => disk.remove(name)?,
-        Step::Write(bytes) => {
-            let Some(mut file) = disk.open_file(name)? else {
-                return Err(Failed);
-            };
-            let written = file.write_at(0, bytes.as_bytes());
-            disk.retire(file);
-            written?;
-        }
-        Step::Sync => {
-            let Some(mut file) = disk.open_file(name)? else {
-                return Err(Failed);
-            };
-            let synced = file.sync();
-            disk.retire(file);
-            synced?;
-        }
-    }
-    Ok(())
+    let file = match step {
+        Remove => return disk.remove(name),
+        Create => disk.create(name)?,
+        Write(_) | Sync => disk.open_file(name)?.ok_or(Failed)?,
+    };
+    touch(disk, file, step)
 }
 
-fn take_steps(disk: &mut MemDisk, steps: &[Step]) -> Result<(), Failed> {
+/// The folder after a crash with the outcome behind these steps.
+fn crashed(alloc: Global, steps: &[Step], outcome: Outcome) -> Result<MemDisk, Fail> {
+    let mut disk = MemDisk::new(alloc, Vec::new(alloc))?;
     for step in steps {
-        take_step(disk, *step)?;
+        take_step(&mut disk, *step)?;
     }
-    Ok(())
+    Ok(disk.after_crash(alloc, outcome)?)
 }
+
+const CREATED: [Step; 1] = [Create];
+
+const UNSYNCED: [Step; 2] = [Create, Write("abc")];
+
+const SYNCED: [Step; 3] = [Create, Write("abc"), Sync];
+
+const REWRITTEN: [Step; 4] = [Create, Write("abc"), Sync, Write("xy")];
+
+const EMPTIED: [Step; 4] = [Create, Write("abc"), Sync, Create];
+
+const REFILLED: [Step; 5] = [Create, Write("abc"), Sync, Create, Write("xy")];
+
+const REMOVED: [Step; 4] = [Create, Write("abc"), Sync, Remove];
+
+/// Bytes of which a crash spoilt as many as were not synced.
+const SPOILT: &[u8] = b"\xA5\xA5\xA5";
+
+/// What crashes leave of the file behind steps.
+const LEFT: [(&[Step], Outcome, Option<&[u8]>); 21] = [
+    (&SYNCED, Outcome::Lost, Some(b"abc")),
+    (&SYNCED, Outcome::Kept, Some(b"abc")),
+    (&SYNCED, Outcome::Hostile, Some(b"abc")),
+    (&CREATED, Outcome::Lost, None),
+    (&CREATED, Outcome::Kept, Some(b"")),
+    (&CREATED, Outcome::Hostile, Some(b"")),
+    (&UNSYNCED, Outcome::Lost, None),
+    (&UNSYNCED, Outcome::Kept, Some(b"abc")),
+    (&UNSYNCED, Outcome::Hostile, Some(SPOILT)),
+    (&REWRITTEN, Outcome::Lost, Some(b"abc")),
+    (&REWRITTEN, Outcome::Kept, Some(b"xyc")),
+    (&REWRITTEN, Outcome::Hostile, Some(b"\xA5\xA5c")),
+    (&EMPTIED, Outcome::Lost, Some(b"abc")),
+    (&EMPTIED, Outcome::Kept, Some(b"")),
+    (&EMPTIED, Outcome::Hostile, Some(SPOILT)),
+    (&REFILLED, Outcome::Lost, Some(b"abc")),
+    (&REFILLED, Outcome::Kept, Some(b"xy")),
+    (&REFILLED, Outcome::Hostile, Some(SPOILT)),
+    (&REMOVED, Outcome::Lost, Some(b"abc")),
+    (&REMOVED, Outcome::Kept, None),
+    (&REMOVED, Outcome::Hostile, Some(b"abc")),
+];
 
 #[test]
-fn crashes_leave_what_was_synced(rt: HostRuntime) -> Result<(), AllocError> {
-    let synced = [Step::Create, Step::Write("abc"), Step::Sync];
-    let created = [Step::Create];
-    let unsynced = [Step::Create, Step::Write("abc")];
-    let rewritten = [
-        Step::Create,
-        Step::Write("abc"),
-        Step::Sync,
-        Step::Write("xy"),
-    ];
-    let emptied = [Step::Create, Step::Write("abc"), Step::Sync, Step::Create];
-    let refilled = [
-        Step::Create,
-        Step::Write("abc"),
-        Step::Sync,
-        Step::Create,
-        Step::Write("xy"),
-    ];
-    let removed = [Step::Create, Step::Write("abc"), Step::Sync, Step::Remove];
-    let spoilt = Some(b"\xA5\xA5c".as_slice());
-    let table: [(&[Step], Outcome, Option<&[u8]>); 21] = [
-        (&synced, Outcome::Lost, Some(b"abc")),
-        (&synced, Outcome::Kept, Some(b"abc")),
-        (&synced, Outcome::Hostile, Some(b"abc")),
-        (&created, Outcome::Lost, None),
-        (&created, Outcome::Kept, Some(b"")),
-        (&created, Outcome::Hostile, Some(b"")),
-        (&unsynced, Outcome::Lost, None),
-        (&unsynced, Outcome::Kept, Some(b"abc")),
-        (&unsynced, Outcome::Hostile, Some(b"\xA5\xA5\xA5")),
-        (&rewritten, Outcome::Lost, Some(b"abc")),
-        (&rewritten, Outcome::Kept, Some(b"xyc")),
-        (&rewritten, Outcome::Hostile, spoilt),
-        (&emptied, Outcome::Lost, Some(b"abc")),
-        (&emptied, Outcome::Kept, Some(b"")),
-        (&emptied, Outcome::Hostile, Some(b"\xA5\xA5\xA5")),
-        (&refilled, Outcome::Lost, Some(b"abc")),
-        (&refilled, Outcome::Kept, Some(b"xy")),
-        (&refilled, Outcome::Hostile, Some(b"\xA5\xA5\xA5")),
-        (&removed, Outcome::Lost, Some(b"abc")),
-        (&removed, Outcome::Kept, None),
-        (&removed, Outcome::Hostile, Some(b"abc")),
-    ];
-    for (steps, outcome, want) in table {
-        let mut disk = MemDisk::new(rt.alloc(), Vec::new(rt.alloc()))?;
-        assert_eq!(rt; take_steps(&mut disk, steps), Ok(()));
-        let disk = disk.after_crash(rt.alloc(), outcome)?;
+fn crashes_leave_what_was_synced(rt: HostRuntime) -> Result<(), Fail> {
+    for (steps, outcome, want) in LEFT {
+        let disk = crashed(rt.alloc(), steps, outcome)?;
         assert!(rt;
             disk.contents(FileName::Current) == want,
             "{steps:?} {outcome:?}"
@@ -190,15 +105,18 @@ fn crashes_leave_what_was_synced(rt: HostRuntime) -> Result<(), AllocError> {
     Ok(())
 }
 
+/// A call that fails, for good or not, and which of four calls fail by that.
+const TROUBLES: [(u64, bool, [bool; 4]); 5] = [
+    (1, false, [true, false, false, false]),
+    (2, false, [false, true, false, false]),
+    (2, true, [false, true, true, true]),
+    (4, false, [false, false, false, true]),
+    (5, true, [false, false, false, false]),
+];
+
 #[test]
-fn a_trouble_fires_at_its_call(rt: HostRuntime) -> Result<(), AllocError> {
-    for (call, lasting, want) in [
-        (1, false, [true, false, false, false]),
-        (2, false, [false, true, false, false]),
-        (2, true, [false, true, true, true]),
-        (4, false, [false, false, false, true]),
-        (5, true, [false, false, false, false]),
-    ] {
+fn a_trouble_fires_at_its_call(rt: HostRuntime) -> Result<(), Fail> {
+    for (call, lasting, want) in TROUBLES {
         let trouble = Trouble {
             name: FileName::Log(1),
             call,
@@ -207,260 +125,265 @@ fn a_trouble_fires_at_its_call(rt: HostRuntime) -> Result<(), AllocError> {
         let mut disk = MemDisk::new(rt.alloc(), Vec::from_slice(rt.alloc(), &[trouble])?)?;
         for fails in want {
             let other = disk.remove(FileName::Log(2));
-            assert_eq!(rt; other, Ok(()));
             let removed = disk.remove(FileName::Log(1));
-            assert_eq!(rt; removed.is_err(), fails, "call {call}");
+            assert!(rt; other.is_ok() && removed.is_err() == fails, "call {call}");
         }
     }
     Ok(())
 }
 
-#[test]
-fn a_trouble_counts_the_calls_of_the_file(rt: HostRuntime) -> Result<(), AllocError> {
-    let trouble = Trouble {
-        name: FileName::Log(1),
-        call: 3,
-        lasting: false,
-    };
-    let mut disk = MemDisk::new(rt.alloc(), Vec::from_slice(rt.alloc(), &[trouble])?)?;
-    let Ok(mut file) = disk.create(FileName::Log(1)) else {
-        assert!(rt; false, "create");
-        return Ok(());
-    };
-    assert_eq!(rt; file.len(), Ok(0));
-    assert_eq!(rt; file.sync(), Err(Failed));
-    assert_eq!(rt; file.write_at(0, b"ab"), Ok(()));
-    let mut into = [0u8; 3];
-    assert_eq!(rt; file.read_at(1, &mut into), Ok(1));
-    assert_eq!(rt; into[0], b'b');
-    assert_eq!(rt; file.sync(), Ok(()));
-    assert_eq!(rt; file.starved(), 0);
-    disk.retire(file);
-    assert!(rt; disk.contents(FileName::Log(1)) == Some(b"ab".as_slice()));
-    assert_eq!(rt; disk.remove(FileName::Log(1)), Ok(()));
-    assert!(rt; disk.contents(FileName::Log(1)).is_none());
-    Ok(())
+/// What a host or a folder answers where something is asked for.
+#[derive(Clone, Copy, Debug, PartialEq, Eq)]
+enum Asked {
+    Found,
+    Missing,
+    Fails,
 }
 
-#[test]
-fn giving_a_file_back_has_no_number(rt: HostRuntime) -> Result<(), AllocError> {
-    let trouble = Trouble {
-        name: FileName::Current,
-        call: 3,
-        lasting: true,
-    };
-    let mut disk = MemDisk::new(rt.alloc(), Vec::from_slice(rt.alloc(), &[trouble])?)?;
-    assert_eq!(rt;
-        take_steps(&mut disk, &[Step::Create, Step::Create]),
-        Ok(())
-    );
-    for step in [Step::Create, Step::Remove, Step::Sync] {
-        assert_eq!(rt; take_step(&mut disk, step), Err(Failed), "{step:?}");
+fn ask_for_folder<H: Host>(host: &mut H, place: &Text, make: bool) -> Asked {
+    match host.open_folder(place, make) {
+        Ok(Some(folder)) => {
+            host.close_folder(place, folder);
+            Asked::Found
+        }
+        Ok(None) => Asked::Missing,
+        Err(Failed) => Asked::Fails,
     }
-    assert!(rt; disk.contents(FileName::Current) == Some(b"".as_slice()));
-    assert_eq!(rt; disk.starved(), 0);
-    Ok(())
 }
 
-#[test]
-fn a_host_gives_each_folder_once(rt: HostRuntime) -> Result<(), TextFault> {
-    let alloc = rt.alloc();
-    let mut host = MemHost::new(alloc);
-    let path = Text::of(alloc, b"folder")?;
-    let other = Text::of(alloc, b"other")?;
-    assert!(rt; matches!(host.open_folder(&path, false), Ok(None)));
-    assert!(rt; matches!(host.open_source(&path), Ok(None)));
-    let Ok(Some(mut folder)) = host.open_folder(&path, true) else {
-        assert!(rt; false, "a new folder");
-        return Ok(());
-    };
-    assert_eq!(rt;
-        take_steps(&mut folder, &[Step::Create, Step::Write("abc")]),
-        Ok(())
-    );
-    assert!(rt; matches!(host.open_folder(&path, false), Ok(None)));
-    host.close_folder(&path, folder);
-    assert!(rt; host.take_folder(&other).is_none());
-
-    let Ok(Some(folder)) = host.open_folder(&path, false) else {
-        assert!(rt; false, "the folder");
-        return Ok(());
-    };
-    host.put_folder(
-        Text::of(alloc, b"other")?,
-        folder.after_crash(alloc, Outcome::Lost)?,
-    )?;
-    assert!(rt; host.take_folder(&path).is_none());
-    let folder = host.take_folder(&other);
-    let contents = folder
-        .as_ref()
-        .and_then(|folder| folder.contents(FileName::Current));
-    assert!(rt; contents == Some(b"abc".as_slice()));
-    assert_eq!(rt; host.starved(), 0);
-    Ok(())
+fn ask_for_source<H: Host>(host: &mut H, place: &Text) -> Asked {
+    match host.open_source(place) {
+        Ok(Some(source)) => {
+            host.close_source(source);
+            Asked::Found
+        }
+        Ok(None) => Asked::Missing,
+        Err(Failed) => Asked::Fails,
+    }
 }
 
-/// Calls of each kind on a folder, and what was read of a file from its second byte on.
-fn write_and_read<D: Disk>(disk: &mut D) -> Result<[u8; 3], Failed> {
-    let name = FileName::Log(7);
+fn ask_for_file<D: Disk>(disk: &mut D, name: FileName) -> Asked {
+    match disk.open_file(name) {
+        Ok(Some(file)) => {
+            disk.retire(file);
+            Asked::Found
+        }
+        Ok(None) => Asked::Missing,
+        Err(Failed) => Asked::Fails,
+    }
+}
+
+fn ask_for_new_file<D: Disk>(disk: &mut D, name: FileName) -> Asked {
+    match disk.create(name) {
+        Ok(file) => {
+            disk.retire(file);
+            Asked::Found
+        }
+        Err(Failed) => Asked::Fails,
+    }
+}
+
+/// Writes twice, syncs and answers the length.
+fn write_twice<F: DiskFile>(file: &mut F) -> Result<u64, Failed> {
+    file.write_at(0, b"abcd")?;
+    file.write_at(0, b"xy")?;
+    file.sync()?;
+    file.len()
+}
+
+fn write<D: Disk>(disk: &mut D, name: FileName) -> Result<u64, Failed> {
     let mut file = disk.create(name)?;
-    let first = file.write_at(0, b"abcd");
-    let second = file.write_at(0, b"xy");
-    let synced = file.sync();
-    let len = file.len();
+    let written = write_twice(&mut file);
     disk.retire(file);
-    first.and(second).and(synced)?;
+    written
+}
+
+/// Reads a file from its second byte on.
+fn read<D: Disk>(disk: &mut D, name: FileName, into: &mut [u8]) -> Result<usize, Failed> {
     let Some(mut file) = disk.open_file(name)? else {
         return Err(Failed);
     };
-    let mut into = [0u8; 3];
-    let read = file.read_at(1, &mut into);
+    let read = file.read_at(1, into);
     disk.retire(file);
-    if len != Ok(4) || read != Ok(3) {
-        return Err(Failed);
-    }
+    read
+}
+
+/// Are four bytes written to a file, three of them read, and is it removed?
+fn is_kept<D: Disk>(disk: &mut D, into: &mut [u8]) -> Result<bool, Failed> {
+    let name = FileName::Log(7);
+    let written = write(disk, name)?;
+    let read = read(disk, name, into)?;
     disk.remove(name)?;
-    match disk.open_file(name)? {
-        None => Ok(into),
-        Some(file) => {
-            disk.retire(file);
-            Err(Failed)
-        }
-    }
+    Ok(written == 4 && read == 3 && ask_for_file(disk, name) == Asked::Missing)
 }
 
-fn text_of(alloc: Global, folder: &str, name: &str) -> Result<Text, TextFault> {
-    let path = format!(in alloc; "{folder}{name}")?;
-    Text::of(alloc, path.as_bytes())
-}
-
-/// A folder of its own for a test, in the place for temporary files.
-fn temporary(rt: &HostRuntime, name: &str) -> io::Result<String> {
+/// A path of its own for a test, in the place for temporary files.
+fn temporary(rt: &HostRuntime, name: &str) -> Result<String, Fail> {
     let place = env::temp_dir(rt)?;
     let id = process::id(rt.process());
-    let path = format!(in rt.alloc(); "{}/udt_disk-{id}-{name}", place.display())?;
-    Ok(path)
+    Ok(format!(in rt.alloc(); "{}/udt_disk-{id}-{name}", place.display())?)
+}
+
+/// What a real host answers where a folder, made or not, and a source are asked for under a path.
+fn ask_host(rt: &HostRuntime, path: &[u8], make: bool) -> Result<(Asked, Asked), Fail> {
+    let place = Text::of(rt.alloc(), path)?;
+    let mut host = RealHost::new(rt);
+    let folder = ask_for_folder(&mut host, &place, make);
+    Ok((folder, ask_for_source(&mut host, &place)))
+}
+
+fn is_kept_in(rt: &HostRuntime, path: &str, make: bool, into: &mut [u8]) -> Result<bool, Fail> {
+    let place = Text::of(rt.alloc(), path.as_bytes())?;
+    let mut host = RealHost::new(rt);
+    let mut folder = host.open_folder(&place, make)?.ok_or("no folder")?;
+    let kept = is_kept(&mut folder, into);
+    host.close_folder(&place, folder);
+    Ok(kept?)
 }
 
 #[test]
-fn a_real_folder_keeps_its_files(rt: HostRuntime) -> io::Result<()> {
-    let alloc = rt.alloc();
+fn a_real_folder_keeps_its_files(rt: HostRuntime) -> Result<(), Fail> {
     let path = temporary(&rt, "folder")?;
-    let Ok(text) = text_of(alloc, &path, "") else {
-        return Ok(());
-    };
-    let mut host = RealHost::new(&rt);
-    assert!(rt; matches!(host.open_folder(&text, false), Ok(None)));
+    let (missing, _) = ask_host(&rt, path.as_bytes(), false)?;
+    assert_eq!(rt; missing, Asked::Missing);
     for make in [true, false] {
-        let Ok(Some(mut folder)) = host.open_folder(&text, make) else {
-            assert!(rt; false, "a folder");
-            return Ok(());
-        };
-        assert_eq!(rt; write_and_read(&mut folder), Ok(*b"ycd"));
-        host.close_folder(&text, folder);
+        let mut into = [0u8; 3];
+        assert!(rt; is_kept_in(&rt, &path, make, &mut into)?);
+        assert_eq!(rt; into.as_slice(), b"ycd".as_slice());
     }
-    fs::remove_dir_all(&rt, path.as_str())
+    Ok(fs::remove_dir_all(&rt, path.as_str())?)
 }
 
-/// What was read of the found log 1 from its second byte on.
-fn read_found<D: Disk>(disk: &mut D) -> Result<[u8; 3], Failed> {
-    let Some(mut file) = disk.open_file(FileName::Log(1))? else {
-        return Err(Failed);
-    };
-    let mut into = [0u8; 3];
-    let read = file.read_at(1, &mut into);
-    disk.retire(file);
-    read?;
-    Ok(into)
+fn read_found(rt: &HostRuntime, path: &str, into: &mut [u8]) -> Result<usize, Fail> {
+    let place = Text::of(rt.alloc(), path.as_bytes())?;
+    let mut host = RealHost::new(rt);
+    let mut folder = host.open_folder(&place, false)?.ok_or("no folder")?;
+    let read = read(&mut folder, FileName::Log(1), into);
+    host.close_folder(&place, folder);
+    Ok(read?)
+}
+
+/// Does a file hold this text?
+fn holds(rt: &HostRuntime, path: &str, text: &str) -> Result<bool, Fail> {
+    Ok(fs::read_to_string(rt, path)?.as_str() == text)
 }
 
 #[test]
-fn a_real_file_that_is_found_is_read_and_stays(rt: HostRuntime) -> io::Result<()> {
-    let alloc = rt.alloc();
+fn a_real_file_that_is_found_is_read_and_stays(rt: HostRuntime) -> Result<(), Fail> {
     let path = temporary(&rt, "found")?;
+    let log = format!(in rt.alloc(); "{path}/1.log")?;
     fs::create_dir(&rt, path.as_str())?;
-    let log = format!(in alloc; "{path}/1.log")?;
     fs::write(&rt, log.as_str(), "bytes of a log")?;
-    let Ok(text) = text_of(alloc, &path, "") else {
-        return Ok(());
-    };
-    let mut host = RealHost::new(&rt);
-    let Ok(Some(mut folder)) = host.open_folder(&text, false) else {
-        assert!(rt; false, "a folder");
-        return Ok(());
-    };
-    assert_eq!(rt; read_found(&mut folder), Ok(*b"yte"));
-    host.close_folder(&text, folder);
-    assert_eq!(rt;
-        fs::read_to_string(&rt, log.as_str())?.as_str(),
-        "bytes of a log"
-    );
-    fs::remove_dir_all(&rt, path.as_str())
+    let mut into = [0u8; 3];
+    assert_eq!(rt; read_found(&rt, &path, &mut into)?, 3);
+    assert_eq!(rt; into.as_slice(), b"yte".as_slice());
+    assert!(rt; holds(&rt, &log, "bytes of a log")?);
+    Ok(fs::remove_dir_all(&rt, path.as_str())?)
 }
 
 #[test]
-fn a_real_folder_is_made_at_a_path_of_one_word(rt: HostRuntime) -> io::Result<()> {
-    let alloc = rt.alloc();
-    let path = format!(in alloc; "udt_disk-{}-word", process::id(rt.process()))?;
-    let Ok(text) = text_of(alloc, &path, "") else {
-        return Ok(());
-    };
-    let mut host = RealHost::new(&rt);
-    let Ok(Some(folder)) = host.open_folder(&text, true) else {
-        assert!(rt; false, "a folder");
-        return Ok(());
-    };
-    host.close_folder(&text, folder);
-    fs::remove_dir(&rt, path.as_str())
+fn a_real_folder_is_made_at_a_path_of_one_word(rt: HostRuntime) -> Result<(), Fail> {
+    let path = format!(in rt.alloc(); "udt_disk-{}-word", process::id(rt.process()))?;
+    let (made, _) = ask_host(&rt, path.as_bytes(), true)?;
+    assert_eq!(rt; made, Asked::Found);
+    Ok(fs::remove_dir(&rt, path.as_str())?)
 }
 
+/// Makes a folder with a file.
+fn make_file(rt: &HostRuntime, folder: &str, file: &str, text: &str) -> Result<(), Fail> {
+    fs::create_dir(rt, folder)?;
+    let path = format!(in rt.alloc(); "{folder}/{file}")?;
+    Ok(fs::write(rt, path.as_str(), text)?)
+}
+
+/// Paths below a folder with the file `file`, and what is answered where a folder, made or not, and a source are asked for.
+const OTHERS: [(&str, bool, (Asked, Asked)); 3] = [
+    ("file", true, (Asked::Fails, Asked::Found)),
+    ("file/below", true, (Asked::Fails, Asked::Fails)),
+    ("missing", false, (Asked::Missing, Asked::Missing)),
+];
+
 #[test]
-fn a_real_host_answers_failed_where_something_else_stands(rt: HostRuntime) -> io::Result<()> {
-    let alloc = rt.alloc();
+fn a_real_host_answers_failed_where_something_else_stands(rt: HostRuntime) -> Result<(), Fail> {
     let path = temporary(&rt, "other")?;
+    make_file(&rt, &path, "file", "bytes")?;
+    for (name, make, wanted) in OTHERS {
+        let place = format!(in rt.alloc(); "{path}/{name}")?;
+        assert_eq!(rt; ask_host(&rt, place.as_bytes(), make)?, wanted, "{name}");
+    }
+    Ok(fs::remove_dir_all(&rt, path.as_str())?)
+}
+
+#[test]
+fn a_real_host_answers_failed_where_a_path_is_no_text(rt: HostRuntime) -> Result<(), Fail> {
+    assert_eq!(rt; ask_host(&rt, &[255], true)?, (Asked::Fails, Asked::Fails));
+    Ok(())
+}
+
+/// Does each call on `CURRENT` fail, and none on `MADE`?
+fn current_fails<D: Disk>(disk: &mut D) -> bool {
+    ask_for_new_file(disk, FileName::Current) == Asked::Fails
+        && ask_for_file(disk, FileName::Current) == Asked::Fails
+        && disk.remove(FileName::Current).is_err()
+        && disk.remove(FileName::Made).is_ok()
+}
+
+fn current_fails_in(rt: &HostRuntime, path: &str) -> Result<bool, Fail> {
+    let place = Text::of(rt.alloc(), path.as_bytes())?;
+    let mut host = RealHost::new(rt);
+    let mut folder = host.open_folder(&place, false)?.ok_or("no folder")?;
+    let fails = current_fails(&mut folder);
+    host.close_folder(&place, folder);
+    Ok(fails)
+}
+
+#[test]
+fn a_folder_in_the_place_of_a_real_file_fails(rt: HostRuntime) -> Result<(), Fail> {
+    let path = temporary(&rt, "place")?;
+    let current = format!(in rt.alloc(); "{path}/CURRENT")?;
     fs::create_dir(&rt, path.as_str())?;
-    fs::create_dir(&rt, format!(in alloc; "{path}/CURRENT")?.as_str())?;
-    fs::write(&rt, format!(in alloc; "{path}/file")?.as_str(), "bytes")?;
-    let mut host = RealHost::new(&rt);
-    let (Ok(folder), Ok(file), Ok(below), Ok(missing), Ok(no_text)) = (
-        text_of(alloc, &path, ""),
-        text_of(alloc, &path, "/file"),
-        text_of(alloc, &path, "/file/below"),
-        text_of(alloc, &path, "/missing"),
-        Text::of(alloc, &[255]),
-    ) else {
-        return Ok(());
-    };
-    assert!(rt; matches!(host.open_folder(&file, true), Err(Failed)));
-    assert!(rt; matches!(host.open_folder(&below, true), Err(Failed)));
-    assert!(rt; matches!(host.open_folder(&no_text, true), Err(Failed)));
-    assert!(rt; matches!(host.open_source(&no_text), Err(Failed)));
-    assert!(rt; matches!(host.open_source(&below), Err(Failed)));
-    assert!(rt; matches!(host.open_source(&missing), Ok(None)));
-    if let Ok(Some(mut disk)) = host.open_folder(&folder, false) {
-        assert!(rt; matches!(disk.create(FileName::Current), Err(Failed)));
-        assert!(rt; matches!(disk.open_file(FileName::Current), Err(Failed)));
-        assert_eq!(rt; disk.remove(FileName::Current), Err(Failed));
-        assert_eq!(rt; disk.remove(FileName::Made), Ok(()));
-        host.close_folder(&folder, disk);
-    }
+    fs::create_dir(&rt, current.as_str())?;
+    assert!(rt; current_fails_in(&rt, &path)?);
+    Ok(fs::remove_dir_all(&rt, path.as_str())?)
+}
+
+/// What a source answers to a read into this room, and to one more.
+type Reads = (Result<usize, Failed>, Result<usize, Failed>);
+
+fn read_twice(rt: &HostRuntime, path: &str, into: &mut [u8]) -> Result<Reads, Fail> {
+    let place = Text::of(rt.alloc(), path.as_bytes())?;
+    let mut host = RealHost::new(rt);
+    let mut source = host.open_source(&place)?.ok_or("no source")?;
+    let first = source.read(into);
+    let second = source.read(&mut [0u8; 8]);
+    host.close_source(source);
+    Ok((first, second))
+}
+
+#[test]
+fn a_real_source_is_read_to_its_end(rt: HostRuntime) -> Result<(), Fail> {
+    let path = temporary(&rt, "source")?;
+    let file = format!(in rt.alloc(); "{path}/file")?;
+    make_file(&rt, &path, "file", "bytes")?;
     let mut into = [0u8; 8];
-    if let Ok(Some(mut source)) = host.open_source(&file) {
-        assert_eq!(rt; source.read(&mut into), Ok(5));
-        assert_eq!(rt; &into[..5], b"bytes".as_slice());
-        assert_eq!(rt; source.read(&mut into), Ok(0));
-        host.close_source(source);
-    }
-    if let Ok(Some(mut source)) = host.open_source(&folder) {
-        assert_eq!(rt; source.read(&mut into), Err(Failed));
-        host.close_source(source);
-    }
-    let mut sink = HostSink::new(fs::File::create(
-        &rt,
-        format!(in alloc; "{path}/sink")?.as_str(),
-    )?);
-    assert_eq!(rt; sink.write(b"out"), Ok(3));
-    let text = fs::read_to_string(&rt, format!(in alloc; "{path}/sink")?.as_str())?;
-    assert_eq!(rt; text.as_str(), "out");
-    fs::remove_dir_all(&rt, path.as_str())
+    assert_eq!(rt;
+        read_twice(&rt, &path, &mut into)?,
+        (Err(Failed), Err(Failed))
+    );
+    assert_eq!(rt; read_twice(&rt, &file, &mut into)?, (Ok(5), Ok(0)));
+    assert_eq!(rt; into.as_slice(), b"bytes\0\0\0".as_slice());
+    Ok(fs::remove_dir_all(&rt, path.as_str())?)
+}
+
+fn write_out(rt: &HostRuntime, path: &str) -> Result<usize, Fail> {
+    let mut sink = HostSink::new(fs::File::create(rt, path)?);
+    Ok(sink.write(b"out")?)
+}
+
+#[test]
+fn a_real_sink_takes_its_bytes(rt: HostRuntime) -> Result<(), Fail> {
+    let path = temporary(&rt, "sink")?;
+    assert_eq!(rt; write_out(&rt, &path)?, 3);
+    assert!(rt; holds(&rt, &path, "out")?);
+    Ok(fs::remove_file(&rt, path.as_str())?)
 }

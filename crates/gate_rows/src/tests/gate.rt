@@ -1,7 +1,7 @@
 //! The gate over a front and a commit that are lists of numbers. The front has every number of the history, the commit
 //! those from `COMMITTED` on.
 ghost use Rattle.std.specs.Prelude.{◌≡◌, ℕ, ◌+◌, ◌<◌, ◌≤◌, ◌^◌, true, false, [], ◌∷◌, ◌++◌, All, IfSome, length, slice_index_or, vec_len, vec_capacity};
-ghost use Rattle.sv_gate.specs.Gates.{origin, known, own, seen, weight_of, IsReady};
+ghost use Rattle.sv_gate.specs.Gates.{origin, known, own, seen, seat_weight, IsReady};
 ghost use Rattle.gate_rows.specs.GateRows.{needs_commit};
 
 use std::alloc::Global;
@@ -157,7 +157,7 @@ fn run_jobs<R: Threads + Wait + Sync>(rt: &R, gate: &NumberGate, jobs: &mut [Job
 fn new_gate<R: Abort>(rt: &R, alloc: Global, seats: u32) -> (NumberGate, NumberSeat)
     requires { 0 < seats }
     ensures ready { IsReady result.0 result.1 }
-    ensures weight { (weight_of result.1 ≡ seats) × ((origin result.0).seats ≡ seats) }
+    ensures weight { (seat_weight result.1 ≡ seats) × ((origin result.0).seats ≡ seats) }
     ensures fresh { (own result.1 ≡ []) × (seen result.1 ≡ []) }
 {
     let front = Front {
@@ -181,9 +181,9 @@ fn split_one<R: Abort>(
     seat: &mut NumberSeat,
 ) -> NumberSeat
     requires ready { IsReady gate.now seat.old }
-    requires weight { 1 < weight_of seat.old }
+    requires weight { 1 < seat_weight seat.old }
     ensures ready { IsReady gate.now seat.new × IsReady gate.now result }
-    ensures weight { (weight_of seat.new + 1 ≡ weight_of seat.old) × (weight_of result ≡ 1) }
+    ensures weight { (seat_weight seat.new + 1 ≡ seat_weight seat.old) × (seat_weight result ≡ 1) }
 {
     let new = gate.split(alloc, seat, 1);
     let Ok(new) = new else {
@@ -195,7 +195,7 @@ fn split_one<R: Abort>(
 /// Two jobs, with seats that are split off.
 fn two_jobs<R: Abort>(rt: &R, alloc: Global, gate: &NumberGate, seat: &mut NumberSeat) -> Vec<Job>
     requires ready { IsReady gate.now seat.old }
-    requires weight { 2 < weight_of seat.old }
+    requires weight { 2 < seat_weight seat.old }
     ensures seat { IsReady gate.now seat.new }
     ensures ready { All (λ job. IsReady gate.now job.seat × (job.first < 100000)) result.items }
 {

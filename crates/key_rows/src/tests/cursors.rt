@@ -1,4 +1,4 @@
-//! Merges of slices, walked up, down and back and forth, against the list of all.
+//! Merges of slices, walked up and down, against the list of all.
 ghost use Rattle.std.specs.Prelude.{◌≡◌, ◌≤◌, ◌<◌, length};
 ghost use Rattle.std.specs.Bool.{OnTrue};
 ghost use Rattle.ts_key.specs.Items.{items_of};
@@ -91,79 +91,77 @@ fn row<'a, C: Cursor<'a>>(cursor: &C) -> Option<Row> {
     Some((*first as u64, hit.ts.0))
 }
 
+/// Does the merge show these rows, and then none?
+fn shows_up(merge: &mut Merge<SliceCursor<'_>>, rows: &[Row]) -> bool {
+    for wanted in rows {
+        if row(merge) != Some(*wanted) {
+            return false;
+        }
+        merge.next();
+    }
+    row(merge).is_none()
+}
+
+/// Does the merge show these rows from its end on, the last one first, and then none?
+fn shows_down(merge: &mut Merge<SliceCursor<'_>>, rows: &[Row]) -> bool {
+    merge.seek_end();
+    for wanted in rows.iter().rev() {
+        merge.prev();
+        if row(merge) != Some(*wanted) {
+            return false;
+        }
+    }
+    merge.prev();
+    row(merge).is_none()
+}
+
 #[test]
 fn merges_walk_up(rt: HostRuntime) -> Result<(), Fail> {
-    let alloc = rt.alloc();
     for count in [0, 1, 2, 9] {
-        let runs = runs(alloc, count, 4)?;
-        let mut merge = merge(alloc, &runs)?;
-        for wanted in rows(alloc, count, 4)? {
-            assert_eq!(rt; row(&merge), Some(wanted));
-            merge.next();
-        }
-        assert_eq!(rt; row(&merge), None);
+        let runs = runs(rt.alloc(), count, 4)?;
+        let rows = rows(rt.alloc(), count, 4)?;
+        let mut merge = merge(rt.alloc(), &runs)?;
+        assert!(rt; shows_up(&mut merge, &rows), "{count}");
         merge.next();
-        assert_eq!(rt; row(&merge), None);
+        assert!(rt; row(&merge).is_none());
     }
     Ok(())
 }
 
 #[test]
 fn merges_walk_down(rt: HostRuntime) -> Result<(), Fail> {
-    let alloc = rt.alloc();
     for count in [0, 1, 2, 9] {
-        let runs = runs(alloc, count, 4)?;
-        let mut merge = merge(alloc, &runs)?;
-        merge.seek_end();
-        for wanted in rows(alloc, count, 4)?.iter().rev() {
-            merge.prev();
-            assert_eq!(rt; row(&merge), Some(*wanted));
-        }
-        merge.prev();
-        assert_eq!(rt; row(&merge), None);
+        let runs = runs(rt.alloc(), count, 4)?;
+        let rows = rows(rt.alloc(), count, 4)?;
+        let mut merge = merge(rt.alloc(), &runs)?;
+        assert!(rt; shows_down(&mut merge, &rows), "{count}");
         merge.prev();
         merge.next();
-        assert_eq!(rt; row(&merge), rows(alloc, count, 4)?.first().copied());
+        assert!(rt; row(&merge) == rows.first().copied());
     }
     Ok(())
 }
 
-#[test]
-fn merges_walk_back_and_forth(rt: HostRuntime) -> Result<(), Fail> {
-    let alloc = rt.alloc();
-    for count in [1, 2, 9] {
-        let runs = runs(alloc, count, 4)?;
-        let mut merge = merge(alloc, &runs)?;
-        for wanted in rows(alloc, count, 4)? {
-            merge.next();
-            merge.prev();
-            assert_eq!(rt; row(&merge), Some(wanted));
-            merge.prev();
-            merge.next();
-            assert_eq!(rt; row(&merge), Some(wanted));
-            merge.next();
-        }
-    }
-    Ok(())
-}
+/// A key, a timestamp, and what a merge of nine runs shows that was sent there.
+const SEEKS: [(&[u8], u64, Option<Row>); 5] = [
+    (b"\x02", 5, Some((2, 5))),
+    (b"\x02", u64::MAX, Some((2, 8))),
+    (b"\x01\0", 3, Some((2, 8))),
+    (b"\x04", 3, None),
+    (b"", 3, Some((0, 8))),
+];
 
 #[test]
 fn seeks_come_to_the_first_that_is_not_before(rt: HostRuntime) -> Result<(), Fail> {
-    let alloc = rt.alloc();
-    let runs = runs(alloc, 9, 4)?;
-    let mut merge = merge(alloc, &runs)?;
-    for (key, ts, wanted) in [
-        (b"\x02".as_slice(), 5, Some((2, 5))),
-        (b"\x02", u64::MAX, Some((2, 8))),
-        (b"\x01\0", 3, Some((2, 8))),
-        (b"\x04", 3, None),
-        (b"", 3, Some((0, 8))),
-    ] {
-        merge.seek(&KeyRef {
+    let runs = runs(rt.alloc(), 9, 4)?;
+    let mut merge = merge(rt.alloc(), &runs)?;
+    for (key, ts, wanted) in SEEKS {
+        let to = KeyRef {
             key,
             ts: Ts(ts),
             seq: Seq(1),
-        });
+        };
+        merge.seek(&to);
         assert_eq!(rt; row(&merge), wanted);
     }
     Ok(())
@@ -176,35 +174,34 @@ fn family_shown(merge: &Merge<SliceCursor<'_>>) -> Option<Family> {
     Some(version.family)
 }
 
+/// Steps on or back, each with the row that is shown then and its family.
+const TURNS: [(bool, Option<Row>, Option<Family>); 5] = [
+    (true, Some((0, 7)), Some(Family(2))),
+    (true, Some((1, 7)), Some(Family(2))),
+    (false, Some((0, 7)), Some(Family(2))),
+    (false, Some((0, 7)), Some(Family(1))),
+    (false, None, None),
+];
+
+fn step(merge: &mut Merge<SliceCursor<'_>>, is_on: bool) {
+    if is_on {
+        merge.next();
+    } else {
+        merge.prev();
+    }
+}
+
 #[test]
 fn of_two_equal_versions_the_earlier_cursor_has_the_first(rt: HostRuntime) -> Result<(), Fail> {
-    let alloc = rt.alloc();
-    let mut runs = Vec::new(alloc);
-    runs.push(run_of(alloc, Family(1), 1, 7)?)?;
-    runs.push(run_of(alloc, Family(2), 2, 7)?)?;
-    let mut merge = merge(alloc, &runs)?;
-    assert_eq!(rt;
-        (row(&merge), family_shown(&merge)),
-        (Some((0, 7)), Some(Family(1)))
-    );
-    merge.next();
-    assert_eq!(rt;
-        (row(&merge), family_shown(&merge)),
-        (Some((0, 7)), Some(Family(2)))
-    );
-    merge.next();
-    assert_eq!(rt;
-        (row(&merge), family_shown(&merge)),
-        (Some((1, 7)), Some(Family(2)))
-    );
-    merge.prev();
-    merge.prev();
-    assert_eq!(rt;
-        (row(&merge), family_shown(&merge)),
-        (Some((0, 7)), Some(Family(1)))
-    );
-    merge.prev();
-    assert!(rt; merge.child().is_none());
+    let mut runs = Vec::new(rt.alloc());
+    runs.push(run_of(rt.alloc(), Family(1), 1, 7)?)?;
+    runs.push(run_of(rt.alloc(), Family(2), 2, 7)?)?;
+    let mut merge = merge(rt.alloc(), &runs)?;
+    assert_eq!(rt; family_shown(&merge), Some(Family(1)));
+    for (is_on, wanted, family) in TURNS {
+        step(&mut merge, is_on);
+        assert_eq!(rt; (row(&merge), family_shown(&merge)), (wanted, family));
+    }
     Ok(())
 }
 

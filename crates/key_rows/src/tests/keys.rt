@@ -10,81 +10,99 @@ use ts_key::{
     Version, WriteOp, compare, decode_key, decode_key_as, encode_key, encode_key_as, is_name,
 };
 
+fn is_kept_as_key(alloc: Global, bytes: &[u8]) -> Result<bool, Fail> {
+    let key = Key::of(alloc, bytes)?;
+    Ok(key.copy()?.bytes() == bytes)
+}
+
+fn is_kept_as_value(alloc: Global, bytes: &[u8]) -> Result<bool, Fail> {
+    let value = Value::of(alloc, bytes)?;
+    Ok(value.copy()?.bytes() == bytes)
+}
+
+fn is_kept_as_name(alloc: Global, bytes: &[u8]) -> Result<bool, Fail> {
+    let name = Name::of(alloc, bytes)?;
+    Ok(name.copy()?.bytes() == bytes)
+}
+
 #[test]
 fn keys(rt: HostRuntime) -> Result<(), Fail> {
-    let alloc = rt.alloc();
     for len in [0, 1, KEY_LIMIT] {
-        let bytes = vec![in alloc; 0xff; len]?;
-        let key = Key::of(alloc, &bytes)?;
-        assert_eq!(rt; key.copy()?.bytes(), bytes.as_slice());
+        let bytes = vec![in rt.alloc(); 0xff; len]?;
+        assert!(rt; is_kept_as_key(rt.alloc(), &bytes)?, "{len}");
     }
-    let long = vec![in alloc; 0u8; 1025]?;
-    assert_eq!(rt;
-        Key::of(alloc, &long).err(),
-        Some(BytesFault::TooLong { len: 1025 })
-    );
+    let long = vec![in rt.alloc(); 0u8; 1025]?;
+    let refused = Key::of(rt.alloc(), &long).err();
+    assert_eq!(rt; refused, Some(BytesFault::TooLong { len: 1025 }));
     Ok(())
 }
 
 #[test]
 fn values(rt: HostRuntime) -> Result<(), Fail> {
-    let alloc = rt.alloc();
     for len in [0, 1, VALUE_LIMIT] {
-        let bytes = vec![in alloc; 0xff; len]?;
-        let value = Value::of(alloc, &bytes)?;
-        assert_eq!(rt; value.copy()?.bytes(), bytes.as_slice());
+        let bytes = vec![in rt.alloc(); 0xff; len]?;
+        assert!(rt; is_kept_as_value(rt.alloc(), &bytes)?, "{len}");
     }
-    let long = vec![in alloc; 0u8; 65537]?;
-    assert_eq!(rt;
-        Value::of(alloc, &long).err(),
-        Some(BytesFault::TooLong { len: 65537 })
-    );
+    let long = vec![in rt.alloc(); 0u8; 65537]?;
+    let refused = Value::of(rt.alloc(), &long).err();
+    assert_eq!(rt; refused, Some(BytesFault::TooLong { len: 65537 }));
     Ok(())
 }
 
+const NAMES: [&[u8]; 4] = [b"a", b"_", b"default_09", &[b'z'; NAME_LIMIT]];
+
+const NO_NAMES: [&[u8]; 9] = [
+    b"",
+    b"D",
+    b"a b",
+    b"a-b",
+    b"`",
+    b"{",
+    b"/",
+    b":",
+    &[b'z'; 33],
+];
+
 #[test]
 fn names(rt: HostRuntime) -> Result<(), Fail> {
-    let alloc = rt.alloc();
-    let longest = vec![in alloc; b'z'; NAME_LIMIT]?;
-    for bytes in [b"a".as_slice(), b"_", b"default_09", longest.as_slice()] {
-        assert!(rt; is_name(bytes));
-        assert_eq!(rt; Name::of(alloc, bytes)?.copy()?.bytes(), bytes);
+    for bytes in NAMES {
+        assert!(rt; is_name(bytes) && is_kept_as_name(rt.alloc(), bytes)?);
     }
-    let long = vec![in alloc; b'z'; 33]?;
-    for bytes in [
-        b"".as_slice(),
-        b"D",
-        b"a b",
-        b"a-b",
-        b"`",
-        b"{",
-        b"/",
-        b":",
-        long.as_slice(),
-    ] {
-        assert!(rt; !is_name(bytes));
-        assert_eq!(rt; Name::of(alloc, bytes).err(), Some(NameFault::Bad));
+    for bytes in NO_NAMES {
+        let refused = Name::of(rt.alloc(), bytes).err();
+        assert!(rt;
+            !is_name(bytes) && refused == Some(NameFault::Bad),
+            "{bytes:?}"
+        );
     }
     Ok(())
+}
+
+fn put(alloc: Global, key: &[u8], ts: u64, seq: u64) -> Result<Version, Fail>
+    ensures { IfOk result (λ v. (v.ts.0 ≡ ts) × (v.seq.0 ≡ seq)) }
+{
+    Ok(Version {
+        family: Family(3),
+        key: Key::of(alloc, key)?,
+        ts: Ts(ts),
+        seq: Seq(seq),
+        op: Op::Put(Value::of(alloc, b"v")?),
+    })
+}
+
+/// Is it the put of `a` at 5 with sequence 1 and the value `v`?
+fn is_put_of_a(version: &Version) -> bool {
+    let numbers = (version.family, version.ts, version.seq);
+    numbers == (Family(3), Ts(5), Seq(1))
+        && version.key.bytes() == b"a".as_slice()
+        && version.op.kind() == Kind::Put
+        && version.op.value() == b"v".as_slice()
 }
 
 #[test]
 fn versions(rt: HostRuntime) -> Result<(), Fail> {
-    let alloc = rt.alloc();
-    let put = Version {
-        family: Family(3),
-        key: Key::of(alloc, b"a")?,
-        ts: Ts(5),
-        seq: Seq(1),
-        op: Op::Put(Value::of(alloc, b"v")?),
-    };
-    let copy = put.copy()?;
-    assert_eq!(rt;
-        (copy.family, copy.ts, copy.seq),
-        (Family(3), Ts(5), Seq(1))
-    );
-    assert_eq!(rt; copy.key.bytes(), b"a".as_slice());
-    assert!(rt; matches!(&copy.op, Op::Put(value) if value.bytes() == b"v".as_slice()));
+    let version = put(rt.alloc(), b"a", 5, 1)?;
+    assert!(rt; is_put_of_a(&version.copy()?));
     assert!(rt; matches!(Op::Del.copy()?, Op::Del));
     Ok(())
 }
@@ -102,43 +120,36 @@ fn write_ops(alloc: Global, stamps: &[u64]) -> Result<Vec<WriteOp>, Fail> {
     Ok(ops)
 }
 
-#[test]
-fn batches(rt: HostRuntime) -> Result<(), Fail> {
-    let alloc = rt.alloc();
-    let mut most = vec![in alloc; u64::MAX - 1; BATCH_LIMIT]?;
-    for stamps in [[0].as_slice(), [5, 4].as_slice(), most.as_slice()] {
-        let batch = Batch::of(write_ops(alloc, stamps)?)?;
-        assert_eq!(rt; batch.ops().len(), stamps.len());
-        for (op, ts) in batch.ops().iter().zip(stamps) {
-            assert_eq!(rt; op.copy()?.ts, Ts(*ts));
+/// The batch of such deletes has their timestamps.
+fn is_kept_as_batch(alloc: Global, stamps: &[u64]) -> Result<bool, Fail> {
+    let batch = Batch::of(write_ops(alloc, stamps)?)?;
+    for (op, ts) in batch.ops().iter().zip(stamps) {
+        if op.copy()?.ts != Ts(*ts) {
+            return Ok(false);
         }
     }
-    most.push(u64::MAX)?;
-    let refused = [
-        ([].as_slice(), BatchFault::Empty),
-        (most.as_slice(), BatchFault::TooMany { count: 65 }),
-        ([u64::MAX].as_slice(), BatchFault::BadStamp { op: 1 }),
-        (
-            [1, u64::MAX, u64::MAX].as_slice(),
-            BatchFault::BadStamp { op: 2 },
-        ),
-    ];
-    for (stamps, fault) in refused {
-        assert_eq!(rt; Batch::of(write_ops(alloc, stamps)?).err(), Some(fault));
-    }
-    Ok(())
+    Ok(batch.ops().len() == stamps.len())
 }
 
-fn put(alloc: Global, key: &[u8], ts: u64, seq: u64) -> Result<Version, Fail>
-    ensures { IfOk result (λ v. (v.ts.0 ≡ ts) × (v.seq.0 ≡ seq)) }
-{
-    Ok(Version {
-        family: Family(0),
-        key: Key::of(alloc, key)?,
-        ts: Ts(ts),
-        seq: Seq(seq),
-        op: Op::Put(Value::of(alloc, b"v")?),
-    })
+const BATCHES: [&[u64]; 3] = [&[0], &[5, 4], &[u64::MAX - 1; BATCH_LIMIT]];
+
+const NO_BATCHES: [(&[u64], BatchFault); 4] = [
+    (&[], BatchFault::Empty),
+    (&[u64::MAX; 65], BatchFault::TooMany { count: 65 }),
+    (&[u64::MAX], BatchFault::BadStamp { op: 1 }),
+    (&[1, u64::MAX, u64::MAX], BatchFault::BadStamp { op: 2 }),
+];
+
+#[test]
+fn batches(rt: HostRuntime) -> Result<(), Fail> {
+    for stamps in BATCHES {
+        assert!(rt; is_kept_as_batch(rt.alloc(), stamps)?);
+    }
+    for (stamps, fault) in NO_BATCHES {
+        let refused = Batch::of(write_ops(rt.alloc(), stamps)?).err();
+        assert_eq!(rt; refused, Some(fault));
+    }
+    Ok(())
 }
 
 fn at(key: &[u8], ts: u64, seq: u64) -> KeyRef<'_> {
@@ -149,54 +160,63 @@ fn at(key: &[u8], ts: u64, seq: u64) -> KeyRef<'_> {
     }
 }
 
-#[test]
-fn versions_stand_by_key_then_the_larger_timestamp_then_the_larger_sequence(
-    rt: HostRuntime,
-) -> Result<(), Fail> {
-    let in_order = [
-        at(b"", 0, 1),
-        at(b"a", 6, 1),
-        at(b"a", 5, 9),
-        at(b"a", 5, 2),
-        at(b"a", 0, 3),
-        at(b"a\0", 9, 9),
-        at(b"ab", 5, 1),
-        at(b"b", 5, 1),
-        at(b"\xff", 5, 1),
-    ];
-    for (i, a) in in_order.iter().enumerate() {
-        for (j, b) in in_order.iter().enumerate() {
-            assert_eq!(rt; compare(a, b), i.cmp(&j));
+/// Is this key, with this kind, what was read?
+fn is_read(read: Option<(KeyRef<'_>, Kind)>, wanted: &KeyRef<'_>, kind: Kind) -> bool {
+    match read {
+        None => false,
+        Some((key, found)) => {
+            found == kind && key.key == wanted.key && (key.ts, key.seq) == (wanted.ts, wanted.seq)
         }
     }
-    Ok(())
 }
+
+const IN_ORDER: [(&[u8], u64, u64); 9] = [
+    (b"", 0, 1),
+    (b"a", 6, 1),
+    (b"a", 5, 9),
+    (b"a", 5, 2),
+    (b"a", 0, 3),
+    (b"a\0", 9, 9),
+    (b"ab", 5, 1),
+    (b"b", 5, 1),
+    (b"\xff", 5, 1),
+];
+
+#[test]
+fn versions_stand_by_key_then_the_larger_timestamp_then_the_larger_sequence(rt: HostRuntime) {
+    for (i, a) in IN_ORDER.iter().enumerate() {
+        for (j, b) in IN_ORDER.iter().enumerate() {
+            let order = compare(&at(a.0, a.1, a.2), &at(b.0, b.1, b.2));
+            assert_eq!(rt; order, i.cmp(&j));
+        }
+    }
+}
+
+/// The stored key of a put, behind a byte that stood there.
+const STORED: &[u8] = b"\x5aa\x05\0\0\0\0\0\0\0\x01\x01\0\0\0\0\0\0";
 
 #[test]
 fn a_put_has_the_stored_key_of_the_formats(rt: HostRuntime) -> Result<(), Fail> {
-    let alloc = rt.alloc();
-    let version = put(alloc, b"a", 5, 1)?;
-    let mut out = vec![in alloc; 0x5au8; 1]?;
-    encode_key(&version, &mut out)?;
-    let wanted = b"\x5aa\x05\0\0\0\0\0\0\0\x01\x01\0\0\0\0\0\0";
-    assert_eq!(rt; out.as_slice(), wanted.as_slice());
-    let (key, kind) = decode_key(&wanted[1..]).ok().ok_or("no stored key")?;
-    assert_eq!(rt; key.key, b"a".as_slice());
-    assert_eq!(rt; (key.ts, key.seq, kind), (Ts(5), Seq(1), Kind::Put));
+    let mut out = vec![in rt.alloc(); 0x5au8; 1]?;
+    encode_key(&put(rt.alloc(), b"a", 5, 1)?, &mut out)?;
+    assert_eq!(rt; out.as_slice(), STORED);
+    let read = decode_key(&STORED[1..]).ok();
+    assert!(rt; is_read(read, &at(b"a", 5, 1), Kind::Put));
     Ok(())
 }
 
+/// The stored key of a stripped delete.
+const STRIPPED: &[u8] = b"ab\0\x03\x02\0\0\0\0\0";
+
 #[test]
 fn a_stripped_delete_has_no_timestamp(rt: HostRuntime) -> Result<(), Fail> {
-    let alloc = rt.alloc();
-    let mut version = put(alloc, b"ab", 0, 0x0203)?;
+    let mut version = put(rt.alloc(), b"ab", 0, 0x0203)?;
     version.op = Op::Del;
-    let mut out = Vec::new(alloc);
+    let mut out = Vec::new(rt.alloc());
     encode_key_as(Form::Strip, &version, &mut out)?;
-    let wanted = b"ab\0\x03\x02\0\0\0\0\0";
-    assert_eq!(rt; out.as_slice(), wanted.as_slice());
-    let (key, kind) = decode_key_as(Form::Strip, &out).ok().ok_or("no key")?;
-    assert_eq!(rt; (key.ts, key.seq, kind), (Ts(0), Seq(0x0203), Kind::Del));
+    assert_eq!(rt; out.as_slice(), STRIPPED);
+    let read = decode_key_as(Form::Strip, STRIPPED).ok();
+    assert!(rt; is_read(read, &at(b"ab", 0, 0x0203), Kind::Del));
     Ok(())
 }
 
@@ -208,81 +228,83 @@ fn parts(alloc: Global, key: &[u8], ts: &[u8], trailer: &[u8]) -> Result<Vec<u8>
     Ok(bytes)
 }
 
+const ZERO: &[u8] = &[0; 8];
+
+/// The trailer of a put with sequence 1.
+const TRAILER: &[u8] = b"\x01\x01\0\0\0\0\0\0";
+
+/// No trailer; no timestamp, or one byte of it; no sequence; no kind; the greatest number as a
+/// timestamp.
+const NO_STORED_KEYS: [(&[u8], &[u8], &[u8]); 6] = [
+    (b"", b"", b""),
+    (b"", b"", TRAILER),
+    (b"", b"\0", TRAILER),
+    (b"k", ZERO, b"\x01\0\0\0\0\0\0\0"),
+    (b"k", ZERO, b"\x02\x01\0\0\0\0\0\0"),
+    (b"k", &[0xff; 8], TRAILER),
+];
+
 #[test]
 fn bytes_outside_the_grammar_are_no_stored_key(rt: HostRuntime) -> Result<(), Fail> {
-    let alloc = rt.alloc();
-    let zero = b"\0\0\0\0\0\0\0\0".as_slice();
-    let last = b"\xff\xff\xff\xff\xff\xff\xff\xff".as_slice();
-    let put = b"\x01\x01\0\0\0\0\0\0".as_slice();
-    let long = vec![in alloc; b'k'; 1025]?;
-    let no_sequence = b"\x01\0\0\0\0\0\0\0";
-    let no_kind = b"\x02\x01\0\0\0\0\0\0";
-    assert_eq!(rt; decode_key(b"").err(), Some(KeyBad));
-    assert_eq!(rt;
-        decode_key(&parts(alloc, b"", b"", put)?).err(),
-        Some(KeyBad)
-    );
-    assert_eq!(rt;
-        decode_key(&parts(alloc, b"", b"\0", put)?).err(),
-        Some(KeyBad)
-    );
-    assert_eq!(rt;
-        decode_key(&parts(alloc, b"k", zero, no_sequence)?).err(),
-        Some(KeyBad)
-    );
-    assert_eq!(rt;
-        decode_key(&parts(alloc, b"k", zero, no_kind)?).err(),
-        Some(KeyBad)
-    );
-    assert_eq!(rt;
-        decode_key(&parts(alloc, b"k", last, put)?).err(),
-        Some(KeyBad)
-    );
-    assert_eq!(rt;
-        decode_key(&parts(alloc, &long, zero, put)?).err(),
-        Some(KeyBad)
-    );
+    for (key, ts, trailer) in NO_STORED_KEYS {
+        let bytes = parts(rt.alloc(), key, ts, trailer)?;
+        assert_eq!(rt; decode_key(&bytes).err(), Some(KeyBad));
+    }
+    let long = vec![in rt.alloc(); b'k'; 1025]?;
+    let bytes = parts(rt.alloc(), &long, ZERO, TRAILER)?;
+    assert_eq!(rt; decode_key(&bytes).err(), Some(KeyBad));
     Ok(())
 }
 
 #[test]
 fn the_greatest_numbers_of_a_stored_key(rt: HostRuntime) -> Result<(), Fail> {
-    let alloc = rt.alloc();
-    let longest = vec![in alloc; b'k'; KEY_LIMIT]?;
-    let version = put(alloc, &longest, STAMP_LIMIT, SEQUENCE_LIMIT)?;
-    let mut out = Vec::new(alloc);
+    let longest = vec![in rt.alloc(); b'k'; KEY_LIMIT]?;
+    let version = put(rt.alloc(), &longest, STAMP_LIMIT, SEQUENCE_LIMIT)?;
+    let mut out = Vec::new(rt.alloc());
     encode_key(&version, &mut out)?;
+    let wanted = at(&longest, u64::MAX - 1, (1 << 56) - 1);
     assert_eq!(rt; out.len(), 1040);
-    let (key, kind) = decode_key(&out).ok().ok_or("no stored key")?;
-    assert_eq!(rt; key.key, longest.as_slice());
-    assert_eq!(rt;
-        (key.ts, key.seq, kind),
-        (Ts(u64::MAX - 1), Seq((1 << 56) - 1), Kind::Put)
-    );
+    assert!(rt; is_read(decode_key(&out).ok(), &wanted, Kind::Put));
     Ok(())
 }
 
-#[test]
-fn numbers_are_written_and_read_back(rt: HostRuntime) -> Result<(), Fail> {
-    let mut out = Vec::new(rt.alloc());
+const NUMBERS: &[u8] = b"\x01\x03\x02\x07\x06\x05\x04\x0f\x0e\x0d\x0c\x0b\x0a\x09\x08";
+
+fn write_numbers(alloc: Global) -> Result<Vec<u8>, Fail> {
+    let mut out = Vec::new(alloc);
     put_u8(&mut out, 0x01)?;
     put_u16(&mut out, 0x0203)?;
     put_u32(&mut out, 0x0405_0607)?;
     put_u64(&mut out, 0x0809_0a0b_0c0d_0e0f)?;
+    Ok(out)
+}
+
+/// A number of one byte, of two, four and eight.
+fn read_numbers(reader: &mut Reader<'_>) -> Result<(u8, u16, u32, u64), Truncated> {
+    Ok((
+        reader.take_u8()?,
+        reader.take_u16()?,
+        reader.take_u32()?,
+        reader.take_u64()?,
+    ))
+}
+
+#[test]
+fn numbers_are_written_and_read_back(rt: HostRuntime) -> Result<(), Fail> {
+    assert_eq!(rt; write_numbers(rt.alloc())?.as_slice(), NUMBERS);
+    let mut reader = Reader { left: NUMBERS };
+    let read = read_numbers(&mut reader);
     assert_eq!(rt;
-        out.as_slice(),
-        b"\x01\x03\x02\x07\x06\x05\x04\x0f\x0e\x0d\x0c\x0b\x0a\x09\x08".as_slice()
+        read,
+        Ok((0x01, 0x0203, 0x0405_0607, 0x0809_0a0b_0c0d_0e0f))
     );
-    let mut reader = Reader { left: &out };
-    assert_eq!(rt; reader.take_u8(), Ok(0x01));
-    assert_eq!(rt; reader.take_u16(), Ok(0x0203));
-    assert_eq!(rt; reader.take_u32(), Ok(0x0405_0607));
-    assert_eq!(rt; reader.take_u64(), Ok(0x0809_0a0b_0c0d_0e0f));
     assert_eq!(rt; reader.take_u8(), Err(Truncated));
     let mut short = Reader {
-        left: b"\x01\x02\x03",
+        left: &NUMBERS[..3],
     };
-    assert_eq!(rt; short.take_u32(), Err(Truncated));
-    assert_eq!(rt; short.take_u16(), Ok(0x0201));
+    assert_eq!(rt;
+        (short.take_u32(), short.take_u16()),
+        (Err(Truncated), Ok(0x0301))
+    );
     Ok(())
 }

@@ -194,6 +194,20 @@ const ROWS: &[(&str, Row)] = &[
         },
     ),
     (
+        "files that aren't live",
+        Row {
+            change: FLUSH,
+            files: &[
+                (FileName::Log(1), EMPTY, &[]),
+                (FileName::Table(3), TABLE, &[]),
+                (FileName::Table(4), b"\xA5", &[]),
+                (FileName::Log(5), b"\xA5", &[]),
+                (FileName::Manifest1, b"\xA5", &[]),
+            ],
+            ..NEW
+        },
+    ),
+    (
         "another last byte",
         Row {
             change: FLUSH,

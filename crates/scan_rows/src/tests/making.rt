@@ -1,7 +1,7 @@
 //! What the tests share: families, writes and tables in memory, and the rows of scans.
 
 ghost use Rattle.std.specs.Bool.{OnTrue};
-ghost use Rattle.std.specs.Prelude.{◌≡◌, ◌<◌, All, length};
+ghost use Rattle.std.specs.Prelude.{◌≡◌, ◌<◌, ◌≤◌, All, length};
 ghost use Rattle.std.specs.declared.cmp.Ordering.TheVariants.{Less};
 ghost use Rattle.ts_key.specs.Items.{item_of, items_of};
 ghost use Rattle.ts_key.specs.Lists.{IsSorted};
@@ -70,20 +70,23 @@ pub fn rows(
     t: u64,
     forward: bool,
 ) -> Result<Vec<Row>, Fail> {
+    rows_upto(alloc, now, range, t, u64::MAX, forward)
+}
+
+/// The rows of a scan that sees sequences up to `s`.
+pub fn rows_upto(
+    alloc: Global,
+    now: &SuperVersion,
+    range: &Bounds,
+    t: u64,
+    s: u64,
+    forward: bool,
+) -> Result<Vec<Row>, Fail> {
     if now.families.len() == 0 {
         return Err(Fail::new("no family"));
     }
     let (low, high) = (range.low.as_ref(), range.high.as_ref());
-    let scan = Scan::new(
-        alloc,
-        now,
-        Family(0),
-        low,
-        high,
-        Ts(t),
-        Seq(u64::MAX),
-        forward,
-    );
+    let scan = Scan::new(alloc, now, Family(0), low, high, Ts(t), Seq(s), forward);
     let Ok(mut scan) = scan else {
         return Err(Fail::new("no scan"));
     };
@@ -95,6 +98,40 @@ pub fn rows(
         all.push(row)?;
     }
     Err(Fail::new("the scan doesn't end"))
+}
+
+/// Where a version stands in the stored order.
+pub fn place_of(all: &[Version], version: &Version) -> usize
+    ensures { result ≤ length all.now }
+{
+    for (place, other) in all.iter().enumerate() {
+        if compare(&version.key_ref(), &other.key_ref()).is_lt() {
+            return place;
+        }
+    }
+    all.len()
+}
+
+fn is_same(a: &Row, b: &Row) -> bool {
+    a.key.bytes() == b.key.bytes() && a.value.bytes() == b.value.bytes() && a.stamp == b.stamp
+}
+
+/// Whether both have the same rows, the second in the other order where it goes down.
+pub fn are_same(plain: &[Row], given: &[Row], forward: bool) -> bool {
+    if plain.len() != given.len() {
+        return false;
+    }
+    let mut turned = given.iter().rev();
+    for (there, back) in plain.iter().zip(given.iter()) {
+        let Some(last) = turned.next() else {
+            return false;
+        };
+        let row = if forward { back } else { last };
+        if !is_same(there, row) {
+            return false;
+        }
+    }
+    true
 }
 
 fn are_stamps(versions: &[Version]) -> bool

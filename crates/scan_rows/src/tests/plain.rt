@@ -1,13 +1,11 @@
 //! Scans over many lists, against the plain list of all versions.
 
-ghost use Rattle.std.specs.Prelude.{◌≤◌, length};
-
-use super::making::{Bounds, fresh, put, rows, table, written};
+use super::making::{Bounds, are_same, fresh, place_of, put, rows, table, written};
 use std::alloc::Global;
 use std::test::Fail;
 use super_version::SuperVersion;
 use ts_iterator::Row;
-use ts_key::{Family, Key, Op, Seq, Ts, Value, Version, compare};
+use ts_key::{Family, Key, Op, Seq, Ts, Value, Version};
 use udt_model::{Answer, ModelRead, plain_read};
 
 /// How many versions each list has.
@@ -28,18 +26,6 @@ fn version(alloc: Global, seq: u64) -> Result<Version, Fail> {
         seq: Seq(seq),
         op,
     })
-}
-
-/// Where a version stands in the stored order.
-fn place_of(all: &[Version], version: &Version) -> usize
-    ensures { result ≤ length all.now }
-{
-    for (place, other) in all.iter().enumerate() {
-        if compare(&version.key_ref(), &other.key_ref()).is_lt() {
-            return place;
-        }
-    }
-    all.len()
 }
 
 /// The versions with the sequences from this one on, in the stored order.
@@ -123,28 +109,6 @@ fn plain_rows(
         }
     }
     Ok(rows)
-}
-
-fn is_same(a: &Row, b: &Row) -> bool {
-    a.key.bytes() == b.key.bytes() && a.value.bytes() == b.value.bytes() && a.stamp == b.stamp
-}
-
-/// Whether both have the same rows, the second in the other order where it goes down.
-fn are_same(plain: &[Row], given: &[Row], forward: bool) -> bool {
-    if plain.len() != given.len() {
-        return false;
-    }
-    let mut turned = given.iter().rev();
-    for (there, back) in plain.iter().zip(given.iter()) {
-        let Some(last) = turned.next() else {
-            return false;
-        };
-        let row = if forward { back } else { last };
-        if !is_same(there, row) {
-            return false;
-        }
-    }
-    true
 }
 
 /// A bound between, on, before or after the keys, or none.

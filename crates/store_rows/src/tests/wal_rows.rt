@@ -162,26 +162,6 @@ fn a_batch_is_read_as_it_was_written(rt: HostRuntime) -> Result<(), Fail> {
 }
 
 #[test]
-fn each_prefix_is_bad_at_its_start(rt: HostRuntime) {
-    for len in 0..EXAMPLE.len() {
-        let replayed = replay_bytes(rt.alloc(), &EXAMPLE[..len]);
-        assert_eq!(rt; replayed, Ok(Replayed::Bad(0)), "{len} bytes");
-    }
-    assert_eq!(rt; replay_bytes(rt.alloc(), EXAMPLE), Ok(Replayed::Batches(1)));
-}
-
-#[test]
-fn what_stands_behind_a_closed_gate_does_not_count(rt: HostRuntime) {
-    for (bytes, want) in [
-        (b"\x5A".as_slice(), Replayed::Batches(0)),
-        (b"\x5A\x29\0\0\0\xA5\xA5", Replayed::Batches(0)),
-        (b"\xA5\x29\0\0\00123456789", Replayed::Bad(0)),
-    ] {
-        assert_eq!(rt; replay_bytes(rt.alloc(), bytes), Ok(want), "{bytes:?}");
-    }
-}
-
-#[test]
 fn bodies_outside_of_the_grammar_are_bad_at_their_frame(rt: HostRuntime) {
     let two: &[u8] = b"\x02\x02\0\0\0\0\0\0\0\x01\0\0\0\0\0\x05\0\0\0\0\0\0\0\x01\0a";
     let three: &[u8] = b"\x02\x03\0\0\0\0\0\0\0\x01\0\0\0\0\0\x05\0\0\0\0\0\0\0\x01\0a";

@@ -3,14 +3,14 @@ use Rattle.std.specs.Ordering.{is_lt}
 use Rattle.std.specs.List.Sorted.{IsPermutation}
 use Rattle.std.proofs.lemmas.List.Sorted.{answers_always}
 use Rattle.udt_model.specs.Collecting.{without_ts}
-use Rattle.udt_model.specs.Orders.{is_before}
+use Rattle.udt_model.specs.Orders.{is_version_before}
 use Rattle.collection_laws.specs.Places.{AreSortedByPlace}
 use Rattle.collection_laws.proofs.Storing.{version_cmp, before_is, before_ranks, sorted_is_stored}
 use Rattle.strip.proofs.strip_versions.Goals as goal
 
 sorted : (c : goal.After-sort_unstable_by) → AreSortedByPlace c.sort_unstable_by.new.self.items
 sorted c =
-    c.sort_unstable_by.ensures.sorted is_before before_ranks
+    c.sort_unstable_by.ensures.sorted is_version_before before_ranks
     (answers_always _ _ _ (λ f a r g k. let q : (r ≡ version_cmp a.0.now a.1.0.now) × (g ≡ f) = search rules in ap is_lt q.0 ∙ sym (before_is a.0.now a.1.0.now)))
 
 moved : (c : goal.After-sort_unstable_by) → IsPermutation (map without_ts c.args.versions.now.items) c.sort_unstable_by.new.self.items

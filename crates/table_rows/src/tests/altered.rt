@@ -1,7 +1,7 @@
 //! A table of three versions with an altered byte is no table, or it is the one spelling of what it means.
 
 use crate::tests::writing::{image_of, is_bad, put, read};
-use block_table::Table;
+use block_table::{Table, TableCursor};
 use merge_cursor::Cursor;
 use std::alloc::Global;
 use std::test::Fail;
@@ -35,16 +35,27 @@ fn version_of(
     })
 }
 
+/// So many versions of the family, from the cursor on.
+fn versions_at(
+    alloc: Global,
+    family: Family,
+    cursor: &mut TableCursor<'_>,
+    count: u64,
+) -> Result<Vec<Version>, Fail> {
+    let mut versions = Vec::new(alloc);
+    for _ in 0..count {
+        let (key, hit) = cursor.at().ok_or("it ended early")?;
+        versions.push(version_of(alloc, family, &key, &hit)?)?;
+        cursor.next();
+    }
+    Ok(versions)
+}
+
 /// The bytes that the table's contents spell.
 fn spelled(alloc: Global, table: &Table) -> Result<Vec<u8>, Fail> {
     let p = table.properties();
-    let mut versions = Vec::new(alloc);
     let mut cursor = table.cursor(alloc)?;
-    for _ in 0..p.count {
-        let (key, hit) = cursor.at().ok_or("it ended early")?;
-        versions.push(version_of(alloc, p.family, &key, &hit)?)?;
-        cursor.next();
-    }
+    let versions = versions_at(alloc, p.family, &mut cursor, p.count)?;
     image_of(alloc, &versions, p.form, p.collected_by)
 }
 

@@ -4,6 +4,7 @@ use crate::tests::writing::{TABLE, is_hit, put, read, write};
 use block_table::{Table, TableCursor};
 use merge_cursor::Cursor;
 use std::alloc::Global;
+use std::process::Abort;
 use std::test::Fail;
 use ts_key::{Form, Hit, KeyRef, Op, Seq, Ts, Version};
 use udt_disk::MemDisk;
@@ -104,94 +105,122 @@ fn stands_at(cursor: &TableCursor<'_>, wanted: Option<&Version>) -> bool {
     }
 }
 
-/// A walk on shows the versions in their order, and one back shows them from the last on.
-fn are_walked(alloc: Global, table: &Table, versions: &[Version]) -> Result<bool, Fail> {
-    let mut cursor = table.cursor(alloc)?;
+/// Steps on show the versions in their order.
+fn is_walked_on(cursor: &mut TableCursor<'_>, versions: &[Version]) -> bool {
     for v in versions {
-        if !stands_at(&cursor, Some(v)) {
-            return Ok(false);
+        if !stands_at(cursor, Some(v)) {
+            return false;
         }
         cursor.next();
     }
-    for i in 0..versions.len() {
+    true
+}
+
+/// Steps back show the versions from the last on, and then none.
+fn is_walked_back(cursor: &mut TableCursor<'_>, versions: &[Version]) -> bool {
+    for v in versions.iter().rev() {
         cursor.prev();
-        if !stands_at(&cursor, Some(&versions[versions.len() - 1 - i])) {
-            return Ok(false);
+        if !stands_at(cursor, Some(v)) {
+            return false;
         }
     }
     cursor.prev();
-    Ok(cursor.at().is_none())
+    cursor.at().is_none()
 }
 
-/// A seek goes to each version, and from right behind it to the next one.
-fn are_sought(alloc: Global, table: &Table, versions: &[Version]) -> Result<bool, Fail> {
-    let mut cursor = table.cursor(alloc)?;
+fn is_walked(cursor: &mut TableCursor<'_>, versions: &[Version]) -> bool {
+    is_walked_on(cursor, versions) && is_walked_back(cursor, versions)
+}
+
+/// A seek goes to the version, and from right behind it to the next one.
+fn is_sought(cursor: &mut TableCursor<'_>, v: &Version, next: Option<&Version>) -> bool {
+    cursor.seek(&v.key_ref());
+    if !stands_at(cursor, Some(v)) {
+        return false;
+    }
+    cursor.seek(&KeyRef {
+        seq: Seq(v.seq.0.saturating_sub(1)),
+        ..v.key_ref()
+    });
+    stands_at(cursor, next)
+}
+
+fn are_sought(cursor: &mut TableCursor<'_>, versions: &[Version]) -> bool {
     for i in 0..versions.len() {
-        let v = &versions[i];
-        cursor.seek(&v.key_ref());
-        if !stands_at(&cursor, Some(v)) {
-            return Ok(false);
-        }
-        cursor.seek(&KeyRef {
-            seq: Seq(v.seq.0.saturating_sub(1)),
-            ..v.key_ref()
-        });
-        if !stands_at(&cursor, versions.get(i + 1)) {
-            return Ok(false);
+        if !is_sought(cursor, &versions[i], versions.get(i + 1)) {
+            return false;
         }
     }
     cursor.seek_end();
-    Ok(cursor.at().is_none())
+    cursor.at().is_none()
+}
+
+fn is_shown(alloc: Global, table: &Table, versions: &[Version]) -> Result<bool, Fail> {
+    let mut cursor = table.cursor(alloc)?;
+    Ok(is_walked(&mut cursor, versions) && are_sought(&mut cursor, versions))
 }
 
 /// The table holds the versions.
 fn holds(alloc: Global, table: &Table, versions: &[Version]) -> Result<bool, Fail> {
-    Ok(
-        table.properties().count == versions.len() as u64
-            && are_found(table, versions)
-            && are_walked(alloc, table, versions)?
-            && are_sought(alloc, table, versions)?,
-    )
+    if table.properties().count != versions.len() as u64 || !are_found(table, versions) {
+        return Ok(false);
+    }
+    is_shown(alloc, table, versions)
+}
+
+/// The table that is answered holds the versions, and its size is this.
+fn is_written(
+    alloc: Global,
+    table: &Table,
+    len: usize,
+    versions: &[Version],
+) -> Result<bool, Fail> {
+    if table.size() != len as u64 {
+        return Ok(false);
+    }
+    holds(alloc, table, versions)
+}
+
+/// The table that is read of the bytes holds the versions.
+fn is_read(alloc: Global, image: &[u8], versions: &[Version]) -> Result<bool, Fail> {
+    let table = read(alloc, image)??;
+    holds(alloc, &table, versions)
 }
 
 /// The table that is answered holds the versions, and so does the one that is read of the file.
-fn is_kept(alloc: Global, versions: &[Version], form: Form) -> Result<bool, Fail> {
+fn is_kept(rt: &(impl AllocGlobal + Abort), versions: &[Version], form: Form) -> Result<(), Fail> {
+    let alloc = rt.alloc();
     let mut disk = MemDisk::new(alloc, Vec::new(alloc))?;
     let written = write(alloc, &mut disk, versions, form, Ts(0))??;
-    let contents = disk.contents(TABLE).ok_or("no contents")?;
-    let found = read(alloc, contents)??;
-    Ok(
-        written.size() == contents.len() as u64
-            && holds(alloc, &written, versions)?
-            && holds(alloc, &found, versions)?,
-    )
-}
-
-#[test]
-fn two_versions(rt: HostRuntime) -> Result<(), Fail> {
-    let alloc = rt.alloc();
-    assert!(rt; is_kept(alloc, &of_four(alloc, Form::Persist, 2)?, Form::Persist)?);
+    let image = disk.contents(TABLE).ok_or("no contents")?;
+    assert!(rt; is_written(alloc, &written, image.len(), versions)?);
+    assert!(rt; is_read(alloc, image, versions)?);
     Ok(())
 }
 
 #[test]
+fn two_versions(rt: HostRuntime) -> Result<(), Fail> {
+    is_kept(&rt, &of_four(rt.alloc(), Form::Persist, 2)?, Form::Persist)
+}
+
+#[test]
 fn forty_versions_in_both_forms(rt: HostRuntime) -> Result<(), Fail> {
-    let alloc = rt.alloc();
-    assert!(rt; is_kept(alloc, &of_four(alloc, Form::Persist, 40)?, Form::Persist)?);
-    assert!(rt; is_kept(alloc, &of_four(alloc, Form::Strip, 40)?, Form::Strip)?);
+    for form in [Form::Persist, Form::Strip] {
+        is_kept(&rt, &of_four(rt.alloc(), form, 40)?, form)?;
+    }
     Ok(())
 }
 
 #[test]
 fn five_thousand_versions(rt: HostRuntime) -> Result<(), Fail> {
-    let alloc = rt.alloc();
-    assert!(rt; is_kept(alloc, &of_four(alloc, Form::Persist, 5_000)?, Form::Persist)?);
-    Ok(())
+    is_kept(
+        &rt,
+        &of_four(rt.alloc(), Form::Persist, 5_000)?,
+        Form::Persist,
+    )
 }
 
 #[test]
 fn three_thousand_versions_of_one_key(rt: HostRuntime) -> Result<(), Fail> {
-    let alloc = rt.alloc();
-    assert!(rt; is_kept(alloc, &of_one(alloc, 3_000)?, Form::Persist)?);
-    Ok(())
+    is_kept(&rt, &of_one(rt.alloc(), 3_000)?, Form::Persist)
 }

@@ -1,11 +1,11 @@
 //! The table of the put of `a` at 5 with sequence 1 and value `v`, with timestamps kept.
 
-use crate::tests::writing::{TABLE, is_bad, is_hit, is_sequence, is_stamp, put, read, write};
-use block_table::{Table, TableWriteFault, TableWriter};
+use crate::tests::writing::{TABLE, is_bad, is_sequence, is_stamp, put, read, write};
+use block_table::{Table, TableCursor, TableWriteFault, TableWriter};
 use merge_cursor::Cursor;
 use std::alloc::Global;
 use std::test::Fail;
-use ts_key::{Family, Form, Seq, Ts, Version};
+use ts_key::{Family, Form, Hit, Kind, Seq, Ts, Version};
 use udt_disk::{FileName, MemDisk, Trouble};
 
 /// One block of 34 bytes, an index of 24, properties of 51, and the footer.
@@ -31,12 +31,13 @@ fn it_has_one_spelling(rt: HostRuntime) -> Result<(), Fail> {
 
 #[test]
 fn a_writer_tells_the_bytes_of_its_blocks(rt: HostRuntime) -> Result<(), Fail> {
-    let alloc = rt.alloc();
-    let mut writer = TableWriter::new(alloc, Family(0), Form::Persist, Ts(0))?;
+    let v = version(rt.alloc())?;
+    if !is_stamp(Form::Persist, v.ts) || !is_sequence(v.seq) {
+        return Err("no spelling".into());
+    }
+    let mut writer = TableWriter::new(rt.alloc(), Family(0), Form::Persist, Ts(0))?;
     assert_eq!(rt; writer.bytes(), 0);
-    let v = version(alloc)?;
-    assert!(rt; is_stamp(Form::Persist, v.ts) && is_sequence(v.seq));
-    writer.push(alloc, &v)?;
+    writer.push(rt.alloc(), &v)?;
     assert_eq!(rt; writer.bytes(), 34);
     Ok(())
 }
@@ -54,31 +55,48 @@ fn has_properties(table: &Table) -> bool {
         && p.collected_by == Ts(0)
 }
 
-/// A look-up at the version's own numbers, and a walk, show it.
-fn shows(alloc: Global, table: &Table, v: &Version) -> Result<bool, Fail> {
-    let found = match table.find(b"a", v.ts, v.seq) {
-        Some(hit) => is_hit(v, &hit),
+/// Is it the put of `a` at 5 with sequence 1 and value `v`?
+fn is_it(hit: Option<Hit<'_>>) -> bool {
+    match hit {
         None => false,
-    };
-    let cursor = table.cursor(alloc)?;
-    let stands = match cursor.at() {
-        Some((key, hit)) => key.key == b"a".as_slice() && is_hit(v, &hit),
-        None => false,
-    };
-    Ok(found && stands)
+        Some(hit) => {
+            (hit.ts, hit.seq, hit.kind) == (Ts(5), Seq(1), Kind::Put)
+                && hit.value == b"v".as_slice()
+        }
+    }
+}
+
+/// What a cursor shows of the key `a`.
+fn shown<'a>(cursor: &TableCursor<'a>) -> Option<Hit<'a>> {
+    let (key, hit) = cursor.at()?;
+    if key.key == b"a".as_slice() {
+        Some(hit)
+    } else {
+        None
+    }
+}
+
+/// A key, a timestamp and a sequence at which nothing is found.
+const NOT_FOUND: [(&[u8], u64, u64); 3] = [(b"a", 4, 1), (b"a", 5, 0), (b"b", 5, 1)];
+
+#[test]
+fn it_is_read_and_looked_up(rt: HostRuntime) -> Result<(), Fail> {
+    let table = read(rt.alloc(), IMAGE)??;
+    assert!(rt; has_properties(&table));
+    assert!(rt; table.newest(b"a") == Some(Ts(5)));
+    assert!(rt; table.newest(b"b").is_none());
+    assert!(rt; is_it(table.find(b"a", Ts(5), Seq(1))));
+    for (key, ts, seq) in NOT_FOUND {
+        assert!(rt; table.find(key, Ts(ts), Seq(seq)).is_none());
+    }
+    Ok(())
 }
 
 #[test]
-fn it_is_read_looked_up_and_walked(rt: HostRuntime) -> Result<(), Fail> {
-    let alloc = rt.alloc();
-    let table = read(alloc, IMAGE)??;
-    assert!(rt; has_properties(&table));
-    assert!(rt; table.newest(b"a") == Some(Ts(5)) && table.newest(b"b").is_none());
-    assert!(rt; shows(alloc, &table, &version(alloc)?)?);
-    assert!(rt; table.find(b"a", Ts(4), Seq(1)).is_none());
-    assert!(rt; table.find(b"a", Ts(5), Seq(0)).is_none());
-    assert!(rt; table.find(b"b", Ts(5), Seq(1)).is_none());
-    let mut cursor = table.cursor(alloc)?;
+fn it_is_walked(rt: HostRuntime) -> Result<(), Fail> {
+    let table = read(rt.alloc(), IMAGE)??;
+    let mut cursor = table.cursor(rt.alloc())?;
+    assert!(rt; is_it(shown(&cursor)));
     cursor.next();
     assert!(rt; cursor.at().is_none());
     Ok(())

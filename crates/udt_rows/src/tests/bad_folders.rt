@@ -1,6 +1,6 @@
 //! Folders that are no store, or whose manifest or log is bad.
 
-use super::stage::{LOG, NAMES, copy_of, folder_of, host_of, run, write_file};
+use super::stage::{LOG, NAMES, copy_of, folder_of, host_of, runs, write_file};
 use client_runner::Status;
 use std::alloc::Global;
 use std::test::Fail;
@@ -47,107 +47,107 @@ fn are_alike(one: &MemDisk, other: &MemDisk) -> bool {
         .all(|name| one.contents(*name) == other.contents(*name))
 }
 
+/// A run over this folder ends with this status and text, and leaves each file as it was.
+fn ends_and_stays(
+    alloc: Global,
+    disk: MemDisk,
+    file: &str,
+    status: Status,
+    text: &str,
+) -> Result<(), Fail> {
+    let before = copy_of(alloc, &disk, None)?;
+    let mut host = host_of(alloc, disk)?;
+    runs(alloc, &mut host, file, status, text)?;
+    let after = folder_of(alloc, &mut host)?;
+    if are_alike(&before, &after) {
+        Ok(())
+    } else {
+        Err("a file has changed".into())
+    }
+}
+
+/// A frame that isn't whole.
+const TORN: &[u8] = b"\xA5\x29\0\0\00123456789";
+
+const LOGS: [(Option<&[u8]>, Status, &str); 9] = [
+    (Some(b"\x5A"), Status::Done, ABSENT),
+    (
+        Some(b"\x5A\xA5\xA5\xA5\xA5\xA5\xA5\xA5"),
+        Status::Done,
+        ABSENT,
+    ),
+    (Some(b"\x5A\x29\0\0\0\x01\x01"), Status::Done, ABSENT),
+    (Some(b"\0\xA5"), Status::Done, ABSENT),
+    (Some(ONE_PUT), Status::Done, FOUND),
+    (Some(TORN), Status::Folder, "bad log 1 0\n"),
+    (Some(b"\xA5"), Status::Folder, "bad log 1 0\n"),
+    (Some(b""), Status::Folder, "bad log 1 0\n"),
+    (None, Status::Folder, "bad log 1 0\n"),
+];
+
 #[test]
 fn a_log_ends_at_its_first_closed_gate(rt: HostRuntime) -> Result<(), Fail> {
-    let alloc = rt.alloc();
-    let torn = Some(b"\xA5\x29\0\0\00123456789".as_slice());
-    for (log, status, text) in [
-        (Some(b"\x5A".as_slice()), Status::Done, ABSENT),
-        (
-            Some(b"\x5A\xA5\xA5\xA5\xA5\xA5\xA5\xA5"),
-            Status::Done,
-            ABSENT,
-        ),
-        (Some(b"\x5A\x29\0\0\0\x01\x01"), Status::Done, ABSENT),
-        (Some(b"\0\xA5"), Status::Done, ABSENT),
-        (Some(ONE_PUT), Status::Done, FOUND),
-        (torn, Status::Folder, "bad log 1 0\n"),
-        (Some(b"\xA5"), Status::Folder, "bad log 1 0\n"),
-        (Some(b""), Status::Folder, "bad log 1 0\n"),
-        (None, Status::Folder, "bad log 1 0\n"),
-    ] {
-        let disk = folder(alloc, Some(MANIFEST), None, log)?;
-        let before = copy_of(alloc, &disk, None)?;
-        let mut host = host_of(alloc, disk)?;
-        let ran = run(alloc, &mut host, "get d a 5\n")?;
-        assert!(rt; ran.is(status, text), "{log:?}: {ran:?}");
-        let after = folder_of(alloc, &mut host)?;
-        assert!(rt; are_alike(&before, &after), "{log:?}");
+    for (log, status, text) in LOGS {
+        let disk = folder(rt.alloc(), Some(MANIFEST), None, log)?;
+        ends_and_stays(rt.alloc(), disk, "get d a 5\n", status, text)?;
     }
     Ok(())
 }
 
 #[test]
 fn a_bad_log_is_left_by_writes(rt: HostRuntime) -> Result<(), Fail> {
-    let alloc = rt.alloc();
-    let torn = b"\xA5\x29\0\0\00123456789".as_slice();
-    let mut host = host_of(alloc, folder(alloc, Some(MANIFEST), None, Some(torn))?)?;
-    let ran = run(alloc, &mut host, "put d a 1 x sync\n")?;
-    assert!(rt; ran.is(Status::Folder, "bad log 1 0\n"), "{ran:?}");
-    let after = folder_of(alloc, &mut host)?;
-    assert!(rt; after.contents(LOG) == Some(torn));
-    assert!(rt; after.contents(FileName::Manifest0) == Some(MANIFEST));
-    assert!(rt; after.contents(FileName::Made) == Some(b"".as_slice()));
-    Ok(())
+    let disk = folder(rt.alloc(), Some(MANIFEST), None, Some(TORN))?;
+    let file = "put d a 1 x sync\n";
+    ends_and_stays(rt.alloc(), disk, file, Status::Folder, "bad log 1 0\n")
 }
+
+/// A manifest and a `CURRENT`, where they are there, and how a run ends.
+const MANIFESTS: [(Option<&[u8]>, Option<&[u8]>, Status, &str); 8] = [
+    (Some(MANIFEST), None, Status::Done, ABSENT),
+    (Some(MANIFEST), Some(b"\x5A"), Status::Done, ABSENT),
+    (Some(MANIFEST), Some(b""), Status::Done, ABSENT),
+    (
+        Some(MANIFEST),
+        Some(b"\xA5"),
+        Status::Folder,
+        "bad manifest 0\n",
+    ),
+    (Some(b"\0"), None, Status::Folder, "bad manifest 0\n"),
+    (Some(b""), None, Status::Folder, "bad manifest 0\n"),
+    (Some(b"\x5A"), None, Status::Folder, "bad manifest 0\n"),
+    (None, None, Status::Folder, "bad manifest 0\n"),
+];
 
 #[test]
 fn bad_manifests(rt: HostRuntime) -> Result<(), Fail> {
-    let alloc = rt.alloc();
-    let log = Some(b"\x5A".as_slice());
-    for (manifest, current, status, text) in [
-        (Some(MANIFEST), None, Status::Done, ABSENT),
-        (
-            Some(MANIFEST),
-            Some(b"\x5A".as_slice()),
-            Status::Done,
-            ABSENT,
-        ),
-        (Some(MANIFEST), Some(b""), Status::Done, ABSENT),
-        (
-            Some(MANIFEST),
-            Some(b"\xA5"),
-            Status::Folder,
-            "bad manifest 0\n",
-        ),
-        (
-            Some(b"\0".as_slice()),
-            None,
-            Status::Folder,
-            "bad manifest 0\n",
-        ),
-        (Some(b""), None, Status::Folder, "bad manifest 0\n"),
-        (Some(b"\x5A"), None, Status::Folder, "bad manifest 0\n"),
-        (None, None, Status::Folder, "bad manifest 0\n"),
-    ] {
-        let disk = folder(alloc, manifest, current, log)?;
-        let before = copy_of(alloc, &disk, None)?;
-        let mut host = host_of(alloc, disk)?;
-        let ran = run(alloc, &mut host, "get d a 5\n")?;
-        assert!(rt; ran.is(status, text), "{manifest:?} {current:?}: {ran:?}");
-        let after = folder_of(alloc, &mut host)?;
-        assert!(rt; are_alike(&before, &after), "{manifest:?} {current:?}");
+    for (manifest, current, status, text) in MANIFESTS {
+        let disk = folder(rt.alloc(), manifest, current, Some(b"\x5A"))?;
+        ends_and_stays(rt.alloc(), disk, "get d a 5\n", status, text)?;
     }
     Ok(())
 }
 
+/// A folder without `MADE`, in which the other files don't count.
+fn unmade(alloc: Global) -> Result<MemDisk, Fail> {
+    let mut disk = MemDisk::new(alloc, Vec::new(alloc))?;
+    write_file(&mut disk, FileName::Manifest0, MANIFEST)?;
+    write_file(&mut disk, LOG, ONE_PUT)?;
+    Ok(disk)
+}
+
 #[test]
 fn folders_that_are_no_store(rt: HostRuntime) -> Result<(), Fail> {
-    let alloc = rt.alloc();
-    let mut missing = MemHost::new(alloc);
-    let ran = run(alloc, &mut missing, "put d a 1 x\n")?;
-    assert!(rt; ran.is(Status::Folder, "no store\n"), "{ran:?}");
-    let mut empty = host_of(alloc, MemDisk::new(alloc, Vec::new(alloc))?)?;
-    let ran = run(alloc, &mut empty, "put d a 1 x\n")?;
-    assert!(rt; ran.is(Status::Folder, "no store\n"), "{ran:?}");
-    let after = folder_of(alloc, &mut empty)?;
-    assert!(rt; NAMES.iter().all(|name| after.contents(*name).is_none()));
-    // Without `MADE` the other files don't count.
-    let mut unmade = MemDisk::new(alloc, Vec::new(alloc))?;
-    write_file(&mut unmade, FileName::Manifest0, MANIFEST)?;
-    write_file(&mut unmade, LOG, ONE_PUT)?;
-    let mut host = host_of(alloc, unmade)?;
-    let ran = run(alloc, &mut host, "get d a 5\n")?;
-    assert!(rt; ran.is(Status::Folder, "no store\n"), "{ran:?}");
-    Ok(())
+    let file = "put d a 1 x\n";
+    let mut missing = MemHost::new(rt.alloc());
+    runs(rt.alloc(), &mut missing, file, Status::Folder, "no store\n")?;
+    let empty = MemDisk::new(rt.alloc(), Vec::new(rt.alloc()))?;
+    ends_and_stays(rt.alloc(), empty, file, Status::Folder, "no store\n")?;
+    let unmade = unmade(rt.alloc())?;
+    ends_and_stays(
+        rt.alloc(),
+        unmade,
+        "get d a 5\n",
+        Status::Folder,
+        "no store\n",
+    )
 }

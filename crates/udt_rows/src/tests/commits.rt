@@ -1,7 +1,8 @@
 //! One commit of three writes, each of whose calls fails in turn: all of it or nothing is there again.
 
-use super::stage::{LOG, OUTCOMES, crashed, run, store_of};
+use super::stage::{LOG, OUTCOMES, crashed, runs, store_of};
 use client_runner::Status;
+use std::alloc::Global;
 use std::test::Fail;
 use udt_disk::{Outcome, Trouble};
 
@@ -48,26 +49,40 @@ fn left(call: u64, outcome: Outcome) -> &'static str {
     }
 }
 
+/// A call of the log's file.
+fn call_of_log(call: u64, lasting: bool) -> Trouble {
+    Trouble {
+        name: LOG,
+        call,
+        lasting,
+    }
+}
+
+/// Where the call fails a run prints this, and after a crash the reads print what is left.
+fn fails_and_is_left(
+    alloc: Global,
+    trouble: Trouble,
+    file: &str,
+    text: &str,
+    outcome: Outcome,
+) -> Result<(), Fail> {
+    let mut host = store_of(alloc, &INIT, Some(trouble))?;
+    runs(alloc, &mut host, file, Status::DiskFault, text)?;
+    let mut host = crashed(alloc, host, outcome)?;
+    runs(
+        alloc,
+        &mut host,
+        READS,
+        Status::Done,
+        left(trouble.call, outcome),
+    )
+}
+
 #[test]
 fn a_commit_that_fails_is_there_whole_or_not_at_all(rt: HostRuntime) -> Result<(), Fail> {
-    let alloc = rt.alloc();
     for call in 3..7 {
         for outcome in OUTCOMES {
-            let trouble = Trouble {
-                name: LOG,
-                call,
-                lasting: true,
-            };
-            let mut host = store_of(alloc, &INIT, Some(trouble))?;
-            let failed = run(alloc, &mut host, WRITES)?;
-            assert!(rt; failed.is(Status::DiskFault, FAILED), "{call}: {failed:?}");
-            let mut host = crashed(alloc, host, outcome)?;
-            let found = run(alloc, &mut host, READS)?;
-            let wanted = left(call, outcome);
-            assert!(rt;
-                found.is(Status::Done, wanted),
-                "{call} {outcome:?}: {found:?}"
-            );
+            fails_and_is_left(rt.alloc(), call_of_log(call, true), WRITES, FAILED, outcome)?;
         }
     }
     Ok(())
@@ -75,20 +90,15 @@ fn a_commit_that_fails_is_there_whole_or_not_at_all(rt: HostRuntime) -> Result<(
 
 #[test]
 fn a_write_that_failed_is_not_read(rt: HostRuntime) -> Result<(), Fail> {
-    let alloc = rt.alloc();
     for outcome in OUTCOMES {
-        let trouble = Trouble {
-            name: LOG,
-            call: 6,
-            lasting: false,
-        };
-        let mut host = store_of(alloc, &INIT, Some(trouble))?;
-        let failed = run(alloc, &mut host, WRITES_AND_READ)?;
-        assert!(rt; failed.is(Status::DiskFault, FAILED_AND_READ), "{failed:?}");
-        let mut host = crashed(alloc, host, outcome)?;
-        let found = run(alloc, &mut host, READS)?;
-        let wanted = left(6, outcome);
-        assert!(rt; found.is(Status::Done, wanted), "{outcome:?}: {found:?}");
+        let trouble = call_of_log(6, false);
+        fails_and_is_left(
+            rt.alloc(),
+            trouble,
+            WRITES_AND_READ,
+            FAILED_AND_READ,
+            outcome,
+        )?;
     }
     Ok(())
 }

@@ -1,10 +1,10 @@
 //! A run of ten commands, each of whose calls on the folder fails in turn, with each outcome of a crash after it.
 
-use super::stage::{Ended, LOG, OUTCOMES, crashed, run, store_of};
+use super::stage::{Ended, LOG, OUTCOMES, crashed, run, runs, store_of};
 use client_runner::Status;
 use std::alloc::Global;
 use std::test::Fail;
-use udt_disk::{FileName, MemHost, Trouble};
+use udt_disk::{FileName, MemHost, Outcome, Trouble};
 
 const INIT: [&str; 4] = ["init", "X", "d:persist", "e:persist"];
 
@@ -169,89 +169,79 @@ const CALLS: [(FileName, u64); 4] = [
     (LOG, 18),
 ];
 
-/// What the run prints where this call fails.
-fn told(name: FileName, call: u64) -> &'static str {
-    if name != LOG || call < 3 {
-        return "disk fault\n";
+/// Each call of the run, failing once and for good, and of each file the call behind its last, which isn't made.
+fn troubles(alloc: Global) -> Result<Vec<Trouble>, Fail> {
+    let mut troubles = Vec::new(alloc);
+    for (name, calls) in CALLS {
+        for call in 1..=calls.saturating_add(1) {
+            for lasting in [false, true] {
+                troubles.push(Trouble {
+                    name,
+                    call,
+                    lasting,
+                })?;
+            }
+        }
     }
-    match (call - 3) / 4 {
-        0 => TOLD[0],
-        1 => TOLD[1],
-        2 => TOLD[2],
-        3 => TOLD[3],
-        _ => TOLD[4],
-    }
+    Ok(troubles)
 }
 
-/// Does a line or the message tell that the disk failed?
-fn tells_fault(ended: &Ended) -> bool {
-    ended.tells(" = fault\n") || ended.tells(" = halted ") || ended.text.as_str() == "disk fault\n"
+/// Is the call behind the last one on its file?
+fn is_behind(trouble: Trouble) -> bool {
+    CALLS.iter().any(|(name, calls)| *name == trouble.name && trouble.call > *calls)
+}
+
+/// The status and the text of the run where this call fails.
+fn told(trouble: Trouble) -> (Status, &'static str) {
+    if is_behind(trouble) {
+        return (Status::Done, TOLD[4]);
+    }
+    if trouble.name != LOG {
+        return (Status::DiskFault, "disk fault\n");
+    }
+    let text = match trouble.call {
+        0..=2 => "disk fault\n",
+        3..=6 => TOLD[0],
+        7..=10 => TOLD[1],
+        11..=14 => TOLD[2],
+        _ => TOLD[3],
+    };
+    (Status::DiskFault, text)
 }
 
 /// Are the writes that accepted syncs covered found in the folder, and those of one more commit at most?
-fn are_found(ran: &Ended, found: &Ended) -> bool {
-    let accepted = SYNCED.iter().filter(|line| ran.tells(line)).count();
+fn are_found(told: &str, found: &Ended) -> bool {
+    let accepted = SYNCED.iter().filter(|line| told.contains(**line)).count();
     FOUND.iter().enumerate().any(|(commits, text)| {
         found.is(Status::Done, text)
             && (commits >= accepted && commits.saturating_sub(accepted) <= 1)
     })
 }
 
-/// The run of the ten commands, in which this call fails, and the host after it.
-fn run_with(alloc: Global, trouble: Trouble) -> Result<(Ended, MemHost), Fail> {
+/// Behind a run that printed this, the reads find what was accepted.
+fn finds(alloc: Global, host: &mut MemHost, told: &str) -> Result<(), Fail> {
+    let found = run(alloc, host, READS)?;
+    if are_found(told, &found) {
+        Ok(())
+    } else {
+        Err(found.into())
+    }
+}
+
+/// The run in which this call fails prints what it should, and after a crash what was accepted is found.
+fn is_kept(alloc: Global, trouble: Trouble, outcome: Outcome) -> Result<(), Fail> {
+    let (status, text) = told(trouble);
     let mut host = store_of(alloc, &INIT, Some(trouble))?;
-    let ended = run(alloc, &mut host, COMMANDS)?;
-    Ok((ended, host))
+    runs(alloc, &mut host, COMMANDS, status, text)?;
+    let mut host = crashed(alloc, host, outcome)?;
+    finds(alloc, &mut host, text)
 }
 
 #[test]
 fn accepted_syncs_are_found_after_each_failing_call(rt: HostRuntime) -> Result<(), Fail> {
-    let alloc = rt.alloc();
-    for (name, calls) in CALLS {
-        for call in 1..calls.saturating_add(1) {
-            for outcome in OUTCOMES {
-                for lasting in [false, true] {
-                    let trouble = Trouble {
-                        name,
-                        call,
-                        lasting,
-                    };
-                    let (ran, host) = run_with(alloc, trouble)?;
-                    let wanted = told(name, call);
-                    assert!(rt; ran.is(Status::DiskFault, wanted), "{trouble:?}: {ran:?}");
-                    assert!(rt; tells_fault(&ran), "{trouble:?}: {ran:?}");
-                    let mut host = crashed(alloc, host, outcome)?;
-                    let found = run(alloc, &mut host, READS)?;
-                    assert!(rt;
-                        are_found(&ran, &found),
-                        "{trouble:?} {outcome:?}: {found:?}"
-                    );
-                }
-            }
-        }
-    }
-    Ok(())
-}
-
-#[test]
-fn all_is_found_where_no_call_fails(rt: HostRuntime) -> Result<(), Fail> {
-    let alloc = rt.alloc();
-    for (name, calls) in CALLS {
+    for trouble in troubles(rt.alloc())? {
         for outcome in OUTCOMES {
-            let trouble = Trouble {
-                name,
-                call: calls.saturating_add(1),
-                lasting: true,
-            };
-            let (ran, host) = run_with(alloc, trouble)?;
-            assert!(rt; ran.is(Status::Done, TOLD[4]), "{name:?}: {ran:?}");
-            assert!(rt; !tells_fault(&ran));
-            let mut host = crashed(alloc, host, outcome)?;
-            let found = run(alloc, &mut host, READS)?;
-            assert!(rt;
-                found.is(Status::Done, FOUND[4]),
-                "{name:?} {outcome:?}: {found:?}"
-            );
+            is_kept(rt.alloc(), trouble, outcome)?;
         }
     }
     Ok(())

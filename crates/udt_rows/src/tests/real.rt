@@ -1,197 +1,223 @@
 //! Commands over folders of the operating system.
 
-use super::stage::{Ended, command};
+use super::stage;
 use client_runner::Status;
-use std::alloc::Global;
 use std::test::Fail;
 use std::{env, fs, process};
 use udt_disk::{Host, RealHost, Text};
 
-/// A folder of its own for a test, in the place for temporary files.
-fn temporary(rt: &HostRuntime, name: &str) -> Result<String, Fail> {
-    let place = env::temp_dir(rt)?;
-    let id = process::id(rt.process());
-    let path = format!(in rt.alloc(); "{}/udt_rows-{id}-{name}", place.display())?;
-    fs::create_dir(rt, path.as_str())?;
-    Ok(path)
+/// A folder of its own for a test, and the paths in it of a store and of a command file.
+#[derive(Drop)]
+struct Place {
+    path: String,
+    store: String,
+    file: String,
 }
 
-/// Makes a store of the families `d` and `e` in a folder.
-fn init<H: Host>(alloc: Global, host: &mut H, folder: &str) -> Result<Ended, Fail> {
-    command(alloc, host, &["init", folder, "d:persist", "e:persist"])
+impl Place {
+    /// The folder is made in the place for temporary files, and the command file in it.
+    fn make(rt: &HostRuntime, name: &str, commands: &str) -> Result<Place, Fail> {
+        let parent = env::temp_dir(rt)?;
+        let id = process::id(rt.process());
+        let path = format!(in rt.alloc(); "{}/udt_rows-{id}-{name}", parent.display())?;
+        let store = format!(in rt.alloc(); "{path}/X")?;
+        let file = format!(in rt.alloc(); "{path}/F")?;
+        fs::create_dir(rt, path.as_str())?;
+        fs::write(rt, file.as_str(), commands)?;
+        Ok(Place { path, store, file })
+    }
+
+    fn remove(self, rt: &HostRuntime) -> Result<(), Fail> {
+        Ok(fs::remove_dir_all(rt, self.path.as_str())?)
+    }
+
+    /// Running the command file over the store ends with this status and text.
+    fn runs(&self, rt: &HostRuntime, status: Status, text: &str) -> Result<(), Fail> {
+        runs(rt, self.store.as_str(), self.file.as_str(), status, text)
+    }
+
+    /// Making the store ends with this status and text.
+    fn inits(&self, rt: &HostRuntime, status: Status, text: &str) -> Result<(), Fail> {
+        inits(rt, self.store.as_str(), status, text)
+    }
 }
 
-/// Runs a command file over the store in a folder.
-fn run<H: Host>(alloc: Global, host: &mut H, folder: &str, file: &str) -> Result<Ended, Fail> {
-    command(alloc, host, &["run", folder, file])
+/// Making a store of the families `d` and `e` in a folder ends with this status and text.
+fn inits(rt: &HostRuntime, store: &str, status: Status, text: &str) -> Result<(), Fail> {
+    let mut host = RealHost::new(rt);
+    let words = ["init", store, "d:persist", "e:persist"];
+    stage::ends(rt.alloc(), &mut host, &words, status, text)
 }
+
+/// Running a command file over the store in a folder ends with this status and text.
+fn runs(rt: &HostRuntime, store: &str, file: &str, status: Status, text: &str) -> Result<(), Fail> {
+    let mut host = RealHost::new(rt);
+    stage::ends(rt.alloc(), &mut host, &["run", store, file], status, text)
+}
+
+/// Does a file hold these bytes?
+fn holds(rt: &HostRuntime, path: &str, bytes: &[u8]) -> Result<bool, Fail> {
+    Ok(fs::read(rt, path)?.as_slice() == bytes)
+}
+
+/// What each of two runs of four commands prints.
+const RUNS: [&str; 2] = [
+    "udt 1\nopened 0\nfamily d persist 0\nfamily e persist 0\nbegin\n\
+    1 c1 get d a 1 = absent\n\
+    2 c1 put d a 1 x = ok 1\n\
+    3 c1 put d b 2 y sync = ok 2\n\
+    4 c1 get d a 9 = found x 1\n\
+    5 r sync = ok\n",
+    "udt 1\nopened 2\nfamily d persist 0\nfamily e persist 0\nbegin\n\
+    1 c1 get d a 1 = found x 1\n\
+    2 c1 put d a 1 x = ok 3\n\
+    3 c1 put d b 2 y sync = ok 4\n\
+    4 c1 get d a 9 = found x 1\n\
+    5 r sync = ok\n",
+];
 
 #[test]
 fn a_real_folder_keeps_what_was_synced(rt: HostRuntime) -> Result<(), Fail> {
-    let alloc = rt.alloc();
-    let path = temporary(&rt, "runs")?;
-    let folder = format!(in alloc; "{path}/X")?;
-    let file = format!(in alloc; "{path}/F")?;
-    fs::write(
-        &rt,
-        file.as_str(),
-        "get d a 1\nput d a 1 x\nput d b 2 y sync\nget d a 9\n",
-    )?;
-    let mut host = RealHost::new(&rt);
-    let none = run(alloc, &mut host, &folder, &file)?;
-    assert!(rt; none.is(Status::Folder, "no store\n"), "{none:?}");
-    let made = init(alloc, &mut host, &folder)?;
-    assert!(rt; made.is(Status::Done, "made 2\n"), "{made:?}");
-    let again = init(alloc, &mut host, &folder)?;
-    assert!(rt; again.is(Status::Folder, "store exists\n"), "{again:?}");
-    for wanted in [
-        "udt 1\nopened 0\nfamily d persist 0\nfamily e persist 0\nbegin\n\
-        1 c1 get d a 1 = absent\n2 c1 put d a 1 x = ok 1\n3 c1 put d b 2 y sync = ok 2\n\
-        4 c1 get d a 9 = found x 1\n5 r sync = ok\n",
-        "udt 1\nopened 2\nfamily d persist 0\nfamily e persist 0\nbegin\n\
-        1 c1 get d a 1 = found x 1\n2 c1 put d a 1 x = ok 3\n3 c1 put d b 2 y sync = ok 4\n\
-        4 c1 get d a 9 = found x 1\n5 r sync = ok\n",
-    ] {
-        let ran = run(alloc, &mut host, &folder, &file)?;
-        assert!(rt; ran.is(Status::Done, wanted), "{ran:?}");
+    let commands = "get d a 1\nput d a 1 x\nput d b 2 y sync\nget d a 9\n";
+    let place = Place::make(&rt, "runs", commands)?;
+    place.runs(&rt, Status::Folder, "no store\n")?;
+    place.inits(&rt, Status::Done, "made 2\n")?;
+    place.inits(&rt, Status::Folder, "store exists\n")?;
+    for wanted in RUNS {
+        place.runs(&rt, Status::Done, wanted)?;
     }
-    fs::remove_dir_all(&rt, path.as_str())?;
-    Ok(())
+    place.remove(&rt)
 }
+
+/// Paths in the place where no store is, with how a run ends there and then an init. The second is a path under a file.
+const REFUSED: [(&str, Status, &str, Status, &str); 4] = [
+    (
+        "missing/below",
+        Status::Folder,
+        "no store\n",
+        Status::DiskFault,
+        "disk fault\n",
+    ),
+    (
+        "F/below",
+        Status::DiskFault,
+        "disk fault\n",
+        Status::DiskFault,
+        "disk fault\n",
+    ),
+    (
+        "F",
+        Status::DiskFault,
+        "disk fault\n",
+        Status::DiskFault,
+        "disk fault\n",
+    ),
+    ("X", Status::Folder, "no store\n", Status::Done, "made 2\n"),
+];
 
 #[test]
 fn real_folders_that_are_refused(rt: HostRuntime) -> Result<(), Fail> {
-    let alloc = rt.alloc();
-    let path = temporary(&rt, "refused")?;
-    let file = format!(in alloc; "{path}/F")?;
-    fs::write(&rt, file.as_str(), "get d a 1\n")?;
-    let mut host = RealHost::new(&rt);
-    for (folder, ran, made) in [
-        (
-            "missing/below",
-            (Status::Folder, "no store\n"),
-            (Status::DiskFault, "disk fault\n"),
-        ),
-        // A path under a file, and a file.
-        (
-            "F/below",
-            (Status::DiskFault, "disk fault\n"),
-            (Status::DiskFault, "disk fault\n"),
-        ),
-        (
-            "F",
-            (Status::DiskFault, "disk fault\n"),
-            (Status::DiskFault, "disk fault\n"),
-        ),
-        (
-            "X",
-            (Status::Folder, "no store\n"),
-            (Status::Done, "made 2\n"),
-        ),
-    ] {
-        let folder = format!(in alloc; "{path}/{folder}")?;
-        let ended = run(alloc, &mut host, &folder, &file)?;
-        assert!(rt; ended.is(ran.0, ran.1), "{folder}: {ended:?}");
-        let ended = init(alloc, &mut host, &folder)?;
-        assert!(rt; ended.is(made.0, made.1), "{folder}: {ended:?}");
+    let place = Place::make(&rt, "refused", "get d a 1\n")?;
+    for (name, ran, told, made, answered) in REFUSED {
+        let store = format!(in rt.alloc(); "{}/{name}", place.path)?;
+        runs(&rt, store.as_str(), place.file.as_str(), ran, told)?;
+        inits(&rt, store.as_str(), made, answered)?;
     }
-    let other = format!(in alloc; "{path}/G")?;
-    let wanted = format!(in alloc; "no file {other}\n")?;
-    let ended = run(alloc, &mut host, &other, &other)?;
-    assert!(rt; ended.is(Status::Usage, &wanted), "{ended:?}");
-    fs::remove_dir_all(&rt, path.as_str())?;
-    Ok(())
+    place.remove(&rt)
 }
+
+#[test]
+fn a_missing_real_file_is_told(rt: HostRuntime) -> Result<(), Fail> {
+    let place = Place::make(&rt, "file", "")?;
+    let other = format!(in rt.alloc(); "{}/G", place.path)?;
+    let wanted = format!(in rt.alloc(); "no file {other}\n")?;
+    let store = place.store.as_str();
+    runs(&rt, store, other.as_str(), Status::Usage, wanted.as_str())?;
+    place.remove(&rt)
+}
+
+/// The log of a store whose first frame isn't whole.
+const DAMAGED: &[u8] = b"\xA5\x29\0\0\00123456789";
 
 #[test]
 fn a_damaged_log_stays(rt: HostRuntime) -> Result<(), Fail> {
-    let alloc = rt.alloc();
-    let path = temporary(&rt, "damaged")?;
-    let folder = format!(in alloc; "{path}/X")?;
-    let file = format!(in alloc; "{path}/F")?;
-    let log = format!(in alloc; "{path}/X/1.log")?;
-    fs::write(&rt, file.as_str(), "put d a 1 x sync\n")?;
-    let mut host = RealHost::new(&rt);
-    let made = init(alloc, &mut host, &folder)?;
-    assert!(rt; made.is(Status::Done, "made 2\n"), "{made:?}");
-    let damaged = b"\xA5\x29\0\0\00123456789".as_slice();
-    fs::write(&rt, log.as_str(), damaged)?;
-    let ran = run(alloc, &mut host, &folder, &file)?;
-    assert!(rt; ran.is(Status::Folder, "bad log 1 0\n"), "{ran:?}");
-    let left = fs::read(&rt, log.as_str())?;
-    assert!(rt; left.as_slice() == damaged);
+    let place = Place::make(&rt, "damaged", "put d a 1 x sync\n")?;
+    let log = format!(in rt.alloc(); "{}/1.log", place.store)?;
+    place.inits(&rt, Status::Done, "made 2\n")?;
+    fs::write(&rt, log.as_str(), DAMAGED)?;
+    place.runs(&rt, Status::Folder, "bad log 1 0\n")?;
+    assert!(rt; holds(&rt, log.as_str(), DAMAGED)?);
     fs::remove_file(&rt, log.as_str())?;
-    let ran = run(alloc, &mut host, &folder, &file)?;
-    assert!(rt; ran.is(Status::Folder, "bad log 1 0\n"), "{ran:?}");
-    fs::remove_dir_all(&rt, path.as_str())?;
-    Ok(())
+    place.runs(&rt, Status::Folder, "bad log 1 0\n")?;
+    place.remove(&rt)
 }
+
+/// Neither a run nor an init can open the folder of the store.
+fn is_refused(rt: &HostRuntime, place: &Place) -> Result<(), Fail> {
+    place.runs(rt, Status::DiskFault, "disk fault\n")?;
+    place.inits(rt, Status::DiskFault, "disk fault\n")
+}
+
+/// While one host holds the folder of the store, others can't open it.
+fn is_held(rt: &HostRuntime, place: &Place) -> Result<(), Fail> {
+    let store = Text::of(rt.alloc(), place.store.as_bytes())?;
+    let mut holder = RealHost::new(rt);
+    let held = holder.open_folder(&store, false)?.ok_or("no folder")?;
+    let refused = is_refused(rt, place);
+    holder.close_folder(&store, held);
+    refused
+}
+
+const PUT: &str = "udt 1\nopened 0\nfamily d persist 0\nfamily e persist 0\nbegin\n\
+    1 c1 put d a 1 x = ok 1\n\
+    2 r sync = ok\n";
 
 #[test]
 fn a_folder_that_is_held_is_opened_by_no_other(rt: HostRuntime) -> Result<(), Fail> {
-    let alloc = rt.alloc();
-    let path = temporary(&rt, "held")?;
-    let folder = format!(in alloc; "{path}/X")?;
-    let file = format!(in alloc; "{path}/F")?;
-    let log = format!(in alloc; "{path}/X/1.log")?;
-    fs::write(&rt, file.as_str(), "put d a 1 x\n")?;
-    let mut host = RealHost::new(&rt);
-    let made = init(alloc, &mut host, &folder)?;
-    assert!(rt; made.is(Status::Done, "made 2\n"), "{made:?}");
-    let before = fs::read(&rt, log.as_str())?;
-    let text = Text::of(alloc, folder.as_bytes())?;
-    let mut holder = RealHost::new(&rt);
-    let held = holder.open_folder(&text, false)?.ok_or("no folder")?;
-    let ran = run(alloc, &mut host, &folder, &file)?;
-    assert!(rt; ran.is(Status::DiskFault, "disk fault\n"), "{ran:?}");
-    let made = init(alloc, &mut host, &folder)?;
-    assert!(rt; made.is(Status::DiskFault, "disk fault\n"), "{made:?}");
-    let left = fs::read(&rt, log.as_str())?;
-    assert!(rt; left.as_slice() == before.as_slice());
-    holder.close_folder(&text, held);
-    let ran = run(alloc, &mut host, &folder, &file)?;
-    assert!(rt; ran.status == Status::Done, "{ran:?}");
-    fs::remove_dir_all(&rt, path.as_str())?;
-    Ok(())
+    let place = Place::make(&rt, "held", "put d a 1 x\n")?;
+    let log = format!(in rt.alloc(); "{}/1.log", place.store)?;
+    place.inits(&rt, Status::Done, "made 2\n")?;
+    is_held(&rt, &place)?;
+    assert!(rt; holds(&rt, log.as_str(), b"\x5A")?);
+    place.runs(&rt, Status::Done, PUT)?;
+    place.remove(&rt)
 }
 
 #[test]
 fn a_missing_folder_is_made_by_init_alone(rt: HostRuntime) -> Result<(), Fail> {
-    let alloc = rt.alloc();
-    let path = temporary(&rt, "missing")?;
-    let folder = format!(in alloc; "{path}/X")?;
-    let file = format!(in alloc; "{path}/F")?;
-    fs::write(&rt, file.as_str(), "put d a 1 x\n")?;
-    let mut host = RealHost::new(&rt);
-    let ran = run(alloc, &mut host, &folder, &file)?;
-    assert!(rt; ran.is(Status::Folder, "no store\n"), "{ran:?}");
-    assert!(rt; fs::metadata(&rt, folder.as_str()).is_err());
-    fs::create_dir(&rt, folder.as_str())?;
-    let made = init(alloc, &mut host, &folder)?;
-    assert!(rt; made.is(Status::Done, "made 2\n"), "{made:?}");
-    let ran = run(alloc, &mut host, &folder, &file)?;
-    assert!(rt; ran.status == Status::Done, "{ran:?}");
-    fs::remove_dir_all(&rt, path.as_str())?;
-    Ok(())
+    let place = Place::make(&rt, "missing", "put d a 1 x\n")?;
+    place.runs(&rt, Status::Folder, "no store\n")?;
+    assert!(rt; fs::metadata(&rt, place.store.as_str()).is_err());
+    fs::create_dir(&rt, place.store.as_str())?;
+    place.inits(&rt, Status::Done, "made 2\n")?;
+    place.runs(&rt, Status::Done, PUT)?;
+    place.remove(&rt)
+}
+
+/// Runs of one put, behind each of which the log grows to three gigabytes.
+const TAILED: [&str; 3] = [
+    PUT,
+    "udt 1\nopened 1\nfamily d persist 0\nfamily e persist 0\nbegin\n\
+    1 c1 put d a 1 x = ok 2\n\
+    2 r sync = ok\n",
+    "udt 1\nopened 2\nfamily d persist 0\nfamily e persist 0\nbegin\n\
+    1 c1 put d a 1 x = ok 3\n\
+    2 r sync = ok\n",
+];
+
+fn grow(rt: &HostRuntime, path: &str) -> Result<(), Fail> {
+    let file = fs::OpenOptions::new().write(true).open(rt, path)?;
+    Ok(file.set_len(3 << 30)?)
 }
 
 #[test]
 fn what_stands_behind_a_log_costs_nothing(rt: HostRuntime) -> Result<(), Fail> {
-    let alloc = rt.alloc();
-    let path = temporary(&rt, "tail")?;
-    let folder = format!(in alloc; "{path}/X")?;
-    let file = format!(in alloc; "{path}/F")?;
-    let log = format!(in alloc; "{path}/X/1.log")?;
-    fs::write(&rt, file.as_str(), "put d a 1 x sync\n")?;
-    let mut host = RealHost::new(&rt);
-    let made = init(alloc, &mut host, &folder)?;
-    assert!(rt; made.is(Status::Done, "made 2\n"), "{made:?}");
-    for opened in ["opened 0\n", "opened 1\n", "opened 2\n"] {
-        let ran = run(alloc, &mut host, &folder, &file)?;
-        assert!(rt; ran.status == Status::Done && ran.tells(opened), "{ran:?}");
-        let grown = fs::OpenOptions::new().write(true).open(&rt, log.as_str())?;
-        grown.set_len(3 << 30)?;
+    let place = Place::make(&rt, "tail", "put d a 1 x\n")?;
+    let log = format!(in rt.alloc(); "{}/1.log", place.store)?;
+    place.inits(&rt, Status::Done, "made 2\n")?;
+    for wanted in TAILED {
+        place.runs(&rt, Status::Done, wanted)?;
+        grow(&rt, log.as_str())?;
     }
-    fs::remove_dir_all(&rt, path.as_str())?;
-    Ok(())
+    place.remove(&rt)
 }

@@ -1,26 +1,24 @@
 //! Runs over what earlier runs wrote.
 
-use super::stage::{LOG, command, folder_of, run, store_of};
+use super::stage::{LOG, ends, folder_of, run, runs, store_of};
 use client_runner::Status;
+use std::alloc::Global;
 use std::test::Fail;
 use udt_disk::MemHost;
 
-#[test]
-fn a_run_goes_on_where_the_last_one_ended(rt: HostRuntime) -> Result<(), Fail> {
-    let alloc = rt.alloc();
-    let mut host = store_of(alloc, &["init", "X", "d:persist", "e:persist"], None)?;
-    for (file, wanted) in [
-        (
-            "put d a 1 x\nput d a 3 y ; put e a 3 z\n",
-            "udt 1\nopened 0\nfamily d persist 0\nfamily e persist 0\nbegin\n\
+/// Files that are run one after the other, each with what it prints.
+const RUNS: [(&str, &str); 4] = [
+    (
+        "put d a 1 x\nput d a 3 y ; put e a 3 z\n",
+        "udt 1\nopened 0\nfamily d persist 0\nfamily e persist 0\nbegin\n\
             1 c1 put d a 1 x = ok 1\n\
             2 c1 put d a 3 y ; put e a 3 z = ok 3\n\
             3 r sync = ok\n",
-        ),
-        (
-            "get d a 0\nget d a 1\nget d a 2\nget d a 3\nget e a 9\nget f a 1\nput f a 1 x\n\
+    ),
+    (
+        "get d a 0\nget d a 1\nget d a 2\nget d a 3\nget e a 9\nget f a 1\nput f a 1 x\n\
             put d a 2 w\ndel d a 4 sync\n",
-            "udt 1\nopened 3\nfamily d persist 0\nfamily e persist 0\nbegin\n\
+        "udt 1\nopened 3\nfamily d persist 0\nfamily e persist 0\nbegin\n\
             1 c1 get d a 0 = absent\n\
             2 c1 get d a 1 = found x 1\n\
             3 c1 get d a 2 = found x 1\n\
@@ -31,21 +29,25 @@ fn a_run_goes_on_where_the_last_one_ended(rt: HostRuntime) -> Result<(), Fail> {
             8 c1 put d a 2 w = fell 1 3\n\
             9 c1 del d a 4 sync = ok 4\n\
             10 r sync = ok\n",
-        ),
-        (
-            "get d a 3\nget d a 4\n",
-            "udt 1\nopened 4\nfamily d persist 0\nfamily e persist 0\nbegin\n\
+    ),
+    (
+        "get d a 3\nget d a 4\n",
+        "udt 1\nopened 4\nfamily d persist 0\nfamily e persist 0\nbegin\n\
             1 c1 get d a 3 = found y 3\n\
             2 c1 get d a 4 = absent\n\
             3 r sync = ok\n",
-        ),
-        (
-            "",
-            "udt 1\nopened 4\nfamily d persist 0\nfamily e persist 0\nbegin\n1 r sync = ok\n",
-        ),
-    ] {
-        let ran = run(alloc, &mut host, file)?;
-        assert!(rt; ran.is(Status::Done, wanted), "{ran:?}");
+    ),
+    (
+        "",
+        "udt 1\nopened 4\nfamily d persist 0\nfamily e persist 0\nbegin\n1 r sync = ok\n",
+    ),
+];
+
+#[test]
+fn a_run_goes_on_where_the_last_one_ended(rt: HostRuntime) -> Result<(), Fail> {
+    let mut host = store_of(rt.alloc(), &["init", "X", "d:persist", "e:persist"], None)?;
+    for (file, wanted) in RUNS {
+        runs(rt.alloc(), &mut host, file, Status::Done, wanted)?;
     }
     Ok(())
 }
@@ -55,24 +57,25 @@ const TWO_RUNS: &[u8] = b"\xA5\x29\0\0\0\x01\x01\0\0\0\0\0\0\0\x08\x02\x01\0\0\0
     \0\0\0\0\x01\x05\0\0\0\0\0\0\0\x01\0a\x01\0\0\0v\
     \xA5\x1F\0\0\0\x02\x02\0\0\0\0\0\0\0\x01\0\0\0\0\x01\x06\0\0\0\0\0\0\0\x01\0b\x01\0\0\0w\x5A";
 
+/// The log of a store over which these files were run.
+fn is_log(alloc: Global, files: &[&str], log: &[u8]) -> Result<bool, Fail> {
+    let mut host = store_of(alloc, &["init", "X", "d:persist"], None)?;
+    for file in files {
+        if run(alloc, &mut host, file)?.status != Status::Done {
+            return Ok(false);
+        }
+    }
+    Ok(folder_of(alloc, &mut host)?.contents(LOG) == Some(log))
+}
+
 #[test]
 fn runs_write_the_format_of_logs(rt: HostRuntime) -> Result<(), Fail> {
-    let alloc = rt.alloc();
-    let mut host = store_of(alloc, &["init", "X", "d:persist"], None)?;
-    for (file, status) in [
-        ("put d a 5 v\n", Status::Done),
-        ("get d a 5\nput d a 4 u\n", Status::Done),
-        ("put d b 6 w sync\n", Status::Done),
-    ] {
-        let ran = run(alloc, &mut host, file)?;
-        assert_eq!(rt; ran.status, status, "{ran:?}");
-    }
-    let folder = folder_of(alloc, &mut host)?;
-    assert!(rt;
-        folder.contents(LOG) == Some(TWO_RUNS),
-        "{:?}",
-        folder.contents(LOG)
-    );
+    let files = [
+        "put d a 5 v\n",
+        "get d a 5\nput d a 4 u\n",
+        "put d b 6 w sync\n",
+    ];
+    assert!(rt; is_log(rt.alloc(), &files, TWO_RUNS)?);
     Ok(())
 }
 
@@ -103,27 +106,20 @@ put orders 1003 202612080910 nut:10 ; put stock nut 202612080910 740 sync
 get stock nut 202612080910
 ";
 
-#[test]
-fn a_shop_keeps_its_orders_and_stock(rt: HostRuntime) -> Result<(), Fail> {
-    let alloc = rt.alloc();
-    let mut host = MemHost::new(alloc);
-    let words = ["init", "X", "orders:persist", "stock:persist"];
-    let made = command(alloc, &mut host, &words)?;
-    assert!(rt; made.is(Status::Done, "made 2\n"), "{made:?}");
-    for (file, wanted) in [
-        (
-            MONDAY,
-            "udt 1\nopened 0\nfamily orders persist 0\nfamily stock persist 0\nbegin\n\
+const DAYS: [(&str, &str); 2] = [
+    (
+        MONDAY,
+        "udt 1\nopened 0\nfamily orders persist 0\nfamily stock persist 0\nbegin\n\
             1 c1 put stock bolt 202612070900 500 ; put stock nut 202612070900 800 = ok 2\n\
             2 c1 put orders 1001 202612070915 bolt:120 ; put stock bolt 202612070915 380 = ok 4\n\
             3 c1 put orders 1002 202612071030 nut:50 ; put stock nut 202612071030 750 sync = ok 6\n\
             4 c1 get stock nut 202612071000 = found 800 202612070900\n\
             5 c1 get stock nut 202612071100 = found 750 202612071030\n\
             6 r sync = ok\n",
-        ),
-        (
-            TUESDAY,
-            "udt 1\nopened 6\nfamily orders persist 0\nfamily stock persist 0\nbegin\n\
+    ),
+    (
+        TUESDAY,
+        "udt 1\nopened 6\nfamily orders persist 0\nfamily stock persist 0\nbegin\n\
             1 c1 get stock bolt 202612070910 = found 500 202612070900\n\
             2 c1 get stock bolt 202612080900 = found 380 202612070915\n\
             3 c1 del orders 1001 202612080905 ; put stock bolt 202612080905 500 = ok 8\n\
@@ -133,10 +129,16 @@ fn a_shop_keeps_its_orders_and_stock(rt: HostRuntime) -> Result<(), Fail> {
             7 c1 put orders 1003 202612080910 nut:10 ; put stock nut 202612080910 740 sync = ok 10\n\
             8 c1 get stock nut 202612080910 = found 740 202612080910\n\
             9 r sync = ok\n",
-        ),
-    ] {
-        let ran = run(alloc, &mut host, file)?;
-        assert!(rt; ran.is(Status::Done, wanted), "{ran:?}");
+    ),
+];
+
+#[test]
+fn a_shop_keeps_its_orders_and_stock(rt: HostRuntime) -> Result<(), Fail> {
+    let mut host = MemHost::new(rt.alloc());
+    let words = ["init", "X", "orders:persist", "stock:persist"];
+    ends(rt.alloc(), &mut host, &words, Status::Done, "made 2\n")?;
+    for (file, wanted) in DAYS {
+        runs(rt.alloc(), &mut host, file, Status::Done, wanted)?;
     }
     Ok(())
 }

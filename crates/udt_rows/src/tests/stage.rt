@@ -41,6 +41,15 @@ impl Ended {
     pub fn tells(&self, part: &str) -> bool {
         self.text.as_str().contains(part)
     }
+
+    /// It is this status with this text, or the test fails with what it is.
+    fn wants(self, status: Status, text: &str) -> Result<(), Fail> {
+        if self.is(status, text) {
+            Ok(())
+        } else {
+            Err(self.into())
+        }
+    }
 }
 
 fn texts(alloc: Global, words: &[&str]) -> Result<Vec<Text>, Fail> {
@@ -61,11 +70,33 @@ pub fn command<H: Host>(alloc: Global, host: &mut H, words: &[&str]) -> Result<E
     })
 }
 
+/// The words of a command line end with this status and text over a host.
+pub fn ends<H: Host>(
+    alloc: Global,
+    host: &mut H,
+    words: &[&str],
+    status: Status,
+    text: &str,
+) -> Result<(), Fail> {
+    command(alloc, host, words)?.wants(status, text)
+}
+
 /// Runs `run X F` over a host, with these bytes under `F`.
 pub fn run(alloc: Global, host: &mut MemHost, file: &str) -> Result<Ended, Fail> {
     let source = MemSource::new(Vec::from_slice(alloc, file.as_bytes())?, None);
     host.put_source(Text::of(alloc, b"F")?, source)?;
     command(alloc, host, &["run", "X", "F"])
+}
+
+/// `run X F` over a host, with these bytes under `F`, ends with this status and text.
+pub fn runs(
+    alloc: Global,
+    host: &mut MemHost,
+    file: &str,
+    status: Status,
+    text: &str,
+) -> Result<(), Fail> {
+    run(alloc, host, file)?.wants(status, text)
 }
 
 /// A host with this folder under `X`.

@@ -2,7 +2,7 @@ use Rattle.std.proofs.Common.{◌≡◌, not, [], ◌∷◌, ◌++◌, List, len
 use Rattle.std.specs.List.{insert, position_or_len}
 use Rattle.std.proofs.lemmas.List.{append-nil}
 use Rattle.ts_key.specs.declared.version.Version.{Version}
-use Rattle.udt_model.specs.Orders.{is_before, stored, with_version}
+use Rattle.udt_model.specs.Orders.{is_version_before, stored, with_version}
 use Rattle.collection_laws.proofs.Collects.{insert_is, one_back, none_back}
 use Rattle.collection_laws.proofs.collect.in_order.Goals as goal
 
@@ -16,7 +16,7 @@ loop-v-preserved c =
       v ∷ inv.0,
       one_back c.loop-v.rest.items c.pop.new.self.items inv.0 c.args.versions.items c.pop.result v c.in-Some.is c.pop.ensures.items inv.1,
       c.in_ok-insert.ensures.items
-          ∙ ap (λ n. insert c.loop-v.ordered.items n v) (c.place_of-place.ensures.place ∙ ap (λ (l : List Version). position_or_len (λ o. not (is_before o v)) l) c.deref.ensures.value)
+          ∙ ap (λ n. insert c.loop-v.ordered.items n v) (c.place_of-place.ensures.place ∙ ap (λ (l : List Version). position_or_len (λ o. not (is_version_before o v)) l) c.deref.ensures.value)
           ∙ insert_is v c.loop-v.ordered.items ∙ ap (with_version v) inv.2,
     )
 

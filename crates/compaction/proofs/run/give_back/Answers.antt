@@ -1,5 +1,5 @@
 use Rattle.std.proofs.Common.{subst, ◌∙◌}
-use Rattle.compaction.specs.Drawing.{AreHeld, AreNumbered}
+use Rattle.compaction.specs.Drawing.{AreHeld, AreOutputsNumbered}
 use Rattle.compaction.proofs.Drawn.{front_numbered, held_front, held_last, lower_given, none_more}
 use Rattle.compaction.proofs.run.give_back.Goals as goal
 
@@ -25,13 +25,13 @@ loop-out-preserved g c =
     let low0 = c.requires.numbered.0 in
     let n0 = inv.numbered low0 c.requires.numbered.1 in
     record {
-      held = held_front G D files next low0 n0.0 front o held (subst (AreNumbered low0 n0.0) c.in-Some.ensures.items n0.1) back.others;
+      held = held_front G D files next low0 n0.0 front o held (subst (AreOutputsNumbered low0 n0.0) c.in-Some.ensures.items n0.1) back.others;
       numbered = λ low a.
           let n = inv.numbered low a in
-          (o.number, front_numbered G D files next low n.0 front o held (subst (AreNumbered low n.0) c.in-Some.ensures.items n.1) back.others);
+          (o.number, front_numbered G D files next low n.0 front o held (subst (AreOutputsNumbered low n.0) c.in-Some.ensures.items n.1) back.others);
       others = λ low n a lt y.
           let m = inv.numbered low a in
-          lower_given G D files next low m.0 front o held (subst (AreNumbered low m.0) c.in-Some.ensures.items m.1) back.others n lt (inv.others low n a lt y);
+          lower_given G D files next low m.0 front o held (subst (AreOutputsNumbered low m.0) c.in-Some.ensures.items m.1) back.others n lt (inv.others low n a lt y);
       faults = none_more (G.faults files) (G.faults next) (D.faults o.file) h.faults back.faults back.later ∙ inv.faults;
       halted = back.seen.0 ∙ inv.halted;
       next = back.seen.1 ∙ inv.next;

@@ -6,7 +6,7 @@ use Rattle.collection_laws.specs.Places.{AreApart}
 use Rattle.super_version.specs.Live.{Live}
 use Rattle.super_version.specs.Contents.{items_of_table}
 use Rattle.flush_job.specs.Keeping.{all_of, kept_of}
-use Rattle.compaction.specs.Feeding.{left_at, versions_from}
+use Rattle.compaction.specs.Feeding.{left_items, versions_from}
 use Rattle.compaction.specs.Made.{AreTablesOf, held_by, kept_by}
 use Rattle.compaction.specs.contracts.feed.TableFeedFeed.TheImpl.{ghosts}
 use Rattle.compaction.proofs.Feeds.{feed_apart, feed_kept, feed_sequences, feed_stamps}
@@ -18,7 +18,7 @@ make_outputs-requires-clause-stamps g c = λ x y.
     let family = c.args.plan.now.family in
     let tables = c.args.plan.now.inputs in
     let f = c.in-Ok.feed in
-    let coming = versions_from f.family (left_at f.merge.cursors.items) in
+    let coming = versions_from f.family (left_items f.merge.cursors.items) in
     let are : coming ≡ versions_from family (merged (map items_of_table tables)) =
     (λ i. versions_from (c.in-Ok.ensures.family i) (c.in-Ok.ensures.coming i)) ∙ ap (λ (ts : List Live). versions_from family (merged (map items_of_table ts))) c.as_slice.ensures in
     feed_stamps family tables (all_of ghosts c.in-Ok-keep.kept) coming c.in-Ok-keep.ensures.all are c.args.form c.requires
@@ -28,7 +28,7 @@ make_outputs-requires-clause-sequences g c = λ x y.
     let family = c.args.plan.now.family in
     let tables = c.args.plan.now.inputs in
     let f = c.in-Ok.feed in
-    let coming = versions_from f.family (left_at f.merge.cursors.items) in
+    let coming = versions_from f.family (left_items f.merge.cursors.items) in
     let are : coming ≡ versions_from family (merged (map items_of_table tables)) =
     (λ i. versions_from (c.in-Ok.ensures.family i) (c.in-Ok.ensures.coming i)) ∙ ap (λ (ts : List Live). versions_from family (merged (map items_of_table ts))) c.as_slice.ensures in
     feed_sequences family tables (all_of ghosts c.in-Ok-keep.kept) coming c.in-Ok-keep.ensures.all are c.args.form c.requires
@@ -41,7 +41,7 @@ returns-clause-made g c =
     let G = g.J.JobFiles in
     let D = g.J.File.DiskFile in
     let start = c.args.files.now in
-    let coming = versions_from f.family (left_at f.merge.cursors.items) in
+    let coming = versions_from f.family (left_items f.merge.cursors.items) in
     let are : coming ≡ versions_from plan.family (merged (map items_of_table plan.inputs)) =
     (λ i. versions_from (c.in-Ok.ensures.family i) (c.in-Ok.ensures.coming i)) ∙ ap (λ (ts : List Live). versions_from plan.family (merged (map items_of_table ts))) c.as_slice.ensures in
     if_ok_on c.make_outputs.result (AreInOrder (all_of ghosts k))
@@ -56,7 +56,7 @@ returns-clause-apart g c =
     let plan = c.args.plan.now in
     let f = c.in-Ok.feed in
     let k = c.in-Ok-keep.kept in
-    let coming = versions_from f.family (left_at f.merge.cursors.items) in
+    let coming = versions_from f.family (left_items f.merge.cursors.items) in
     let are : coming ≡ versions_from plan.family (merged (map items_of_table plan.inputs)) =
     (λ i. versions_from (c.in-Ok.ensures.family i) (c.in-Ok.ensures.coming i)) ∙ ap (λ (ts : List Live). versions_from plan.family (merged (map items_of_table ts))) c.as_slice.ensures in
     on_ok_on c.make_outputs.result (AreInOrder (all_of ghosts k)) (AreApart (held_by plan)) (feed_apart plan.family plan.inputs (all_of ghosts k) coming c.in-Ok-keep.ensures.all are) c.make_outputs.ensures.in_order

@@ -11,6 +11,11 @@ returns-in-Ok-clause-holds g c =
     holds_table g.J.File.DiskFile c.requires.0 c.in_ok-number.file c.finish.new.file c.in-Ok.table c.in_ok-number.number c.properties.result.now.count (g.J.JobFiles.is_told c.args.files.now) (g.J.JobFiles.keeps_model c.args.files.now)
     (c.in-Ok.ensures c.requires.0 c.requires.1) (λ h. made.empty (subst IsTrue made.file_told h)) made.name made.fresh made.file_told made.file_model (ap (λ p. p.count) c.properties.ensures)
 
+pub returns-in-Ok-clause-drawn : goal.returns-in-Ok-clause-drawn
+returns-in-Ok-clause-drawn g c =
+    let made = c.in_ok-number.ensures in
+    record { given = made.given; low = made.higher.0; high = made.higher.1; gave = made.gave; others = made.others; faults = made.kept; told = made.told; model = made.model }
+
 pub returns-in-Err-clause-refused : goal.returns-in-Err-clause-refused
 returns-in-Err-clause-refused g c =
     let G = g.J.JobFiles in

@@ -7,7 +7,6 @@ pub from_parts-engine-requires-after_bounds : goal.from_parts-engine-requires-af
 from_parts-engine-requires-after_bounds c lifetimes =
     let e = c.in-Ok.ensures in (
       c.args.disk,
-      c.in-Ok.parts.version,
       record {
         opened = e.opened;
         reads = e.reads;
@@ -26,20 +25,4 @@ from_parts-engine-requires-after_bounds c lifetimes =
     )
 
 pub returns-in-Ok-new-clause-current : goal.returns-in-Ok-new-clause-current
-returns-in-Ok-new-clause-current c =
-    let e = c.in-Ok.ensures in
-    subst (λ (v : SuperVersion). IsCurrent c.from_parts-engine.result v) (sym c.in-Ok-new.ensures.ok) (c.from_parts-engine.ensures.current c.args.disk c.in-Ok.parts.version (record {
-      opened = e.opened;
-      reads = e.reads;
-      folds = e.folds;
-      fits = e.fits;
-      ready = e.ready;
-      sizes = e.sizes;
-      pending = e.pending;
-      wal_name = e.wal_name;
-      manifest_name = e.manifest_name;
-      wal_told = e.wal_told;
-      wal_model = e.wal_model;
-      manifest_told = e.manifest_told;
-      manifest_model = e.manifest_model;
-    }))
+returns-in-Ok-new-clause-current c = subst (λ (v : SuperVersion). IsCurrent c.from_parts-engine.result v) (sym c.in-Ok-new.ensures.ok) c.from_parts-engine.ensures.current

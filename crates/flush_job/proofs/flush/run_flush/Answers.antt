@@ -6,7 +6,7 @@ use Rattle.ts_key.specs.declared.numbers.Ts.{Ts}
 use Rattle.ts_key.specs.declared.version.Form.{Form}
 use Rattle.ts_key.specs.declared.version.Version.{Version}
 use Rattle.block_table.specs.Contents.{Contents}
-use Rattle.block_table.specs.Pushed.{HasPushed, IsWhole}
+use Rattle.block_table.specs.Pushed.{HasPushed, IsWholeTable}
 use Rattle.block_table.specs.Writes.{WritesTable}
 use Rattle.block_table.specs.declared.fault.TableWriteFault.{TableWriteFault}
 use Rattle.block_table.specs.declared.properties.Properties.{Properties}
@@ -17,7 +17,7 @@ use Rattle.flush_job.proofs.Collected.{flush_some, flush_sorted}
 use Rattle.flush_job.proofs.flush.run_flush.Goals as goal
 
 whole : (w : TableWriter) (family : Family) (form : Form) (floor : Ts) (seqs : List Seq) (vs : List Version) → AreFlushable family vs
-    → HasPushed w (flush_contents family form floor seqs vs) → IsWhole w (flush_contents family form floor seqs vs)
+    → HasPushed w (flush_contents family form floor seqs vs) → IsWholeTable w (flush_contents family form floor seqs vs)
 whole w family form floor seqs vs all h = record { pushed = h; some = flush_some family form floor seqs vs all.one_family all.own all.some; sorted = flush_sorted form floor seqs vs all.own }
 
 pub finish-requires-clause-whole : goal.finish-requires-clause-whole

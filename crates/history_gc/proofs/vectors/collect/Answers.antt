@@ -3,7 +3,7 @@ use Rattle.std.specs.Ordering.{is_lt}
 use Rattle.std.specs.List.Sorted.{IsPermutation}
 use Rattle.std.proofs.lemmas.List.Sorted.{All-permutation, answers_always}
 use Rattle.ts_key.specs.declared.version.Version.{Version}
-use Rattle.udt_model.specs.Orders.{is_before}
+use Rattle.udt_model.specs.Orders.{is_version_before}
 use Rattle.collection_laws.specs.Places.{AreSortedByPlace, AreStored}
 use Rattle.udt_model.specs.Collecting as collecting
 use Rattle.collection_laws.proofs.Storing.{version_cmp, before_is, before_ranks, apart_moved, stored_from, same_from, all_from, collect_by_order}
@@ -18,7 +18,7 @@ returns-clause-collected c = λ family of_family apart.
     let xs = c.args.versions.now.items in
     let ys = c.sort_unstable_by.new.self.items in
     let moved : IsPermutation xs ys = subst (λ l. IsPermutation l ys) (ap (λ w. w.items) c.replace-given.ensures.value) c.sort_unstable_by.ensures.permutation in
-    let ordered : AreSortedByPlace ys = c.sort_unstable_by.ensures.sorted is_before before_ranks
+    let ordered : AreSortedByPlace ys = c.sort_unstable_by.ensures.sorted is_version_before before_ranks
     (answers_always _ _ _ (λ f a r g k. let q : (r ≡ version_cmp a.0.now a.1.0.now) × (g ≡ f) = search rules in ap is_lt q.0 ∙ sym (before_is a.0.now a.1.0.now))) in
     let stored : AreStored ys = stored_from ys ordered (apart_moved xs ys moved apart) in
     let order : AreInOrder ys = order_from family.0 ys stored (all_from (λ v. v.family.0 ≡ family.0) ys (All-permutation (λ (v : Version). v.family.0 ≡ family.0) xs ys moved of_family)) in

@@ -4,7 +4,7 @@ use Rattle.std.specs.Arc.{arc_value}
 use Rattle.std.proofs.lemmas.List.Elements.{Contains-append_right}
 use Rattle.ts_key.specs.declared.version.Version.{Version}
 use Rattle.ts_key.specs.Items.{Item, items_of}
-use Rattle.ts_key.specs.Visible.{newer, is_seen, visible}
+use Rattle.ts_key.specs.Visible.{newer_item, is_item_seen, visible_item}
 use Rattle.memtable.specs.Memtables.{joined}
 use Rattle.memtable.proofs.Bests.{joined_more, tested-append, kept_among}
 use Rattle.memtable.proofs.runs.find_counted_in.Goals as goal
@@ -21,9 +21,9 @@ loop-run-preserved g c =
     let more : joined (map arc_value (take (i + 1) rs)) ≡ old ++ run = joined_more arc_value rs i c.run-item.result (omega arith) c.run-item.is ∙ ap (λ (vs : List Version). old ++ vs) (sym c.as_ref.ensures) in
     record {
       visible = c.newer_counted-best.ensures.visible
-          ∙ ap (λ (o : Option Item). newer o (visible (items_of run) key t s)) c.loop-run.invariant.visible
-          ∙ sym (tested-append (is_seen key t s) old run)
-          ∙ ap (λ (l : List Version). visible (items_of l) key t s) (sym more);
+          ∙ ap (λ (o : Option Item). newer_item o (visible_item (items_of run) key t s)) c.loop-run.invariant.visible
+          ∙ sym (tested-append (is_item_seen key t s) old run)
+          ∙ ap (λ (l : List Version). visible_item (items_of l) key t s) (sym more);
       among = subst (λ (l : List Version). IfSome c.newer_counted-best.result (λ v. Contains l v.now)) (sym more)
           (c.newer_counted-best.ensures.among (old ++ run) (kept_among old run c.loop-run.best c.loop-run.invariant.among) (λ v h. Contains-append_right old run v h));
       rises = omega (arith, c.newer_counted-best.ensures.rises);

@@ -2,7 +2,7 @@ use Rattle.std.proofs.Common.{◌≡◌, true, sym, ap, ◌∙◌}
 use Rattle.ts_key.specs.Items.{found}
 use Rattle.block_table.specs.Contents.{greatest_of}
 use Rattle.super_version.specs.Contents.{items_of_table}
-use Rattle.point_read.specs.Tells.{is_above}
+use Rattle.point_read.specs.Tells.{is_item_above}
 use Rattle.point_read.proofs.Newer.{passes_over}
 use Rattle.point_read.proofs.hits.newer_in_table.Goals as goal
 
@@ -11,5 +11,5 @@ returns-then-is_above c =
     let key = c.args.key.now in
     let best = found key c.args.best in
     let vs = items_of_table c.args.table.now in
-    let above : is_above best (greatest_of (λ w. w.sort_key.ts) vs) ≡ true = ap (is_above best) (sym c.latest.ensures) ∙ sym (c.is_above.ensures key) ∙ c.if-is_above.true in
+    let above : is_item_above best (greatest_of (λ w. w.sort_key.ts) vs) ≡ true = ap (is_item_above best) (sym c.latest.ensures) ∙ sym (c.is_above.ensures key) ∙ c.if-is_above.true in
     passes_over best vs key c.args.t.0 c.args.s.0 above

@@ -1,7 +1,7 @@
 use Rattle.std.proofs.Common.{List, ap, ◌∙◌}
 use Rattle.std.specs.List.{flat_map}
 use Rattle.ts_key.specs.Items.{found}
-use Rattle.ts_key.specs.Visible.{newer, visible}
+use Rattle.ts_key.specs.Visible.{newer_item, visible_item}
 use Rattle.memtable.specs.Memtables.{Memtable}
 use Rattle.super_version.specs.Live.{Live}
 use Rattle.super_version.specs.Contents.{items_of_level, items_of_memtable}
@@ -17,5 +17,5 @@ returns c =
     all_three (items_of_memtable f.active) (flat_map items_of_memtable f.sealed) (flat_map items_of_level f.levels) key t s
     (found key c.newer_in_mem-best.result) (found key c.newer_in_mems-best.result) (found key c.newer_in_levels.result)
     c.newer_in_mem-best.ensures
-    (c.newer_in_mems-best.ensures ∙ ap (λ (ms : List Memtable). newer (found key c.newer_in_mem-best.result) (visible (flat_map items_of_memtable ms) key t s)) c.as_slice.ensures)
-    (c.newer_in_levels.ensures ∙ ap (λ (ls : List (List Live)). newer (found key c.newer_in_mems-best.result) (visible (flat_map items_of_level ls) key t s)) c.as_slice-2.ensures)
+    (c.newer_in_mems-best.ensures ∙ ap (λ (ms : List Memtable). newer_item (found key c.newer_in_mem-best.result) (visible_item (flat_map items_of_memtable ms) key t s)) c.as_slice.ensures)
+    (c.newer_in_levels.ensures ∙ ap (λ (ls : List (List Live)). newer_item (found key c.newer_in_mems-best.result) (visible_item (flat_map items_of_level ls) key t s)) c.as_slice-2.ensures)

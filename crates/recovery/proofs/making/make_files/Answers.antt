@@ -7,7 +7,7 @@ use Rattle.udt_disk.specs.declared.name.FileName.TheVariants.{Log, Made}
 use Rattle.udt_disk.proofs.TouchLemmas.{touches_nothing, touches_more, touches_then}
 use Rattle.manifest.specs.Making.{IsStoreName}
 use Rattle.recovery.specs.Making.{IsMakingName}
-use Rattle.recovery.proofs.NewStores.{new_stands, log_isn't_touched, at_rest, log_step, still_unmade, manifest_step, all_there}
+use Rattle.recovery.proofs.NewStores.{new_store, log_isn't_touched, at_rest, log_step, still_unmade, manifest_step, all_there}
 use Rattle.recovery.proofs.making.make_files.Goals as goal
 
 pub returns-in_default-clause-moments : goal.returns-in_default-clause-moments
@@ -28,7 +28,7 @@ returns-clause-made g c =
     on_ok_weaker c.make_manifest.result
     (λ made told.
     let now = subst IsTrue (sym c.make_first_log.ensures.touches.told) told in
-    new_stands (d.stands new) c.args.head.now.families (made now) ((c.make_manifest.ensures.touches now).same (Log 1) log_isn't_touched ∙ c.in_ok-make_first_log.ensures.made told))
+    new_store (d.stands new) c.args.head.now.families (made now) ((c.make_manifest.ensures.touches now).same (Log 1) log_isn't_touched ∙ c.in_ok-make_first_log.ensures.made told))
     c.make_manifest.ensures.made
 
 pub returns-clause-stopped : goal.returns-clause-stopped
@@ -39,7 +39,7 @@ returns-clause-stopped g c =
     (λ stopped told none.
     let now = subst IsTrue (sym c.make_first_log.ensures.touches.told) told in
     ⊎_elim (λ still. inl still)
-    (λ means. inr (new_stands (d.stands new) c.args.head.now.families means ((c.make_manifest.ensures.touches now).same (Log 1) log_isn't_touched ∙ c.in_ok-make_first_log.ensures.made told)))
+    (λ means. inr (new_store (d.stands new) c.args.head.now.families means ((c.make_manifest.ensures.touches now).same (Log 1) log_isn't_touched ∙ c.in_ok-make_first_log.ensures.made told)))
     (stopped now (c.make_first_log.ensures.touches.same Made (λ is. cc) ∙ none)))
     c.make_manifest.ensures.stopped
 

@@ -4,10 +4,7 @@ use Rattle.udt_disk.specs.declared.name.FileName.TheVariants.{Made}
 use Rattle.udt_disk.proofs.Moments.{leaves_all}
 use Rattle.manifest.specs.Folders.{Means}
 use Rattle.manifest.specs.Folders.Meaning.{no_store}
-use Rattle.udt_disk.specs.Joint.{Folder}
-use Rattle.engine_laws.specs.Standing.{FolderStands, new_state}
-use Rattle.recovery.specs.Making.{IsNoneOrNew}
-use Rattle.recovery.specs.Tables.{ReadsAsTable}
+use Rattle.recovery.specs.Making.{IsNewStore, IsNoneOrNew}
 use Rattle.recovery.proofs.NewStores.{unmade_behind, behind_look, files_step, leaves, leaves_behind, still_none, still_none_left, on_err, look_keeps, keeps_behind}
 use Rattle.recovery.proofs.making.make_store.Goals as goal
 
@@ -30,7 +27,7 @@ pub returns-in-Ok-clause-durable : goal.returns-in-Ok-clause-durable
 returns-in-Ok-clause-durable g c unmade =
     let d = g.D.Disk in
     let f = g.D.File.DiskFile in
-    leaves d f (λ (folder : Folder). FolderStands ReadsAsTable folder (new_state c.args.head.now.families)) c.make_files.new.disk
+    leaves d f (IsNewStore c.args.head.now.families) c.make_files.new.disk
     (c.in-Ok.ensures.durable (unmade_behind d f c.args.disk.now c.find_none.new.disk unmade c.find_none.ensures.looks))
 
 pub returns-in-Err-DiskFault-clause-moments : goal.returns-in-Err-DiskFault-clause-moments

@@ -4,15 +4,17 @@ use Rattle.udt_disk.specs.Causes.{IsCause}
 use Rattle.udt_disk.specs.Crash.{Image}
 use Rattle.udt_disk.specs.Moments.{alone, holding}
 use Rattle.udt_disk.specs.declared.name.FileName.{FileName}
+use Rattle.udt_disk.specs.declared.name.FileName.TheVariants.{Current}
 use Rattle.udt_disk.proofs.Moments.{Giving, only_then, return_step}
 use Rattle.udt_disk.proofs.TouchLemmas.{touches_one}
 use Rattle.manifest_fold.specs.declared.fold.Folded.{Folded}
+use Rattle.manifest.specs.Folders.{chosen}
 use Rattle.manifest.specs.Manifest.{manifest_folded}
 use Rattle.recovery.specs.Opening.{IsShown, IsUsable, RefusesFiles}
 use Rattle.recovery.specs.Replayed.{IsNewestLog}
 use Rattle.recovery.specs.Versions.{FitsFold}
 use Rattle.recovery.proofs.Elsewhere.{files_here, shown_here}
-use Rattle.recovery.proofs.Openings.{files_opening, logs_free, logs_same, newest_touched, tables_free, tables_same, usable_from}
+use Rattle.recovery.proofs.Openings.{chosen_is_live, files_opening, logs_free, logs_same, newest_touched, tables_free, tables_same, usable_from}
 use Rattle.recovery.proofs.opening.open_store.Goals as goal
 
 pub open_files-requires-clause-usable : goal.open_files-requires-clause-usable
@@ -44,7 +46,7 @@ returns-in-Ok-clause-opened g c told =
       shown = shown_here (d.stands mid) (d.stands old) fold (tables_same d f old mid e.touches) (logs_same d f old mid e.touches) c.in-Ok.version shown;
       manifest_name = e.name told;
       manifest_shows = e.shows told;
-      manifest_rests = λ clean. e.rests told (λ image left. clean _ image left);
+      manifest_rests = λ clean. e.rests told (λ image left. clean (chosen (d.stands old)) image (chosen_is_live (d.stands old Current) fold) left);
       wal = newest_touched d f old mid e.touches fold c.in-Ok.wal newest;
     }
 

@@ -5,7 +5,7 @@ use Rattle.engine_laws.specs.Manifests.{IsLive}
 use Rattle.udt_disk.specs.Joint.{Folder}
 use Rattle.recovery.specs.Looks.{Looks}
 use Rattle.recovery.specs.Meeting.{AreOnLevels, IsFirstFault}
-use Rattle.recovery.specs.Places.{AreLivePlaces, IsTableOpened, IsTableName, RefusesPlace, place_of}
+use Rattle.recovery.specs.Places.{AreLivePlaces, IsTableOpened, IsTableName, RefusesPlace, table_place_of}
 use Rattle.recovery.specs.declared.live.TablePlace.{TablePlace}
 use Rattle.recovery.specs.declared.tables.Opened.{Opened}
 use Rattle.recovery.proofs.Faulting.{first_tables}
@@ -21,7 +21,7 @@ returns-in_err-places-clause-looks g c = looks_none g.D.Disk g.D.File.DiskFile I
 
 pub loop-place-init : goal.loop-place-init
 loop-place-init g c = record {
-  places = ap (map place_of) c.new-opened.ensures.items;
+  places = ap (map table_place_of) c.new-opened.ensures.items;
   each = λ told. subst (EachOpened (g.D.Disk.stands c.args.disk.now) c.args.fold.now) (sym c.new-opened.ensures.items) (λ o f held. absurd held);
   looks = looks_none g.D.Disk g.D.File.DiskFile IsTableName c.args.disk.now;
   faults = refl;
@@ -97,10 +97,10 @@ loop-place-preserved g c =
     let islive : IsLive fold p.family family p.table = live_at fold places i p family live within at there in
     let step : Looks d f IsTableName mid new = c.in-Ok.ensures.looks in
     let o = c.in-Ok.table in
-    let is : place_of o ≡ p = c.in-Ok.ensures.place in
+    let is : table_place_of o ≡ p = c.in-Ok.ensures.place in
     let more = c.in-Ok-push.ensures.items in
     record {
-      places = ap (map place_of) more ∙ places_are places i p opened o within at inv.places is;
+      places = ap (map table_place_of) more ∙ places_are places i p opened o within at inv.places is;
       each = λ told.
           let known : IsTableOpened (d.stands old) family o = subst (λ (folder : Folder). IsTableOpened folder family o) (looks_folder d f IsTableName old mid inv.looks told) (c.in-Ok.ensures.opened (subst IsTrue (sym (looks_told d f IsTableName old mid inv.looks)) told)) in
           subst (EachOpened (d.stands old) fold) (sym more) (each_more (d.stands old) fold places live i within p at opened inv.places (inv.each told) family islive o is known);

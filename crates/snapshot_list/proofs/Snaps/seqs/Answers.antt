@@ -1,12 +1,12 @@
 use Rattle.std.proofs.Common.{sym, ap, ◌∙◌, length, arith}
-use Rattle.snapshot_list.specs.Registered.{seqs_of}
+use Rattle.snapshot_list.specs.Registered.{registered_seqs}
 use Rattle.snapshot_list.proofs.Snapshots.{length_paired, seqs_paired}
 use Rattle.snapshot_list.proofs.Snaps.seqs.Goals as goal
 
 pub returns-clause-seqs : goal.returns-clause-seqs
 returns-clause-seqs c =
     let x = c.self.inside in
-    c.deref.ensures.value ∙ sym (seqs_paired x.ids.items x.seqs.items c.self.invariant.0.paired) ∙ ap seqs_of c.self.view_is
+    c.deref.ensures.value ∙ sym (seqs_paired x.ids.items x.seqs.items c.self.invariant.0.paired) ∙ ap registered_seqs c.self.view_is
 
 pub returns-clause-within : goal.returns-clause-within
 returns-clause-within c =

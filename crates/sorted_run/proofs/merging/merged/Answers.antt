@@ -1,6 +1,6 @@
 use Rattle.std.proofs.Common.{◌≡◌, ◌≤◌, ◌+◌, ◌++◌, ◌⊎◌, List, [], ◌∷◌, length, drop, true, false, sym, ap, ◌∙◌, inl, inr, arith}
 use Rattle.ts_key.specs.declared.version.Version.{Version}
-use Rattle.sorted_run.specs.Sorts.{is_before, sorted}
+use Rattle.sorted_run.specs.Sorts.{is_sorted_before, sorted}
 use Rattle.sorted_run.proofs.Finds.{at_same}
 use Rattle.sorted_run.proofs.Sorting.{merges_left, merges_right, merges_end}
 use Rattle.sorted_run.proofs.merging.merged.Goals as goal
@@ -16,7 +16,7 @@ loop-i-preserved-then-is_before c =
     let v = c.index-a-i.result in
     let w = c.index-b-j.result in
     let pushed : c.in_ok-copy.field-0 ≡ w = c.in_ok-copy.ensures ∙ at_same b j c.index-b-j-then-is_before.result w (omega arith) c.index-b-j-then-is_before.is c.index-b-j.is in
-    let less : is_before w v ≡ true = sym c.is_before.ensures ∙ c.if-is_before.true in
+    let less : is_sorted_before w v ≡ true = sym c.is_before.ensures ∙ c.if-is_before.true in
     record {
       i_in = c.loop-i.invariant.i_in;
       j_in = omega arith;
@@ -34,7 +34,7 @@ loop-i-preserved c =
     let v = c.index-a-i.result in
     let w = c.index-b-j.result in
     let pushed : c.in_ok-copy-2.field-0 ≡ v = c.in_ok-copy-2.ensures ∙ at_same a i c.index-a-i-else-is_before.result v (omega arith) c.index-a-i-else-is_before.is c.index-a-i.is in
-    let upto : is_before w v ≡ false = sym c.is_before.ensures ∙ c.if-is_before.false in
+    let upto : is_sorted_before w v ≡ false = sym c.is_before.ensures ∙ c.if-is_before.false in
     record {
       i_in = omega arith;
       j_in = c.loop-i.invariant.j_in;

@@ -1,4 +1,4 @@
-use Rattle.std.proofs.Common.{◌≡◌, ℕ, List, Some, None, take, drop, sym, ap, ◌∙◌}
+use Rattle.std.proofs.Common.{◌≡◌, List, Some, None, take, drop, sym, ap, ◌∙◌}
 use Rattle.std.specs.Prelude.{find, nat_le}
 use Rattle.std.specs.List.{position}
 use Rattle.std.specs.Option.{option_copied}

@@ -1,10 +1,10 @@
-use Rattle.std.proofs.Common.{◌≡◌, ℕ, Bool, List, Some, None, true, false, not, refl, drop, sym, ap, subst, ◌∙◌}
+use Rattle.std.proofs.Common.{◌≡◌, Bool, List, Some, None, true, false, not, refl, drop, sym, ap, subst, ◌∙◌}
 use Rattle.std.specs.Prelude.{slice_get}
 use Rattle.std.specs.Option.{option_copied}
 use Rattle.ts_key.specs.declared.version.Version.{Version}
 use Rattle.ts_key.specs.Items.{items_of}
 use Rattle.ts_key.specs.Lists.{IsOrdered}
-use Rattle.sorted_run.specs.Runs.{first_seen, has_key, is_below, sees}
+use Rattle.sorted_run.specs.Runs.{first_seen, has_key, has_key_below, sees}
 use Rattle.sorted_run.proofs.Finds.{head_none, head_some, within-drop}
 use Rattle.sorted_run.proofs.Keys.{ordered-drop}
 use Rattle.sorted_run.proofs.Lookups.{from_key, none_there}
@@ -34,7 +34,7 @@ returns-then-is_other c =
     let v = c.in_ok-first.first.now in
     let some : Some v ≡ slice_get (drop n vs) 0 = c.in_ok-first.ensures.value ∙ ap (λ (l : List Version). slice_get l 0) c.split_at.ensures.back in
     let other : has_key key v ≡ false = not_true (has_key key v) (sym c.is_other.ensures ∙ c.if-is_other.true) in
-    sym (none_there key t s (drop n vs) v (ordered-drop vs n c.requires.order) (within-drop (λ (w : Version). is_below key w ≡ false) vs n c.count_below_near.ensures.from) some other)
+    sym (none_there key t s (drop n vs) v (ordered-drop vs n c.requires.order) (within-drop (λ (w : Version). has_key_below key w ≡ false) vs n c.count_below_near.ensures.from) some other)
     ∙ from_key key t s vs n c.count_below_near.ensures.below
 
 pub returns-then-sees : goal.returns-then-sees

@@ -3,7 +3,7 @@ use Rattle.std.specs.Prelude.{slice_get, option_map}
 use Rattle.std.specs.Str.{bytes_eq}
 use Rattle.ts_key.specs.declared.numbers.Ts.{Ts}
 use Rattle.ts_key.specs.declared.version.Version.{Version}
-use Rattle.sorted_run.specs.Runs.{has_key, is_below}
+use Rattle.sorted_run.specs.Runs.{has_key, has_key_below}
 use Rattle.sorted_run.proofs.Finds.{within-drop}
 use Rattle.sorted_run.proofs.Keys.{ordered-drop}
 use Rattle.sorted_run.proofs.Lookups.{newest_none, newest_head, newest_other}
@@ -34,4 +34,4 @@ returns-else-eq c =
     let v = c.in_ok-first.first.now in
     let some : Some v ≡ slice_get (drop n vs) 0 = c.in_ok-first.ensures.value ∙ ap (λ (l : List Version). slice_get l 0) c.split_at.ensures.back in
     let other : has_key key v ≡ false = ap (λ (k : List ℕ). bytes_eq k key) (sym c.bytes.ensures.bytes) ∙ sym c.eq.ensures ∙ c.if-eq.false in
-    newest_other key vs n c.requires c.count_below_near.ensures.below v (ordered-drop vs n c.requires) (within-drop (λ (w : Version). is_below key w ≡ false) vs n c.count_below_near.ensures.from) some other
+    newest_other key vs n c.requires c.count_below_near.ensures.below v (ordered-drop vs n c.requires) (within-drop (λ (w : Version). has_key_below key w ≡ false) vs n c.count_below_near.ensures.from) some other

@@ -6,7 +6,7 @@ use Rattle.super_version.specs.declared.version.SuperVersion.{SuperVersion}
 use Rattle.std.specs.Prelude.{length}
 use Rattle.store_engine.specs.Admission.{IsInMemory, RefusesWrite, write_fault}
 use Rattle.store_engine.specs.Now.{IsNow}
-use Rattle.store_engine.proofs.Admitting.{handed_on, write_admitted, write_in_memory, write_refused}
+use Rattle.store_engine.proofs.Admitting.{handed_on, handed_refusal, write_admitted, write_in_memory, write_refused, write_refuses}
 use Rattle.store_engine.proofs.NowWritten.{now_written}
 use Rattle.store_engine.proofs.admission.admit.Goals as goal
 
@@ -27,3 +27,11 @@ pub returns-clause-next : goal.returns-clause-next
 returns-clause-next c = λ m number sync sound shows.
     subst (λ (v : SuperVersion). IsNow v (after m number (write c.args.batch.now sync) (OkAt (m.last.0 + length c.args.batch.now)))) (sym c.in_ok-share.ensures)
     (now_written m c.args.now.now c.in_ok-with_write.field-0 number c.args.batch.now sync sound shows c.in_ok-with_write.ensures)
+
+pub returns-in_err-judge-clause-answers : goal.returns-in_err-judge-clause-answers
+returns-in_err-judge-clause-answers c =
+    let is : write_fault c.args.now.now c.args.batch.now ≡ Some c.in_err-judge.field-0.0 = ap (write_fault c.args.now.now) (sym c.ops.ensures.ops) ∙ sym c.in_err-judge.ensures.fault in
+    handed_refusal c.from_residual.result c.in_err-judge.field-0.0 c.from_residual.ensures.1 ∙ write_refuses c.args.now.now c.args.batch.now c.in_err-judge.field-0.0 is ∙ sym is
+
+pub returns-clause-answers : goal.returns-clause-answers
+returns-clause-answers c = c.in_ok-judge.ensures.fault ∙ ap (write_fault c.args.now.now) c.ops.ensures.ops

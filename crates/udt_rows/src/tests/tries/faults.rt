@@ -5,59 +5,69 @@ use client_runner::Status;
 use std::process::Abort;
 use std::test::Fail;
 
-/// `try FILE` with one failing read or write.
-fn tries(
-    rt: &impl AllocGlobal,
+const TRY: [&[u8]; 2] = [b"try", b"FILE"];
+
+/// A command line with one failing read or write ends with this status and text.
+fn fails(
+    rt: &(impl AllocGlobal + Abort),
+    words: &[&[u8]],
     file: &[u8],
     read_fails: Option<u64>,
     write_fails: Option<u64>,
-) -> Result<Outcome, Fail> {
-    ran(rt, &[b"try", b"FILE"], file, read_fails, write_fails)
-}
-
-#[test]
-fn a_read_that_fails(rt: HostRuntime) -> Result<(), Fail> {
-    let first = tries(&rt, b"get d a 5\n", Some(1), None)?;
-    assert_eq!(rt; first.status, Status::SourceFault);
-    assert_eq!(rt; first.text.as_slice(), b"source fault\n".as_slice());
+    status: Status,
+    text: &[u8],
+) -> Result<(), Fail> {
+    let outcome = ran(rt, words, file, read_fails, write_fails)?;
+    assert_eq!(rt; outcome.status, status);
+    assert_eq!(rt; outcome.text.as_slice(), text);
     Ok(())
 }
 
 #[test]
-fn a_later_read_that_fails(rt: HostRuntime) -> Result<(), Fail> {
+fn the_first_or_a_later_read_fails(rt: HostRuntime) -> Result<(), Fail> {
     let long = repeated(&rt, b"", b"\n", 20_000, b"")?;
-    let second = tries(&rt, &long, Some(2), None)?;
-    assert_eq!(rt; second.status, Status::SourceFault);
-    assert_eq!(rt; second.text.as_slice(), b"source fault\n".as_slice());
+    let (status, text) = (Status::SourceFault, b"source fault\n");
+    for read in [1, 2] {
+        fails(&rt, &TRY, &long, Some(read), None, status, text)?;
+    }
     Ok(())
 }
 
-/// The sink failed, and took nothing.
-fn took_nothing(rt: &impl Abort, outcome: &Outcome) {
-    assert_eq!(rt; outcome.status, Status::SinkFault);
-    assert!(rt; outcome.text.is_empty());
-}
+/// Words and a file whose first write fails: of a transcript, of a refusal, and of a text.
+const WRITES: [(&[&[u8]], &[u8]); 3] = [
+    (&TRY, b"get d a 5\n"),
+    (&TRY, b"x\n"),
+    (&[b"--version"], b""),
+];
 
 #[test]
 fn a_write_that_fails(rt: HostRuntime) -> Result<(), Fail> {
-    let transcript = tries(&rt, b"get d a 5\n", None, Some(1))?;
-    took_nothing(&rt, &transcript);
-    let refusal = tries(&rt, b"x\n", None, Some(1))?;
-    took_nothing(&rt, &refusal);
-    let version = ran(&rt, &[b"--version"], b"", None, Some(1))?;
-    took_nothing(&rt, &version);
+    for (words, file) in WRITES {
+        fails(&rt, words, file, None, Some(1), Status::SinkFault, b"")?;
+    }
     Ok(())
+}
+
+/// Did the sink fail behind more than one write, and take a front of what it takes else?
+fn is_cut(cut: &Outcome, whole: &Outcome) -> bool {
+    whole.status == Status::Done
+        && cut.status == Status::SinkFault
+        && cut.text.len() > 65_536
+        && cut.text.len() < whole.text.len()
+        && whole.text.starts_with(&cut.text)
+}
+
+/// The sink's third write fails.
+fn takes_a_front(rt: &impl AllocGlobal, file: &[u8]) -> Result<bool, Fail> {
+    let whole = ran(rt, &TRY, file, None, None)?;
+    let cut = ran(rt, &TRY, file, None, Some(3))?;
+    Ok(is_cut(&cut, &whole))
 }
 
 #[test]
 fn a_sink_that_fails_has_taken_a_front(rt: HostRuntime) -> Result<(), Fail> {
     let put = repeated(&rt, b"put d a 5 ", b"v", 65_536, b"\n")?;
     let file = repeated(&rt, &put, b"get d a 5\n", 3, b"")?;
-    let whole = tries(&rt, &file, None, None)?;
-    assert_eq!(rt; whole.status, Status::Done);
-    let cut = tries(&rt, &file, None, Some(3))?;
-    assert_eq!(rt; cut.status, Status::SinkFault);
-    assert!(rt; cut.text.len() > 65_536 && cut.text.len() < whole.text.len());
-    assert!(rt; whole.text.starts_with(&cut.text));
+    assert!(rt; takes_a_front(&rt, &file)?);
     Ok(())
 }

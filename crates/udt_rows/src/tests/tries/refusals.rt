@@ -2,20 +2,23 @@
 
 use super::stage::{ends, prints, ran, refuses, repeated};
 use client_runner::{Status, refuse_words};
-use std::process::Abort;
 use std::test::Fail;
 use udt_disk::MemSink;
 
+/// Files, each with the refusal that it prints.
+const BAD_LINES: [(&str, &str); 4] = [
+    ("put d a 5 v\nget d a 5\nput d a\n", "bad line FILE 3\n"),
+    ("\n#\nput d a 5 v\nbad", "bad line FILE 4\n"),
+    ("put d a 18446744073709551615 v", "bad line FILE 1\n"),
+    ("put d a 5 v ;put d a 6 w\n", "bad line FILE 1\n"),
+];
+
 #[test]
 fn bad_lines_are_named(rt: HostRuntime) -> Result<(), Fail> {
-    refuses(
-        &rt,
-        b"put d a 5 v\nget d a 5\nput d a\n",
-        b"bad line FILE 3\n",
-    )?;
-    refuses(&rt, b"\n#\nput d a 5 v\nbad", b"bad line FILE 4\n")?;
-    refuses(&rt, b"put d a 18446744073709551615 v", b"bad line FILE 1\n")?;
-    refuses(&rt, b"put d a 5 v ;put d a 6 w\n", b"bad line FILE 1\n")
+    for (file, text) in BAD_LINES {
+        refuses(&rt, file.as_bytes(), text.as_bytes())?;
+    }
+    Ok(())
 }
 
 #[test]
@@ -37,20 +40,20 @@ fn a_file_has_a_most(rt: HostRuntime) -> Result<(), Fail> {
     refuses(&rt, &more, b"too long FILE\n")
 }
 
-/// The words are none of a command line.
-fn refuses_words(rt: &(impl AllocGlobal + Abort), words: &[&[u8]]) -> Result<(), Fail> {
-    ends(rt, words, Status::Usage, b"bad words\n")
-}
-
 #[test]
 fn words_that_are_no_command_line(rt: HostRuntime) -> Result<(), Fail> {
-    refuses_words(&rt, &[])?;
-    refuses_words(&rt, &[b"frob"])?;
-    refuses_words(&rt, &[b"try"])?;
-    refuses_words(&rt, &[b"try", b"FILE", b"FILE"])?;
-    refuses_words(&rt, &[b"TRY", b"FILE"])?;
-    refuses_words(&rt, &[b"try", b"\xff"])?;
-    refuses_words(&rt, &[b"--help", b"x"])
+    for words in [
+        [].as_slice(),
+        &[b"frob".as_slice()],
+        &[b"try"],
+        &[b"try", b"FILE", b"FILE"],
+        &[b"TRY", b"FILE"],
+        &[b"try", b"\xff"],
+        &[b"--help", b"x"],
+    ] {
+        ends(&rt, words, Status::Usage, b"bad words\n")?;
+    }
+    Ok(())
 }
 
 #[test]

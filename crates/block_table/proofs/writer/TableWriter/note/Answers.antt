@@ -1,6 +1,6 @@
 use Rattle.std.proofs.Common.{◌++◌, refl, sym, ap, subst, Option, ◌∙◌, arith, append_assoc, List, [], ◌∷◌, length-append}
 use Rattle.ts_key.specs.Items.{Item, item_of}
-use Rattle.ts_key.specs.Lists.{joined}
+use Rattle.ts_key.specs.Lists.{joined_lists}
 use Rattle.ts_key.specs.StoredKeys.{IsItem}
 use Rattle.data_block.proofs.Written.{all_snoc}
 use Rattle.block_table.specs.declared.writer.KeyRange.{KeyRange}
@@ -15,7 +15,7 @@ returns-clause-noted c = λ t done vs b item.
       family = b.family;
       form = b.form;
       collected_by = b.collected_by;
-      items = ap (λ (us : List Item). us ++ v ∷ []) b.items ∙ append_assoc (joined done) vs (v ∷ []);
+      items = ap (λ (us : List Item). us ++ v ∷ []) b.items ∙ append_assoc (joined_lists done) vs (v ∷ []);
       bytes = b.bytes;
       index = b.index;
       versions = omega (arith, n, length-append vs (v ∷ []));

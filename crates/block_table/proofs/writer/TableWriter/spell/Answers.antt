@@ -1,6 +1,6 @@
 use Rattle.std.proofs.Common.{length, ap, ◌∙◌, arith}
 use Rattle.std.proofs.lemmas.List.{append-nil}
-use Rattle.ts_key.specs.Lists.{joined}
+use Rattle.ts_key.specs.Lists.{joined_lists}
 use Rattle.block_table.specs.Tables.{with_footer, index, properties}
 use Rattle.block_table.proofs.Cuts.{length-handles}
 use Rattle.block_table.proofs.Pushing.{told_properties}
@@ -19,7 +19,7 @@ returns c = λ t cuts h.
       cuts = cuts;
       some = h.some;
       count = omega (arith, ap length b.index, length-handles t.form 0 cuts);
-      joins = b.items ∙ append-nil (joined cuts);
+      joins = b.items ∙ append-nil (joined_lists cuts);
       cut = h.cut;
       some_each = h.some_each;
       readable = b.readable;

@@ -7,7 +7,7 @@ use Rattle.ts_key.specs.Order.{sort_key_of}
 use Rattle.history_gc.specs.Pushed.{AreInOrder}
 use Rattle.merge_cursor.specs.Sides.{is_apart, key_lent}
 use Rattle.super_version.specs.Contents.{version_of_item}
-use Rattle.compaction.specs.Feeding.{count_passed, ends_at, versions_from, walked}
+use Rattle.compaction.specs.Feeding.{count_passed, ends_at, versions_from, walked_items}
 use Rattle.compaction.proofs.Feeds.{ends_snoc, in_order_more, versions_snoc, walk_ends, walk_on}
 use Rattle.compaction.proofs.feed.TableFeedFeed.next.Goals as goal
 
@@ -15,22 +15,22 @@ pub returns-in_default : goal.returns-in_default
 returns-in_default c =
     let f = c.args.self.now in
     let cs = f.merge.cursors.items in
-    let done = ap (versions_from f.family) (walk_ends (walked cs) (count_passed cs) c.in_default.ensures) in
+    let done = ap (versions_from f.family) (walk_ends (walked_items cs) (count_passed cs) c.in_default.ensures) in
     (done, done, refl)
 
 pub next-requires : goal.next-requires
 next-requires c =
     let cs = c.args.self.now.merge.cursors.items in
-    let more = get_inside (walked cs) (count_passed cs) (shown (c.in-Some.key, c.in-Some.hit)) (sym c.in-Some.ensures) in
+    let more = get_inside (walked_items cs) (count_passed cs) (shown (c.in-Some.key, c.in-Some.hit)) (sym c.in-Some.ensures) in
     λ κ. ((refl, tt), more)
 
 pub invariant_of-self : goal.invariant_of-self
 invariant_of-self c =
     let f = c.args.self.now in
-    let ys = walked f.merge.cursors.items in
+    let ys = walked_items f.merge.cursors.items in
     let p = count_passed f.merge.cursors.items in
     let more = c.next.new.self in
-    let zs = walked more.cursors.items in
+    let zs = walked_items more.cursors.items in
     let q = count_passed more.cursors.items in
     let key = c.in-Some.key in
     let item = shown (key, c.in-Some.hit) in
@@ -47,10 +47,10 @@ invariant_of-self c =
 pub returns : goal.returns
 returns c =
     let f = c.args.self.now in
-    let ys = walked f.merge.cursors.items in
+    let ys = walked_items f.merge.cursors.items in
     let p = count_passed f.merge.cursors.items in
     let more = c.next.new.self in
-    let zs = walked more.cursors.items in
+    let zs = walked_items more.cursors.items in
     let q = count_passed more.cursors.items in
     let item = shown (c.in-Some.key, c.in-Some.hit) in
     let got : slice_get ys p ≡ Some item = sym c.in-Some.ensures in

@@ -3,7 +3,7 @@ use Rattle.std.specs.Prelude.{if◌then◌else◌, ◌==◌}
 use Rattle.std.specs.List.{list_any}
 use Rattle.std.specs.VecDeque.{deque_capacity}
 use Rattle.ts_key.specs.declared.version.Version.{Version}
-use Rattle.history_gc.specs.Streaming.{is_between}
+use Rattle.history_gc.specs.Streaming.{is_snapshot_between}
 use Rattle.history_gc.specs.States.{AccountsFor}
 use Rattle.history_gc.specs.Collecting.{state, state_at, HasCollected}
 use Rattle.history_gc.proofs.Queues.{push_is, moved, collected_from}
@@ -34,7 +34,7 @@ returns-then-not-notes-clause-collected c = λ ps qs hv b.
     let k = c.is_of_run-same_key.result in
     let h' : AccountsFor f ss dd (state_at x.class x.least x.decided q) ps qs = subst (λ r. AccountsFor f ss dd (state_at x.class x.least x.decided r) ps qs) (sym c.reserve.ensures.items) h in
     let l : x.decided ≤ length q = let w = x.within in omega (arith, w, ap length c.reserve.ensures.items) in
-    let ke : c.notes.result ≡ (not (k && x.class == max v.ts.0 f.0) || list_any (is_between v.seq.0 x.least) ss) = n.kept ∙ (λ i. not (k && e.same.0 i == max v.ts.0 ((e.alike.floor i).0)) || list_any (is_between v.seq.0 (e.same.1 i)) (e.alike.snapshots i)) in
+    let ke : c.notes.result ≡ (not (k && x.class == max v.ts.0 f.0) || list_any (is_snapshot_between v.seq.0 x.least) ss) = n.kept ∙ (λ i. not (k && e.same.0 i == max v.ts.0 ((e.alike.floor i).0)) || list_any (is_snapshot_between v.seq.0 (e.same.1 i)) (e.alike.snapshots i)) in
     let ce : m.class ≡ max v.ts.0 f.0 = n.class ∙ ap (λ t. max v.ts.0 t.0) e.alike.floor in
     let le : m.least ≡ (if k && x.class == max v.ts.0 f.0 then min x.least v.seq.0 else v.seq.0) = n.least ∙ (λ i. if k && e.same.0 i == max v.ts.0 ((e.alike.floor i).0) then min (e.same.1 i) v.seq.0 else v.seq.0) in
     let qe : m.queue.items ≡ (if c.notes.result then s.queue.items ++ v ∷ [] else s.queue.items) = ap (λ r. r.items) n.same.0 ∙ sym (ap (λ t. if t then s.queue.items ++ v ∷ [] else s.queue.items) c.if-not-notes.true) in
@@ -60,7 +60,7 @@ returns-clause-collected c = λ ps qs hv b.
     let k = c.is_of_run-same_key.result in
     let h' : AccountsFor f ss dd (state_at x.class x.least x.decided q) ps qs = subst (λ r. AccountsFor f ss dd (state_at x.class x.least x.decided r) ps qs) (sym c.reserve.ensures.items) h in
     let l : x.decided ≤ length q = let w = x.within in omega (arith, w, ap length c.reserve.ensures.items) in
-    let ke : c.notes.result ≡ (not (k && x.class == max v.ts.0 f.0) || list_any (is_between v.seq.0 x.least) ss) = n.kept ∙ (λ i. not (k && e.same.0 i == max v.ts.0 ((e.alike.floor i).0)) || list_any (is_between v.seq.0 (e.same.1 i)) (e.alike.snapshots i)) in
+    let ke : c.notes.result ≡ (not (k && x.class == max v.ts.0 f.0) || list_any (is_snapshot_between v.seq.0 x.least) ss) = n.kept ∙ (λ i. not (k && e.same.0 i == max v.ts.0 ((e.alike.floor i).0)) || list_any (is_snapshot_between v.seq.0 (e.same.1 i)) (e.alike.snapshots i)) in
     let ce : m.class ≡ max v.ts.0 f.0 = n.class ∙ ap (λ t. max v.ts.0 t.0) e.alike.floor in
     let le : m.least ≡ (if k && x.class == max v.ts.0 f.0 then min x.least v.seq.0 else v.seq.0) = n.least ∙ (λ i. if k && e.same.0 i == max v.ts.0 ((e.alike.floor i).0) then min (e.same.1 i) v.seq.0 else v.seq.0) in
     let qe : r ≡ (if c.notes.result then s.queue.items ++ v ∷ [] else s.queue.items) = c.append.ensures.items ∙ ap (λ t. t.items ++ v ∷ []) n.same.0 ∙ sym (ap (λ t. if t then s.queue.items ++ v ∷ [] else s.queue.items) c.if-not-notes.false) in

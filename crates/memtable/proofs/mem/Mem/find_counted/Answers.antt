@@ -3,7 +3,7 @@ use Rattle.std.specs.Arc.{arc_value}
 use Rattle.std.proofs.lemmas.List.{length-map}
 use Rattle.ts_key.specs.declared.version.Version.{Version}
 use Rattle.ts_key.specs.Items.{items_of}
-use Rattle.ts_key.specs.Visible.{visible}
+use Rattle.ts_key.specs.Visible.{visible_item}
 use Rattle.memtable.specs.Memtables.{Memtable, AreDoubled, joined}
 use Rattle.memtable.proofs.Bests.{visible-sorted}
 use Rattle.memtable.proofs.Doubling.{few_steps}
@@ -17,7 +17,7 @@ returns-clause-visible g c =
     let s = c.args.s.0 in
     let runs : map arc_value c.deref.result.now ≡ c.args.self.now.runs = ap (map arc_value) c.deref.ensures.value ∙ ap (λ (m : Memtable). m.runs) c.self.view_is in
     c.find_counted_in.ensures.visible
-    ∙ ap (λ (rs : List (List Version)). visible (items_of (joined rs)) key t s) runs
+    ∙ ap (λ (rs : List (List Version)). visible_item (items_of (joined rs)) key t s) runs
     ∙ sym (visible-sorted (joined c.args.self.now.runs) key t s)
 
 pub returns-clause-steps : goal.returns-clause-steps

@@ -3,7 +3,7 @@ use Rattle.std.specs.Prelude.{slice_get}
 use Rattle.std.specs.Arc.{arc_value}
 use Rattle.std.proofs.lemmas.List.{length-map}
 use Rattle.ts_key.specs.declared.version.Version.{Version}
-use Rattle.memtable.specs.Memtables.{Memtable, AreDoubled, joined, versions_of}
+use Rattle.memtable.specs.Memtables.{Memtable, AreDoubled, joined, versions_of_memtable}
 use Rattle.memtable.proofs.Doubling.{few_runs, fits, get-map}
 use Rattle.memtable.proofs.Sums.{length-sorted}
 use Rattle.memtable.proofs.mem.Mem.runs.Goals as goal
@@ -29,5 +29,5 @@ returns-in-Some-clause-few c =
     let runs : map arc_value inside.items ≡ rs = ap (λ (m : Memtable). m.runs) c.self.view_is in
     let doubled : AreDoubled rs = subst AreDoubled runs c.self.invariant.doubled in
     let e : length rs ≡ c.len.result = omega (arith, ap length runs, length-map inside.items arc_value, inside.ok.0, c.len.ensures) in
-    let most : 2 ^ length rs ≤ length (versions_of c.args.self.now) + 1 = omega (arith, few_runs rs doubled, length-sorted (joined rs)) in
-    subst (λ (n : ℕ). 2 ^ n ≤ length (versions_of c.args.self.now) + 1) e most
+    let most : 2 ^ length rs ≤ length (versions_of_memtable c.args.self.now) + 1 = omega (arith, few_runs rs doubled, length-sorted (joined rs)) in
+    subst (λ (n : ℕ). 2 ^ n ≤ length (versions_of_memtable c.args.self.now) + 1) e most

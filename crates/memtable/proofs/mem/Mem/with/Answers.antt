@@ -8,7 +8,7 @@ use Rattle.std.proofs.lemmas.Result.{IfOk-weaker}
 use Rattle.ts_key.specs.declared.version.Version.{Version}
 use Rattle.sorted_run.specs.Sorts.{sorted}
 use Rattle.sorted_run.proofs.Sorting.{sorted_again}
-use Rattle.memtable.specs.Memtables.{AreDoubled, Memtable, MergesLeast, IsAbsorbed, IsMemtable, joined, versions_of}
+use Rattle.memtable.specs.Memtables.{AreDoubled, Memtable, MergesLeast, IsAbsorbed, IsMemtable, joined, versions_of_memtable}
 use Rattle.memtable.specs.declared.limits.TheConstants.{BYTES_LIMIT}
 use Rattle.memtable.proofs.Sums.{empty_is, absorbs, absorbs_all, absorbs_bytes, new_runs}
 use Rattle.memtable.proofs.mem.Mem.with.Goals as goal
@@ -18,8 +18,8 @@ returns-then-is_empty-clause-versions c =
     let vs = c.args.versions.now in
     let mem = c.args.self.now in
     let none : vs ≡ [] = empty_is vs (sym c.is_empty.ensures ∙ c.if-is_empty.true) in
-    let same : sorted (vs ++ versions_of mem) ≡ versions_of mem = ap (λ (l : List Version). sorted (l ++ versions_of mem)) none ∙ sorted_again (joined mem.runs) in
-    IfOk-weaker c.copy.result (λ (m : Memtable). m ≡ mem) (λ (m : Memtable). versions_of m ≡ sorted (vs ++ versions_of mem)) (λ m e. ap versions_of e ∙ sym same) c.copy.ensures
+    let same : sorted (vs ++ versions_of_memtable mem) ≡ versions_of_memtable mem = ap (λ (l : List Version). sorted (l ++ versions_of_memtable mem)) none ∙ sorted_again (joined mem.runs) in
+    IfOk-weaker c.copy.result (λ (m : Memtable). m ≡ mem) (λ (m : Memtable). versions_of_memtable m ≡ sorted (vs ++ versions_of_memtable mem)) (λ m e. ap versions_of_memtable e ∙ sym same) c.copy.ensures
 
 pub invariant_of-result : goal.invariant_of-result
 invariant_of-result c =

@@ -1,7 +1,7 @@
 use Rattle.std.proofs.Common.{◌≡◌, length, take, drop, ◌++◌, ◌+◌, ap, ◌∙◌, arith}
 use Rattle.std.proofs.lemmas.List.{length-map, take_at}
 use Rattle.merge_cursor.specs.Sides.{side, sides, passed, all}
-use Rattle.merge_cursor.specs.Shows.{place_on, place_first, place_stays, ends_passed, passed_within}
+use Rattle.merge_cursor.specs.Shows.{place_on, place_first, place_stays_at_end, ends_passed, passed_within}
 use Rattle.merge_cursor.proofs.merge.MergeCursor.next.Goals as goal
 
 pub returns-then-self-clause-place : goal.returns-then-self-clause-place
@@ -26,5 +26,5 @@ returns-else-self-len-clause-place g c =
     let items = g.C.Placed.items in
     let place = g.C.Placed.place in
     let cs = c.args.self.now.children.items in
-    place_stays c.args.self.now.before (length (all (sides items place cs))) (passed (sides items place cs)) c.if-self.false
+    place_stays_at_end c.args.self.now.before (length (all (sides items place cs))) (passed (sides items place cs)) c.if-self.false
     (ends_passed (sides items place cs) c.args.self.now.lowest c.args.self.now.merge (let e = length-map cs (side items place) in let v = c.args.self.now.children.ok.0 in omega arith))

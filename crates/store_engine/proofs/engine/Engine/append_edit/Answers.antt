@@ -13,13 +13,14 @@ returns-in-Ok g c =
       disk = refl;
       wal = refl;
       next = refl;
+      older = refl;
       rests = λ h. e.appended (rests_show g.D.File.DiskFile c.args.self.now.manifest h);
       fold = e.fold;
       moments = e.moments;
       unchanged = tt;
       cause = record { later = e.cause.later; failed = tt; kept = e.cause.kept };
       same = e.same;
-      running = record { together = together_edited g.D.File.DiskFile c.args.self.now.manifest c.append.new.self c.args.self.now.wal c.args.self.now.next c.args.edit.now c.requires.running.together c.requires.accepted c.requires.logs.0 c.requires.logs.1 c.requires.next e.fold e.still_ready; runs = c.requires.running.runs };
+      running = record { together = together_edited g.D.File.DiskFile c.args.self.now.manifest c.append.new.self c.args.self.now.wal c.args.self.now.next c.args.edit.now c.requires.running.together c.requires.accepted c.requires.logs c.requires.next e.fold e.still_ready; runs = c.requires.running.runs };
       failed = c.requires.running.runs;
       fault = tt;
     }
@@ -31,6 +32,7 @@ returns-in-Err g c =
       disk = refl;
       wal = refl;
       next = refl;
+      older = refl;
       rests = λ h. tt;
       fold = tt;
       moments = e.moments;

@@ -4,7 +4,7 @@ use Rattle.udt_disk.proofs.TouchLemmas.{touches_one}
 use Rattle.manifest.specs.Manifest.{manifest_file}
 use Rattle.wal.specs.Wals.{wal_file}
 use Rattle.engine_laws.specs.Joints.{IsNowLast}
-use Rattle.store_engine.proofs.Closed.{both_back, closed_leaves}
+use Rattle.store_engine.proofs.Closed.{both_back, closed_leaves, closed_reaches, closed_whole}
 use Rattle.store_engine.proofs.engine.Engine.close.Goals as goal
 
 pub returns-clause-reads : goal.returns-clause-reads
@@ -36,3 +36,23 @@ returns-clause-leaves g c now m course h =
       file = λ x image left. (g.met.D.File.DiskFile g.world.𝓛 g.world.𝓜 g.world.𝓡 ((λ s x. x), (λ x. x), (λ x. x), λ x. x)).only_now x image left;
     } in
     closed_leaves d f last c.args.self c.retire-2.new.self now m course h (returns-clause-reads g c h.engine_of.one)
+
+pub returns-clause-reached : goal.returns-clause-reached
+returns-clause-reached g c s waiting of =
+    let d = g.D.Disk in
+    let f = g.D.File.DiskFile in
+    let last : IsNowLast d f = record {
+      disk = λ x n image left. (g.met.D.Disk g.world.𝓛 g.world.𝓜 g.world.𝓡 ((λ s x. x), (λ x. x), (λ x. x), λ x. x)).only_now x n image left;
+      file = λ x image left. (g.met.D.File.DiskFile g.world.𝓛 g.world.𝓜 g.world.𝓡 ((λ s x. x), (λ x. x), (λ x. x), λ x. x)).only_now x image left;
+    } in
+    closed_reaches d f last c.args.self c.retire-2.new.self s waiting of (returns-clause-reads g c of.one)
+
+pub returns-clause-whole : goal.returns-clause-whole
+returns-clause-whole g c now m course h none =
+    let d = g.D.Disk in
+    let f = g.D.File.DiskFile in
+    let last : IsNowLast d f = record {
+      disk = λ x n image left. (g.met.D.Disk g.world.𝓛 g.world.𝓜 g.world.𝓡 ((λ s x. x), (λ x. x), (λ x. x), λ x. x)).only_now x n image left;
+      file = λ x image left. (g.met.D.File.DiskFile g.world.𝓛 g.world.𝓜 g.world.𝓡 ((λ s x. x), (λ x. x), (λ x. x), λ x. x)).only_now x image left;
+    } in
+    closed_whole d f last c.args.self c.retire-2.new.self now m course h none (returns-clause-reads g c h.engine_of.one)

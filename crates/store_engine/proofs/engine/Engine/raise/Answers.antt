@@ -4,15 +4,18 @@ use Rattle.std.proofs.lemmas.Bool.{false≢true}
 use Rattle.std.specs.Arc.{arc_value}
 use Rattle.ts_key.specs.declared.numbers.Seq.{Seq}
 use Rattle.udt_model.specs.Acts.Act.{raise}
+use Rattle.wal.specs.Wals.{wal_pending}
 use Rattle.manifest_edit.specs.declared.edit.Edit.{Edit}
 use Rattle.manifest_fold.specs.declared.fold.Folded.{Folded}
-use Rattle.manifest_fold.specs.Folds.{IsAccepted, fold_with}
+use Rattle.manifest_fold.specs.Folds.{IsAccepted, fold_with, is_live}
 use Rattle.manifest.specs.Manifest.{IsEditReserved, manifest_folded}
 use Rattle.engine_laws.specs.Installs.{raise_edit}
 use Rattle.engine_laws.specs.Joints.{IsNowLast}
+use Rattle.store_engine.specs.Admission.{as_refusal}
 use Rattle.recovery.specs.Versions.{FitsFold}
-use Rattle.store_engine.proofs.Answering.{as_before, disk_cause, disk_disk, disk_tells, memory_fault, none_cause, none_disk, none_tells, raise_fails, raise_refused, raised_told, rest_ran, same_folder}
+use Rattle.store_engine.proofs.Answering.{as_before, disk_cause, disk_disk, disk_tells, memory_fault, none_cause, none_disk, none_tells, one_stays, raise_fails, raise_refused, raised_told, rest_ran, same_folder}
 use Rattle.store_engine.proofs.Current.{family_there, fold_there, raise_accepted, raised_fits, state_is}
+use Rattle.store_engine.proofs.JobNumbers.{jobs_kept, jobs_stay, raised_live}
 use Rattle.store_engine.proofs.Raised.{reserved_held}
 use Rattle.store_engine.proofs.Raising.{edited_folder, first_cause, first_folder, first_ran, kept_before, kept_faults, kept_folder, second_cause, second_current, second_now, second_ran}
 use Rattle.store_engine.proofs.engine.Engine.raise.Goals as goal
@@ -81,7 +84,10 @@ returns-in-Err-clause-called g c =
     let e = c.in-Err.ensures in
     record {
       same = same_folder d f last self;
+      one = λ one. one;
       next = refl;
+      older = refl;
+      jobs = λ n job. job;
       untouched = λ not. refl;
       running = λ not. c.requires.running;
       failed = c.requires.running.runs ∙ sym (memory_fault fault e.memory);
@@ -160,7 +166,10 @@ returns-in-Err-reserve_edit-clause-called g c =
     let e = c.in-Err-reserve_edit.ensures in
     record {
       same = kept_folder d f last self mid edit (Err fault) e;
+      one = one_stays d f self mid (kept_folder d f last self mid edit (Err fault) e);
       next = e.next;
+      older = e.older;
+      jobs = jobs_kept f self mid e.next e.fold;
       untouched = λ not. reserved_held d f last self mid edit (Err fault) e;
       running = λ not. e.running;
       failed = e.running.runs ∙ sym (none_disk fault e.fault);
@@ -247,7 +256,10 @@ returns-in-Err-sync_log-clause-called g c =
     let e = c.in-Err-sync_log.ensures in
     record {
       same = first_folder d f last self mid edit (Ok tt) kept two (Err fault) e;
+      one = one_stays d f self two (first_folder d f last self mid edit (Ok tt) kept two (Err fault) e);
       next = e.next ∙ kept.next;
+      older = e.older ∙ kept.older;
+      jobs = jobs_kept f self two (e.next ∙ kept.next) (ap manifest_folded e.manifest ∙ kept.fold);
       untouched = λ not. absurd (false≢true (sym not ∙ disk_disk fault e.fault));
       running = λ not. absurd (false≢true (sym not ∙ disk_disk fault e.fault));
       failed = e.failed;
@@ -366,7 +378,10 @@ returns-in-Err-append_edit-clause-called g c =
     let e = c.in-Err-append_edit.ensures in
     record {
       same = edited_folder d f last self mid edit (Ok tt) kept two new (Err fault) synced e;
+      one = one_stays d f self new (edited_folder d f last self mid edit (Ok tt) kept two new (Err fault) synced e);
       next = e.next ∙ synced.next ∙ kept.next;
+      older = e.older ∙ synced.older ∙ kept.older;
+      jobs = jobs_kept f self new (e.next ∙ synced.next ∙ kept.next) (e.unchanged ∙ ap manifest_folded synced.manifest ∙ kept.fold);
       untouched = λ not. absurd (false≢true (sym not ∙ disk_disk fault e.fault));
       running = λ not. absurd (false≢true (sym not ∙ disk_disk fault e.fault));
       failed = e.failed;
@@ -514,7 +529,12 @@ returns-in-Ok-append_edit-clause-called g c =
     let next = arc_value c.in-Ok.next in
     record {
       same = edited_folder d f last self mid edit (Ok tt) kept two new (Ok tt) synced e;
+      one = one_stays d f self new (edited_folder d f last self mid edit (Ok tt) kept two new (Ok tt) synced e);
       next = e.next ∙ synced.next ∙ kept.next;
+      older = e.older ∙ synced.older ∙ kept.older;
+      jobs = jobs_stay f self new (e.next ∙ synced.next ∙ kept.next) (λ n.
+          ap (λ (z : Folded). is_live z.families n) (e.fold ∙ ap (λ (z : Folded). fold_with z edit) (ap manifest_folded synced.manifest ∙ kept.fold) ∙ ap (fold_with fold) is)
+          ∙ raised_live fold now.last self.next family fam floor (fold_there fold now fits family floor state here).1 n);
       untouched = tt;
       running = λ not. e.running;
       failed = e.failed;
@@ -621,4 +641,98 @@ append_edit-requires-clause-logs g c =
     let two = c.sync_log.new.self in
     let kept = c.in-Ok-reserve_edit.ensures in
     let synced = c.in-Ok-sync_log.ensures in
-    λ κs outlived. (ap (λ (x : Edit). x.add_logs) is, ap (λ (x : Edit). x.drop_logs) is)
+    λ κs outlived. ap (λ (x : Edit). x.add_logs) is
+
+pub returns-in-Err-reserve_edit-clause-answers : goal.returns-in-Err-reserve_edit-clause-answers
+returns-in-Err-reserve_edit-clause-answers g c =
+    let d = g.D.Disk in
+    let f = g.D.File.DiskFile in
+    let last : IsNowLast d f = record {
+      disk = λ x n image left. (g.met.D.Disk g.world.𝓛 g.world.𝓜 g.world.𝓡 ((λ s x. x), (λ x. x), (λ x. x), λ x. x)).only_now x n image left;
+      file = λ x image left. (g.met.D.File.DiskFile g.world.𝓛 g.world.𝓜 g.world.𝓡 ((λ s x. x), (λ x. x), (λ x. x), λ x. x)).only_now x image left;
+    } in
+    let self = c.args.self.now in
+    let now = c.args.now.now in
+    let family = c.args.family in
+    let floor = c.args.floor in
+    let mid = c.reserve_edit.new.self in
+    let edit = c.raise_edit-edit.result in
+    let fault = c.in-Err-reserve_edit.fault in
+    let e = c.in-Err-reserve_edit.ensures in
+    ap as_refusal e.fault ∙ c.in-Ok.ensures.answers
+
+pub returns-in-Err-sync_log-clause-answers : goal.returns-in-Err-sync_log-clause-answers
+returns-in-Err-sync_log-clause-answers g c =
+    let d = g.D.Disk in
+    let f = g.D.File.DiskFile in
+    let last : IsNowLast d f = record {
+      disk = λ x n image left. (g.met.D.Disk g.world.𝓛 g.world.𝓜 g.world.𝓡 ((λ s x. x), (λ x. x), (λ x. x), λ x. x)).only_now x n image left;
+      file = λ x image left. (g.met.D.File.DiskFile g.world.𝓛 g.world.𝓜 g.world.𝓡 ((λ s x. x), (λ x. x), (λ x. x), λ x. x)).only_now x image left;
+    } in
+    let self = c.args.self.now in
+    let now = c.args.now.now in
+    let family = c.args.family in
+    let floor = c.args.floor in
+    let mid = c.reserve_edit.new.self in
+    let two = c.sync_log.new.self in
+    let edit = c.raise_edit-edit.result in
+    let kept = c.in-Ok-reserve_edit.ensures in
+    let fault = c.in-Err-sync_log.fault in
+    let e = c.in-Err-sync_log.ensures in
+    ap as_refusal e.fault ∙ c.in-Ok.ensures.answers
+
+pub returns-in-Err-append_edit-clause-answers : goal.returns-in-Err-append_edit-clause-answers
+returns-in-Err-append_edit-clause-answers g c =
+    let d = g.D.Disk in
+    let f = g.D.File.DiskFile in
+    let last : IsNowLast d f = record {
+      disk = λ x n image left. (g.met.D.Disk g.world.𝓛 g.world.𝓜 g.world.𝓡 ((λ s x. x), (λ x. x), (λ x. x), λ x. x)).only_now x n image left;
+      file = λ x image left. (g.met.D.File.DiskFile g.world.𝓛 g.world.𝓜 g.world.𝓡 ((λ s x. x), (λ x. x), (λ x. x), λ x. x)).only_now x image left;
+    } in
+    let self = c.args.self.now in
+    let now = c.args.now.now in
+    let family = c.args.family in
+    let floor = c.args.floor in
+    let state = c.in-Some.state.now in
+    let here : slice_get now.families family.0 ≡ Some state = sym c.in-Some.ensures in
+    let fold = manifest_folded self.manifest in
+    let fits = c.requires.current.fits in
+    let fam = family_there fold now fits family floor state here in
+    let edit = c.raise_edit-edit.result in
+    let is : edit ≡ raise_edit now.last self.next family fam floor = c.raise_edit-edit.ensures ∙ ap (λ (q : Seq). (let e : Edit = record { add_logs = []; drop_logs = []; next_file = self.next; last = now.last; family = Some (record { family = family; floor = floor; through = q; add = []; remove = [] }) } in e)) (state_is fold now fits family floor state here).through in
+    let mid = c.reserve_edit.new.self in
+    let two = c.sync_log.new.self in
+    let kept = c.in-Ok-reserve_edit.ensures in
+    let synced = c.in-Ok-sync_log.ensures in
+    let new = c.append_edit.new.self in
+    let fault = c.in-Err-append_edit.fault in
+    let e = c.in-Err-append_edit.ensures in
+    ap as_refusal e.fault ∙ c.in-Ok.ensures.answers
+
+pub returns-in-Ok-append_edit-clause-synced : goal.returns-in-Ok-append_edit-clause-synced
+returns-in-Ok-append_edit-clause-synced g c =
+    let d = g.D.Disk in
+    let f = g.D.File.DiskFile in
+    let last : IsNowLast d f = record {
+      disk = λ x n image left. (g.met.D.Disk g.world.𝓛 g.world.𝓜 g.world.𝓡 ((λ s x. x), (λ x. x), (λ x. x), λ x. x)).only_now x n image left;
+      file = λ x image left. (g.met.D.File.DiskFile g.world.𝓛 g.world.𝓜 g.world.𝓡 ((λ s x. x), (λ x. x), (λ x. x), λ x. x)).only_now x image left;
+    } in
+    let self = c.args.self.now in
+    let now = c.args.now.now in
+    let family = c.args.family in
+    let floor = c.args.floor in
+    let state = c.in-Some.state.now in
+    let here : slice_get now.families family.0 ≡ Some state = sym c.in-Some.ensures in
+    let fold = manifest_folded self.manifest in
+    let fits = c.requires.current.fits in
+    let fam = family_there fold now fits family floor state here in
+    let edit = c.raise_edit-edit.result in
+    let is : edit ≡ raise_edit now.last self.next family fam floor = c.raise_edit-edit.ensures ∙ ap (λ (q : Seq). (let e : Edit = record { add_logs = []; drop_logs = []; next_file = self.next; last = now.last; family = Some (record { family = family; floor = floor; through = q; add = []; remove = [] }) } in e)) (state_is fold now fits family floor state here).through in
+    let mid = c.reserve_edit.new.self in
+    let two = c.sync_log.new.self in
+    let kept = c.in-Ok-reserve_edit.ensures in
+    let synced = c.in-Ok-sync_log.ensures in
+    let new = c.append_edit.new.self in
+    let e = c.in-Ok-append_edit.ensures in
+    let next = arc_value c.in-Ok.next in
+    ap (λ w. wal_pending w) e.wal ∙ synced.pending

@@ -15,7 +15,7 @@ returns-clause-holds g c now m course number h =
       file = λ x image left. (g.met.D.File.DiskFile g.world.𝓛 g.world.𝓜 g.world.𝓡 ((λ s x. x), (λ x. x), (λ x. x), λ x. x)).only_now x image left;
     } in
     let self = c.args.self.now in
-    synced_now d f last self c.sync_log.new.self c.sync_log.result c.sync_log.ensures m course h.says h.waiting h.holds h.engine_of c.requires.together number now (sync_told m h.runs) h.shows h.used h.runs h.unfailed
+    synced_now d f last self c.sync_log.new.self c.sync_log.result c.sync_log.ensures m course h.says h.waiting h.holds h.engine_of c.requires.together number now (sync_told m h.runs) h.shows h.used h.covers h.runs h.unfailed
 
 pub returns-clause-moments : goal.returns-clause-moments
 returns-clause-moments g c now m course h =

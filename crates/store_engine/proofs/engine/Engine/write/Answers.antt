@@ -1,12 +1,15 @@
-use Rattle.std.proofs.Common.{◌+◌, Ok, Err, length, refl, sym, ◌∙◌}
+use Rattle.std.proofs.Common.{◌+◌, Ok, Err, length, refl, sym, ap, ◌∙◌}
 use Rattle.std.proofs.lemmas.Bool.{false≢true}
 use Rattle.std.specs.Arc.{arc_value}
 use Rattle.wal.specs.declared.numbered.Numbered.{Numbered}
 use Rattle.udt_model.specs.Acts.Act.{write}
+use Rattle.manifest.specs.Manifest.{manifest_folded}
 use Rattle.engine_laws.specs.Joints.{IsNowLast}
-use Rattle.store_engine.proofs.Answering.{as_before, disk_cause, disk_disk, disk_tells, memory_fault, none_cause, none_disk, none_tells, rest_ran, same_folder, write_fails, write_refused, written_told}
+use Rattle.store_engine.specs.Admission.{as_refusal}
+use Rattle.store_engine.proofs.Answering.{as_before, disk_cause, disk_disk, disk_tells, memory_fault, none_cause, none_disk, none_tells, one_stays, rest_ran, same_folder, write_fails, write_refused, written_told}
+use Rattle.store_engine.proofs.JobNumbers.{jobs_kept}
 use Rattle.store_engine.proofs.Written.{added_faults, added_folder, appended_held, unadded}
-use Rattle.store_engine.proofs.Writing.{end_cause, end_current, end_failed, end_fault, end_folder, end_manifest, end_next, end_now, end_ran, end_running, end_synced, end_waits}
+use Rattle.store_engine.proofs.Writing.{end_bytes, end_cause, end_current, end_failed, end_fault, end_folder, end_manifest, end_next, end_older, end_now, end_ran, end_running, end_synced, end_waits}
 use Rattle.store_engine.proofs.engine.Engine.write.Goals as goal
 
 pub returns-in-Err-clause-tells : goal.returns-in-Err-clause-tells
@@ -73,7 +76,10 @@ returns-in-Err-clause-called g c =
     let e = c.in-Err.ensures in
     record {
       same = same_folder d f last self;
+      one = λ one. one;
       next = refl;
+      older = refl;
+      jobs = λ n job. job;
       untouched = λ not. refl;
       running = λ not. c.requires.running;
       failed = c.requires.running.runs ∙ sym (memory_fault fault e.memory);
@@ -152,7 +158,10 @@ returns-in-Err-add_batch-clause-called g c =
     let b : Numbered = record { first = record { 0 = now.last.0 + 1 }; batch = ops } in
     record {
       same = added_folder d f last self mid b (Err fault) e;
+      one = one_stays d f self mid (added_folder d f last self mid b (Err fault) e);
       next = e.next;
+      older = e.older;
+      jobs = jobs_kept f self mid e.next (ap manifest_folded e.manifest);
       untouched = λ not. appended_held d f last self mid b (Err fault) e;
       running = λ not. e.running;
       failed = e.running.runs ∙ sym (none_disk fault e.fault);
@@ -235,7 +244,10 @@ returns-in-Err-sync_due-clause-called g c =
     let e = c.in-Err-sync_due.ensures in
     record {
       same = end_folder d f last self mid new now ops sync added c.requires.running.together (Err fault) e.due e.waits;
+      one = one_stays d f self new (end_folder d f last self mid new now ops sync added c.requires.running.together (Err fault) e.due e.waits);
       next = end_next d f last self mid new now ops sync added c.requires.running.together (Err fault) e.due e.waits;
+      older = end_older d f last self mid new now ops sync added c.requires.running.together (Err fault) e.due e.waits;
+      jobs = jobs_kept f self new (end_next d f last self mid new now ops sync added c.requires.running.together (Err fault) e.due e.waits) (ap manifest_folded (end_manifest d f last self mid new now ops sync added c.requires.running.together (Err fault) e.due e.waits));
       untouched = λ not. absurd (false≢true (sym not ∙ disk_disk fault (end_fault d f last self mid new now ops sync added c.requires.running.together (Err fault) e.due e.waits)));
       running = λ not. absurd (false≢true (sym not ∙ disk_disk fault (end_fault d f last self mid new now ops sync added c.requires.running.together (Err fault) e.due e.waits)));
       failed = end_failed d f last self mid new now ops sync added c.requires.running.together (Err fault) e.due e.waits;
@@ -318,44 +330,6 @@ returns-in-Ok-sync_due-clause-current g c =
     let next = arc_value c.in-Ok.next in
     end_current d f last self mid new now ops sync added c.requires.running.together (Ok tt) e.due e.waits next c.in-Ok.ensures.shown c.in-Ok.ensures.room c.requires.current
 
-pub returns-in-Ok-sync_due-clause-waits : goal.returns-in-Ok-sync_due-clause-waits
-returns-in-Ok-sync_due-clause-waits g c not low =
-    let d = g.D.Disk in
-    let f = g.D.File.DiskFile in
-    let last : IsNowLast d f = record {
-      disk = λ x n image left. (g.met.D.Disk g.world.𝓛 g.world.𝓜 g.world.𝓡 ((λ s x. x), (λ x. x), (λ x. x), λ x. x)).only_now x n image left;
-      file = λ x image left. (g.met.D.File.DiskFile g.world.𝓛 g.world.𝓜 g.world.𝓡 ((λ s x. x), (λ x. x), (λ x. x), λ x. x)).only_now x image left;
-    } in
-    let self = c.args.self.now in
-    let now = c.args.now.now in
-    let ops = c.args.batch.now in
-    let sync = c.args.sync in
-    let mid = c.add_batch.new.self in
-    let new = c.sync_due.new.self in
-    let added = c.in-Ok-add_batch.ensures in
-    let e = c.in-Ok-sync_due.ensures in
-    let next = arc_value c.in-Ok.next in
-    end_waits d f last self mid new now ops sync added c.requires.running.together (Ok tt) e.due e.waits not low
-
-pub returns-in-Ok-sync_due-clause-synced : goal.returns-in-Ok-sync_due-clause-synced
-returns-in-Ok-sync_due-clause-synced g c is =
-    let d = g.D.Disk in
-    let f = g.D.File.DiskFile in
-    let last : IsNowLast d f = record {
-      disk = λ x n image left. (g.met.D.Disk g.world.𝓛 g.world.𝓜 g.world.𝓡 ((λ s x. x), (λ x. x), (λ x. x), λ x. x)).only_now x n image left;
-      file = λ x image left. (g.met.D.File.DiskFile g.world.𝓛 g.world.𝓜 g.world.𝓡 ((λ s x. x), (λ x. x), (λ x. x), λ x. x)).only_now x image left;
-    } in
-    let self = c.args.self.now in
-    let now = c.args.now.now in
-    let ops = c.args.batch.now in
-    let sync = c.args.sync in
-    let mid = c.add_batch.new.self in
-    let new = c.sync_due.new.self in
-    let added = c.in-Ok-add_batch.ensures in
-    let e = c.in-Ok-sync_due.ensures in
-    let next = arc_value c.in-Ok.next in
-    end_synced d f last self mid new now ops sync added c.requires.running.together (Ok tt) e.due e.waits is
-
 pub returns-in-Ok-sync_due-clause-called : goal.returns-in-Ok-sync_due-clause-called
 returns-in-Ok-sync_due-clause-called g c =
     let d = g.D.Disk in
@@ -375,7 +349,10 @@ returns-in-Ok-sync_due-clause-called g c =
     let next = arc_value c.in-Ok.next in
     record {
       same = end_folder d f last self mid new now ops sync added c.requires.running.together (Ok tt) e.due e.waits;
+      one = one_stays d f self new (end_folder d f last self mid new now ops sync added c.requires.running.together (Ok tt) e.due e.waits);
       next = end_next d f last self mid new now ops sync added c.requires.running.together (Ok tt) e.due e.waits;
+      older = end_older d f last self mid new now ops sync added c.requires.running.together (Ok tt) e.due e.waits;
+      jobs = jobs_kept f self new (end_next d f last self mid new now ops sync added c.requires.running.together (Ok tt) e.due e.waits) (ap manifest_folded (end_manifest d f last self mid new now ops sync added c.requires.running.together (Ok tt) e.due e.waits));
       untouched = tt;
       running = λ not. end_running d f last self mid new now ops sync added c.requires.running.together (Ok tt) e.due e.waits;
       failed = end_failed d f last self mid new now ops sync added c.requires.running.together (Ok tt) e.due e.waits;
@@ -419,3 +396,64 @@ returns-in-Ok-sync_due-clause-manifest g c =
     let e = c.in-Ok-sync_due.ensures in
     let next = arc_value c.in-Ok.next in
     end_manifest d f last self mid new now ops sync added c.requires.running.together (Ok tt) e.due e.waits
+
+pub returns-in-Err-add_batch-clause-answers : goal.returns-in-Err-add_batch-clause-answers
+returns-in-Err-add_batch-clause-answers g c =
+    let d = g.D.Disk in
+    let f = g.D.File.DiskFile in
+    let last : IsNowLast d f = record {
+      disk = λ x n image left. (g.met.D.Disk g.world.𝓛 g.world.𝓜 g.world.𝓡 ((λ s x. x), (λ x. x), (λ x. x), λ x. x)).only_now x n image left;
+      file = λ x image left. (g.met.D.File.DiskFile g.world.𝓛 g.world.𝓜 g.world.𝓡 ((λ s x. x), (λ x. x), (λ x. x), λ x. x)).only_now x image left;
+    } in
+    let self = c.args.self.now in
+    let now = c.args.now.now in
+    let ops = c.args.batch.now in
+    let sync = c.args.sync in
+    let mid = c.add_batch.new.self in
+    let fault = c.in-Err-add_batch.fault in
+    let e = c.in-Err-add_batch.ensures in
+    let b : Numbered = record { first = record { 0 = now.last.0 + 1 }; batch = ops } in
+    ap as_refusal e.fault ∙ c.in-Ok.ensures.answers
+
+pub returns-in-Err-sync_due-clause-answers : goal.returns-in-Err-sync_due-clause-answers
+returns-in-Err-sync_due-clause-answers g c =
+    let d = g.D.Disk in
+    let f = g.D.File.DiskFile in
+    let last : IsNowLast d f = record {
+      disk = λ x n image left. (g.met.D.Disk g.world.𝓛 g.world.𝓜 g.world.𝓡 ((λ s x. x), (λ x. x), (λ x. x), λ x. x)).only_now x n image left;
+      file = λ x image left. (g.met.D.File.DiskFile g.world.𝓛 g.world.𝓜 g.world.𝓡 ((λ s x. x), (λ x. x), (λ x. x), λ x. x)).only_now x image left;
+    } in
+    let self = c.args.self.now in
+    let now = c.args.now.now in
+    let ops = c.args.batch.now in
+    let sync = c.args.sync in
+    let mid = c.add_batch.new.self in
+    let new = c.sync_due.new.self in
+    let added = c.in-Ok-add_batch.ensures in
+    let fault = c.in-Err-sync_due.fault in
+    let e = c.in-Err-sync_due.ensures in
+    ap as_refusal (end_fault d f last self mid new now ops sync added c.requires.running.together (Err fault) e.due e.waits) ∙ c.in-Ok.ensures.answers
+
+pub returns-in-Ok-sync_due-clause-written : goal.returns-in-Ok-sync_due-clause-written
+returns-in-Ok-sync_due-clause-written g c =
+    let d = g.D.Disk in
+    let f = g.D.File.DiskFile in
+    let last : IsNowLast d f = record {
+      disk = λ x n image left. (g.met.D.Disk g.world.𝓛 g.world.𝓜 g.world.𝓡 ((λ s x. x), (λ x. x), (λ x. x), λ x. x)).only_now x n image left;
+      file = λ x image left. (g.met.D.File.DiskFile g.world.𝓛 g.world.𝓜 g.world.𝓡 ((λ s x. x), (λ x. x), (λ x. x), λ x. x)).only_now x image left;
+    } in
+    let self = c.args.self.now in
+    let now = c.args.now.now in
+    let ops = c.args.batch.now in
+    let sync = c.args.sync in
+    let mid = c.add_batch.new.self in
+    let new = c.sync_due.new.self in
+    let added = c.in-Ok-add_batch.ensures in
+    let e = c.in-Ok-sync_due.ensures in
+    let next = arc_value c.in-Ok.next in
+    record {
+      adds = c.in-Ok.ensures.shown;
+      waits = λ not low. end_bytes d f last self mid new now ops sync added c.requires.running.together (Ok tt) e.due e.waits not low;
+      still = λ not low. end_waits d f last self mid new now ops sync added c.requires.running.together (Ok tt) e.due e.waits not low;
+      synced = λ is. end_synced d f last self mid new now ops sync added c.requires.running.together (Ok tt) e.due e.waits is;
+    }

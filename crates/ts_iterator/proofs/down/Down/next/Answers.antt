@@ -1,71 +1,90 @@
-use Rattle.std.proofs.Common.{◌≡◌, ℕ, List, ◌∷◌, ◌++◌, ◌-◌, Some, None, refl, sym, ap, ◌∙◌}
-use Rattle.ts_key.specs.Items.{Item, shown, shown_by}
+use Rattle.std.proofs.Common.{◌≡◌, List, ◌∷◌, ◌++◌, ◌-◌, Some, None, sym, ap, ◌∙◌}
+use Rattle.ts_key.specs.Order.{SortKey}
+use Rattle.udt_model.specs.Orders.{is_below}
 use Rattle.udt_model.specs.declared.reply.Row.{Row}
+use Rattle.ts_iterator.specs.Helds.{item_held_by, held_item}
 use Rattle.ts_iterator.specs.Rests.{rest_down, rows_given}
-use Rattle.ts_iterator.specs.Rows.{least_of, rows_down}
-use Rattle.ts_iterator.specs.Walks.{behind}
+use Rattle.ts_iterator.specs.Rows.{least_key, rows_down}
+use Rattle.ts_iterator.specs.Walks.{back_from}
 use Rattle.ts_iterator.proofs.Ends.{told_at_end}
-use Rattle.ts_iterator.proofs.StepsDown.{behind_none, ends_at, finds, passes}
+use Rattle.ts_iterator.proofs.StepsDown.{behind_none, ends_at, finds}
 use Rattle.ts_iterator.proofs.down.Down.next.Goals as goal
 
 pub returns-in_default : goal.returns-in_default
 returns-in_default g c =
-    let x = c.loop-key.self in
+    let x = c.loop-held.self in
     let vs = g.C.Placed.items x.cursor in
     let p = g.C.Placed.place x.cursor in
     let none = behind_none vs p c.in_default.ensures in
-    let was : rest_down g.C.Placed.items g.C.Placed.place x ≡ rows_given c.in_ok-row.row = ap (rows_down x.floor (least_of x.low) x.high x.t.0 x.s.0 (shown_by x.best)) none ∙ sym c.in_ok-row.ensures in
-    told_at_end c.in_ok-row.row (rest_down g.C.Placed.items g.C.Placed.place c.args.self.now) (rows_down x.floor (least_of x.low) x.high x.t.0 x.s.0 None (behind p vs)) (sym c.loop-key.invariant ∙ was)
-    (ap (rows_down x.floor (least_of x.low) x.high x.t.0 x.s.0 None) none)
+    let was : rest_down g.C.Placed.items g.C.Placed.place x ≡ rows_given c.in_ok-row.row = ap (rows_down x.floor (least_key x.low) x.high x.t.0 x.s.0 (item_held_by x.best)) none ∙ sym c.in_ok-row.ensures in
+    told_at_end c.in_ok-row.row (rest_down g.C.Placed.items g.C.Placed.place c.args.self.now) (rows_down x.floor (least_key x.low) x.high x.t.0 x.s.0 None (back_from p vs)) (sym c.loop-held.invariant ∙ was)
+    (ap (rows_down x.floor (least_key x.low) x.high x.t.0 x.s.0 None) none)
 
 pub returns-then-is_below : goal.returns-then-is_below
 returns-then-is_below g c =
-    let x = c.loop-key.self in
+    let x = c.loop-held.self in
     let vs = g.C.Placed.items x.cursor in
     let p = g.C.Placed.place x.cursor in
-    let v = shown (record { 0 = c.in-Some.key; 1 = c.in-Some.hit }) in
-    let y = sym c.is_below.ensures ∙ c.if-is_below.true in
-    let was = ends_at x.floor (least_of x.low) x.high x.t.0 x.s.0 (shown_by x.best) vs p v c.in-Some.ensures y in
-    let now = ends_at x.floor (least_of x.low) x.high x.t.0 x.s.0 None vs p v c.in-Some.ensures y in
-    told_at_end c.in_ok-row-2.row (rest_down g.C.Placed.items g.C.Placed.place c.args.self.now) (rows_down x.floor (least_of x.low) x.high x.t.0 x.s.0 None (behind p vs)) (sym c.loop-key.invariant ∙ was ∙ sym c.in_ok-row-2.ensures) now
+    let v = held_item c.in-Some.held in
+    let own = c.key_ref-key.ensures in
+    let y = ap (λ (k : SortKey). is_below k.key (least_key x.low)) (sym own) ∙ sym c.is_below.ensures ∙ c.if-is_below.true in
+    let was = ends_at x.floor (least_key x.low) x.high x.t.0 x.s.0 (item_held_by x.best) vs p v c.in-Some.ensures y in
+    let now = ends_at x.floor (least_key x.low) x.high x.t.0 x.s.0 None vs p v c.in-Some.ensures y in
+    told_at_end c.in_ok-row-2.row (rest_down g.C.Placed.items g.C.Placed.place c.args.self.now) (rows_down x.floor (least_key x.low) x.high x.t.0 x.s.0 None (back_from p vs)) (sym c.loop-held.invariant ∙ was ∙ sym c.in_ok-row-2.ensures) now
 
-pub loop-key-preserved-then-is_passed_over : goal.loop-key-preserved-then-is_passed_over
-loop-key-preserved-then-is_passed_over g c =
-    let x = c.loop-key.self in
-    let vs = g.C.Placed.items x.cursor in
-    let p = g.C.Placed.place x.cursor in
-    let v = shown (record { 0 = c.in-Some.key; 1 = c.in-Some.hit }) in
-    ap (λ (ys : List Item). rows_down x.floor (least_of x.low) x.high x.t.0 x.s.0 (shown_by x.best) (behind (g.C.Placed.place c.prev.new.self) ys)) c.prev.ensures.same
-    ∙ ap (λ (m : ℕ). rows_down x.floor (least_of x.low) x.high x.t.0 x.s.0 (shown_by x.best) (behind m vs)) c.prev.ensures.place
-    ∙ passes x.floor (least_of x.low) x.high x.t.0 x.s.0 (shown_by x.best) vs p v c.in-Some.ensures (sym c.is_below.ensures ∙ c.if-is_below.false) (sym (c.is_passed_over.ensures v refl) ∙ c.if-is_passed_over.true)
-    ∙ c.loop-key.invariant
+pub loop-held-smaller-then-is_passed_over : goal.loop-held-smaller-then-is_passed_over
+loop-held-smaller-then-is_passed_over g c =
+    let x = c.loop-held.self in
+    let v = held_item c.in-Some.held in
+    let own = c.key_ref-key.ensures in
+    let inside = ap (λ (k : SortKey). is_below k.key (least_key x.low)) (sym own) ∙ sym c.is_below.ensures ∙ c.if-is_below.false in
+    c.pass_over.ensures.lower v (sym own) (record { at = c.in-Some.ensures; inside = inside; is = sym (c.is_passed_over.ensures v (sym own)) ∙ c.if-is_passed_over.true })
+
+pub loop-held-preserved-then-is_passed_over : goal.loop-held-preserved-then-is_passed_over
+loop-held-preserved-then-is_passed_over g c =
+    let x = c.loop-held.self in
+    let v = held_item c.in-Some.held in
+    let own = c.key_ref-key.ensures in
+    let inside = ap (λ (k : SortKey). is_below k.key (least_key x.low)) (sym own) ∙ sym c.is_below.ensures ∙ c.if-is_below.false in
+    c.pass_over.ensures.rest v (sym own) (record { at = c.in-Some.ensures; inside = inside; is = sym (c.is_passed_over.ensures v (sym own)) ∙ c.if-is_passed_over.true })
+    ∙ c.loop-held.invariant
+
+pub loop-held-smaller : goal.loop-held-smaller
+loop-held-smaller g c =
+    let x = c.loop-held.self in
+    let v = held_item c.in-Some.held in
+    let own = c.key_ref-key.ensures in
+    let inside = ap (λ (k : SortKey). is_below k.key (least_key x.low)) (sym own) ∙ sym c.is_below.ensures ∙ c.if-is_below.false in
+    c.pass_found.ensures.lower (record { at = c.in-Some.ensures; inside = inside; is = sym (c.is_passed_over.ensures v (sym own)) ∙ c.if-is_passed_over.false })
 
 pub returns-in-Some-row : goal.returns-in-Some-row
 returns-in-Some-row g c =
-    let x = c.loop-key.self in
+    let x = c.loop-held.self in
     let vs = g.C.Placed.items x.cursor in
     let p = g.C.Placed.place x.cursor in
-    let v = shown (record { 0 = c.in-Some.key; 1 = c.in-Some.hit }) in
-    let found = finds x.floor (least_of x.low) x.high x.t.0 x.s.0 (shown_by x.best) vs p v c.in-Some.ensures (sym c.is_below.ensures ∙ c.if-is_below.false) (sym (c.is_passed_over.ensures v refl) ∙ c.if-is_passed_over.false) in
-    let row = c.in_ok-row-3.ensures v refl in
-    let e = c.prev-in-loop-key.ensures in
-    let given = c.in-Some-row.row in
-    let after = λ (r : List Item). rows_down x.floor (least_of x.low) x.high x.t.0 x.s.0 (Some v) r in
-    sym c.loop-key.invariant ∙ found
-    ∙ ap (λ (r : List Row). r ++ after (behind (p - 1) vs)) (sym row ∙ ap rows_given c.in-Some-row.is)
-    ∙ ap (λ (m : ℕ). given ∷ after (behind m vs)) (sym e.place)
-    ∙ ap (λ (ys : List Item). given ∷ after (behind (g.C.Placed.place c.prev-in-loop-key.new.self) ys)) (sym e.same)
+    let v = held_item c.in-Some.held in
+    let own = c.key_ref-key.ensures in
+    let out = sym (c.is_passed_over.ensures v (sym own)) ∙ c.if-is_passed_over.false in
+    let inside = ap (λ (k : SortKey). is_below k.key (least_key x.low)) (sym own) ∙ sym c.is_below.ensures ∙ c.if-is_below.false in
+    let found = finds x.floor (least_key x.low) x.high x.t.0 x.s.0 (item_held_by x.best) vs p v c.in-Some.ensures inside out in
+    let row = c.in_ok-row-3.ensures v (sym own) in
+    let after = rows_down x.floor (least_key x.low) x.high x.t.0 x.s.0 (Some v) (back_from (p - 1) vs) in
+    sym c.loop-held.invariant ∙ found
+    ∙ ap (λ (r : List Row). r ++ after) (sym row ∙ ap rows_given c.in-Some-row.is)
+    ∙ ap (λ (r : List Row). c.in-Some-row.row ∷ r) (sym (c.pass_found.ensures.rest (record { at = c.in-Some.ensures; inside = inside; is = out })))
 
-pub loop-key-preserved : goal.loop-key-preserved
-loop-key-preserved g c =
-    let x = c.loop-key.self in
+pub loop-held-preserved : goal.loop-held-preserved
+loop-held-preserved g c =
+    let x = c.loop-held.self in
     let vs = g.C.Placed.items x.cursor in
     let p = g.C.Placed.place x.cursor in
-    let v = shown (record { 0 = c.in-Some.key; 1 = c.in-Some.hit }) in
-    let e = c.prev-in-loop-key.ensures in
-    let found = finds x.floor (least_of x.low) x.high x.t.0 x.s.0 (shown_by x.best) vs p v c.in-Some.ensures (sym c.is_below.ensures ∙ c.if-is_below.false) (sym (c.is_passed_over.ensures v refl) ∙ c.if-is_passed_over.false) in
-    let row = c.in_ok-row-3.ensures v refl in
-    ap (λ (ys : List Item). rows_down x.floor (least_of x.low) x.high x.t.0 x.s.0 (Some v) (behind (g.C.Placed.place c.prev-in-loop-key.new.self) ys)) e.same
-    ∙ ap (λ (m : ℕ). rows_down x.floor (least_of x.low) x.high x.t.0 x.s.0 (Some v) (behind m vs)) e.place
-    ∙ sym (found ∙ ap (λ (r : List Row). r ++ rows_down x.floor (least_of x.low) x.high x.t.0 x.s.0 (Some v) (behind (p - 1) vs)) (sym row ∙ ap rows_given c.in_default-row.is))
-    ∙ c.loop-key.invariant
+    let v = held_item c.in-Some.held in
+    let own = c.key_ref-key.ensures in
+    let out = sym (c.is_passed_over.ensures v (sym own)) ∙ c.if-is_passed_over.false in
+    let inside = ap (λ (k : SortKey). is_below k.key (least_key x.low)) (sym own) ∙ sym c.is_below.ensures ∙ c.if-is_below.false in
+    let found = finds x.floor (least_key x.low) x.high x.t.0 x.s.0 (item_held_by x.best) vs p v c.in-Some.ensures inside out in
+    let row = c.in_ok-row-3.ensures v (sym own) in
+    let after = rows_down x.floor (least_key x.low) x.high x.t.0 x.s.0 (Some v) (back_from (p - 1) vs) in
+    c.pass_found.ensures.rest (record { at = c.in-Some.ensures; inside = inside; is = out })
+    ∙ sym (found ∙ ap (λ (r : List Row). r ++ after) (sym row ∙ ap rows_given c.in_default-row.is))
+    ∙ c.loop-held.invariant
