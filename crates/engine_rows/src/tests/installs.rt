@@ -206,7 +206,7 @@ fn is_found(version: &SuperVersion, key: u8, t: u64, wanted: Stamp) -> bool {
         return false;
     }
     match get(version, Family(0), &[key], Ts(t), version.last) {
-        Read::Found { value, stamp } => value == b"v" && stamp == wanted,
+        Read::Found { value, stamp } => value == b"v".as_slice() && stamp == wanted,
         _ => false,
     }
 }
