@@ -1,5 +1,5 @@
 -- Bytes spell one thing at most.
-use Rattle.std.proofs.Common.{◌≡◌, ◌==◌, ◌×◌, ℕ, ◌^◌, ◌<◌, ◌≤◌, true, false, List, [], ◌∷◌, ◌++◌, length, length-append, take, drop, get_or, refl, sym, ap, ◌∙◌, arith, append_assoc}
+use Rattle.std.proofs.Common.{◌≡◌, ◌==◌, ℕ, ◌^◌, ◌<◌, ◌≤◌, true, false, List, [], ◌∷◌, ◌++◌, length, length-append, take, drop, get_or, refl, sym, ap, ◌∙◌, arith, append_assoc}
 use Rattle.std.specs.List.{All, flat_map}
 use Rattle.std.proofs.lemmas.List.{take-append-drop, take_at, drop_at}
 use Rattle.std.proofs.lemmas.List.Elements.{All-head, All-tail}
@@ -126,7 +126,7 @@ pub families_of : (body : List ℕ) (families : List FamilyHead) → IsHead body
 unfolding number_bytes
 families_of body families h = ap (drop 6) h.is
 
-spelled_of : (body : List ℕ) (families : List FamilyHead) (count : ℕ) → count ≡ length families → IsHead body families → AreSpelled (drop 6 body) count families
+pub spelled_of : (body : List ℕ) (families : List FamilyHead) (count : ℕ) → count ≡ length families → IsHead body families → AreSpelled (drop 6 body) count families
 spelled_of body families count counted h = record { long = sym counted; new = h.new.each; named = h.named; is = families_of body families h }
 
 -- ---- what no head has
