@@ -1,8 +1,10 @@
 import os
 head=open('/work/h/notes/note-head.md').read()
 parts=[]
-for n in ['review','engine','admit','opening','compact','scan','break','house']:
-    t=open(f'/work/h/notes/{n}.md').read()
+for n in ['house','install','seal','solo','scan','opening','compact','planter','lang','review2','review']:
+    
+    try: t=open(f'/work/h/notes/{n}.md').read()
+    except OSError: continue
     if n=='house':
         i=t.find('| crate | old | new |')
         if i>0: 
