@@ -14,10 +14,6 @@ def body(path,sig,new):
 S=f'{L}/crates/solo_store/src/store.rt'
 body(S,'    pub fn of(','unreachable!()')
 body(S,'    pub fn close(','unreachable!()')
-t=open(S).read()
-if 'ensures pending' not in t:
-    t=t.replace('        ensures counted { IfOk result (λ store. store_faults','        ensures pending { IfOk result (λ store. store_pending store ≡ 0) }\n        ensures counted { IfOk result (λ store. store_faults',1)
-    open(S,'w').write(t)
 F=f'{L}/crates/solo_store/src/flushes.rt'
 t=open(F).read()
 if 'fn table_of' not in t and 'self.table_of' in t:
