@@ -11,7 +11,7 @@ use Rattle.udt_model.specs.State.{State, heads_of}
 use Rattle.udt_model.specs.Histories.{Point, Leads, start}
 use Rattle.client_lang.specs.Print.{IsBuiltLine, print_header, print_lines}
 use Rattle.client_runner.specs.Commands.{IsRunCommand}
-use Rattle.client_runner.specs.Ends.{IsEnd}
+use Rattle.client_runner.specs.Ends.{IsWorkEnd}
 use Rattle.client_runner.specs.Works.{IsInitWork, IsRunLeft, IsRunWork}
 use Rattle.client_runner.specs.Hosts.{IsFileOf, IsFolderOf, StaysElsewhere}
 use Rattle.client_runner.specs.HostRuns.{IsRunFrom, IsStoppedFrom}
@@ -36,11 +36,11 @@ use Rattle.client_runner.proofs.FaultLemmas.{none_told}
 use Rattle.client_runner.proofs.OutputLemmas.{Appends-nil}
 
 -- what ends in one way ends in each that follows from it
-pub end_more : (P Q : Status → List ℕ → Type 0) → ((status : Status) (text : List ℕ) → P status text → Q status text) → (status : Status) (was is : Option (List ℕ)) (failed : Type 0) → IsEnd P status was is failed → IsEnd Q status was is failed
+pub end_more : (P Q : Status → List ℕ → Type 0) → ((status : Status) (text : List ℕ) → P status text → Q status text) → (status : Status) (was is : Option (List ℕ)) (failed : Type 0) → IsWorkEnd P status was is failed → IsWorkEnd Q status was is failed
 end_more P Q more status was is failed e = record { meant = e.meant; text = e.text; work = more e.meant e.text e.work; printed = e.printed }
 
 -- nothing is printed where memory runs out
-pub gave_up : (Work : Status → List ℕ → Type 0) (was : Option (List ℕ)) (failed : Type 0) → Work statuses.NoMemory [] → IsEnd Work statuses.NoMemory was was failed
+pub gave_up : (Work : Status → List ℕ → Type 0) (was : Option (List ℕ)) (failed : Type 0) → Work statuses.NoMemory [] → IsWorkEnd Work statuses.NoMemory was was failed
 gave_up Work was failed w = record { meant = statuses.NoMemory; text = []; work = w; printed = inl (refl, Appends-nil was) }
 
 -- ---- init

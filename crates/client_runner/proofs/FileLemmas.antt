@@ -16,7 +16,7 @@ use Rattle.client_lang.specs.declared.grammar.lines.ReadFault.TheVariants as fau
 use Rattle.client_lang.specs.Faults.{IsReadFault, Refuses}
 use Rattle.client_lang.specs.Grammar.{IsFile}
 use Rattle.client_lang.specs.Print.{IsBuiltLine, IsBuiltReply, print_lines}
-use Rattle.client_runner.specs.Ready.{IsMessage, IsReadAs, IsTranscribed, IsReady, IsReadyStop, IsTried, stop_of_read}
+use Rattle.client_runner.specs.Ready.{IsMessage, IsReadAs, IsTranscribed, IsTextReady, IsReadyStop, IsTried, stop_of_read}
 use Rattle.client_runner.specs.Stops.{IsFileStop, status_of}
 use Rattle.client_runner.specs.declared.output.Ready.{Ready}
 use Rattle.client_runner.specs.declared.status.Status.{Status}
@@ -37,7 +37,7 @@ files_there : (lines : List Line) → All IsBuiltLine lines → All HasFiles lin
 files_there lines built = λ k d within. has_files (slice_index_or lines k d).reply (built k d within).reply
 
 -- commands that are transcribed give the transcript of a file that spells them
-pub transcribed_file : (bytes : List ℕ) (commands : List Command) (r : Ready) → IsFile bytes commands → ((other : List Command) → IsFile bytes other → other ≡ commands) → IsTranscribed commands r → IsReady bytes r
+pub transcribed_file : (bytes : List ℕ) (commands : List Command) (r : Ready) → IsFile bytes commands → ((other : List Command) → IsFile bytes other → other ≡ commands) → IsTranscribed commands r → IsTextReady bytes r
 transcribed_file bytes commands r spelled only p = record {
   transcript = record { commands = commands; lines = r.lines.items; spelled = spelled; only = only; history = p.history; sound = p.sound; files = files_there r.lines.items p.built; printed = ap (λ (t : List ℕ). t ++ print_lines r.lines.items) p.header };
   built = p.built;

@@ -27,7 +27,7 @@ use Rattle.solo_runner.specs.LoggedStores.{store_state, wal_of}
 use Rattle.udt_disk.specs.Moments.{IsClean}
 use Rattle.plain_recovery.specs.Opening.{IsOpened}
 use Rattle.client_runner.specs.Runs.{files_of, state_of_parts}
-use Rattle.solo_runner.specs.Sessions.{KeepsCourse, faults_of}
+use Rattle.solo_runner.specs.Sessions.{KeepsCourse, log_faults}
 use Rattle.solo_runner.specs.Solo.{AreSoundUnless}
 use Rattle.plain_recovery.specs.Stores.{FolderStands, sizes_of}
 use Rattle.plain_recovery.specs.Stores as stores
@@ -51,7 +51,7 @@ module _ {D F : Type 0} (d : disk.Ghosts D F) (f : file.Ghosts F) where
     pub settled : Settles m lines end
     pub first_is : store_state first ≡ m
     pub kept : (fold : Folded) → KeepsCourse f first fold (course_start (store_state first)) → KeepsCourse f now fold (course_behind (start (store_state first)) (course_start (store_state first)) lines)
-    pub sound : AreSoundUnless (faults_of f first) (faults_of f now) lines
+    pub sound : AreSoundUnless (log_faults f first) (log_faults f now) lines
     pub same : IsSameFile f (wal_file (wal_of first)) (wal_file (wal_of now))
 
   -- the parts say what the manifest and the log say

@@ -15,7 +15,7 @@ use Rattle.client_lang.specs.Print.{print_header}
 use Rattle.solo_runner.specs.Expand.{IsRunHistory}
 use Rattle.solo_runner.specs.LoggedStores.{store_state, wal_of}
 use Rattle.client_runner.specs.Runs.{HasRunOver, HasRunParts, Waits, state_of_parts}
-use Rattle.solo_runner.specs.Sessions.{HasSession, faults_of}
+use Rattle.solo_runner.specs.Sessions.{HasSession, log_faults}
 use Rattle.solo_runner.specs.Solo.{AreSoundUnless}
 use Rattle.client_runner.specs.declared.output.Ready.{Ready}
 use Rattle.plain_recovery.specs.declared.opening.Parts.{Parts}
@@ -46,7 +46,7 @@ module _ {D F : Type 0} (d : disk.Ghosts D F) (f : file.Ghosts F) where
     settled = λ done. (works, refl);
     first_is = is;
     kept = λ fold k. k;
-    sound = sound_none (faults_of f first) [] refl;
+    sound = sound_none (log_faults f first) [] refl;
     same = record { name = refl; told = refl; model = refl };
   }
 
@@ -68,7 +68,7 @@ module _ {D F : Type 0} (d : disk.Ghosts D F) (f : file.Ghosts F) where
       → f.faults (wal_file parts.wal) ≡ 0 → HasMade d f first now (state_of_parts parts) lines end → log ≡ wal_file (wal_of now) → manifest ≡ manifest_file parts.manifest → IsClosed d f parts.disk new log manifest
       → (lines ≡ []) ⊎ IsRunHistory (state_of_parts parts) commands lines end → IfOk result (λ r. IsRunHistory (state_of_parts parts) commands lines end × Waits (print_header parts.last.0 parts.heads.items) lines r) → HasRunParts d f parts new commands result
   has_parts parts new first now log manifest commands lines end result wal fresh made log_is manifest_is closed all_or_none ready =
-      let zero : faults_of f first ≡ 0 = ap (λ (w : Wal F f). f.faults (wal_file w)) wal ∙ fresh in
+      let zero : log_faults f first ≡ 0 = ap (λ (w : Wal F f). f.faults (wal_file w)) wal ∙ fresh in
       let back : IsClosed d f parts.disk new (wal_file (wal_of now)) (manifest_file parts.manifest) = subst (IsClosed d f parts.disk new (wal_file (wal_of now))) manifest_is (subst (λ (x : F). IsClosed d f parts.disk new x manifest) log_is closed) in
       record {
         lines = lines;
@@ -76,7 +76,7 @@ module _ {D F : Type 0} (d : disk.Ghosts D F) (f : file.Ghosts F) where
         legal = made.legal;
         all_or_none = all_or_none;
         ready = ready;
-        sound = sound_back (d.faults parts.disk) (faults_of f first) (faults_of f now) (f.faults (manifest_file parts.manifest)) (d.faults new) lines back.faults zero made.sound;
+        sound = sound_back (d.faults parts.disk) (log_faults f first) (log_faults f now) (f.faults (manifest_file parts.manifest)) (d.faults new) lines back.faults zero made.sound;
         later = closed.later;
         kept = λ opened told clean o reads told_disk told_wal told_manifest. record {
           opened = record { fold = o.fold; means = o.means; number = o.number; live = o.live; batches = o.batches; held = o.held; state_is = parts_say d f opened parts o };

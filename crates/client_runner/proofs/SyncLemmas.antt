@@ -10,10 +10,10 @@ use Rattle.udt_model.specs.declared.reply.Reply.TheVariants.{Done, Halted}
 use Rattle.udt_model.specs.declared.line.Line.{Line}
 use Rattle.udt_model.specs.declared.line.Who.TheVariants.{Client}
 use Rattle.udt_model.specs.State.{State}
-use Rattle.solo_runner.specs.Named.{IsReply, after}
+use Rattle.solo_runner.specs.Named.{IsReplyByName, after_by_name}
 use Rattle.udt_model.specs.Histories.{Point, start, IsLegal, behind, Leads, own_lines}
 use Rattle.udt_model.specs.Crashes.{Course, course_start, course_behind}
-use Rattle.solo_runner.specs.Named.{course_after}
+use Rattle.solo_runner.specs.Named.{course_after_event}
 use Rattle.solo_runner.proofs.Naming.{after_agrees, reply_agrees_back}
 use Rattle.client_lang.specs.declared.command.Command.{Command}
 use Rattle.client_lang.specs.Print.{IsBuilt}
@@ -57,7 +57,7 @@ splits p [] line end h = record { mid = p; before = refl; legal = h.0; end_is = 
 splits p (l ∷ lines) line end h = splits_more p l lines line end h.0 (splits (behind p l) lines line end h.1)
 
 -- a sync of a store that works, which tells no fault, is done
-sync_done : (halted : Option ℕ) (m : State) (reply : Reply) → m.halted ≡ halted → IsReply m Sync reply → tells_fault reply ≡ false → (halted ≡ None) × (reply ≡ Done)
+sync_done : (halted : Option ℕ) (m : State) (reply : Reply) → m.halted ≡ halted → IsReplyByName m Sync reply → tells_fault reply ≡ false → (halted ≡ None) × (reply ≡ Done)
 sync_done halted m reply is (inr (inl want)) none = absurd (cc want.1)
 sync_done halted m reply is (inr (inr fault)) none = absurd (cc (ap tells_fault fault.0, none))
 sync_done None m reply is (inl told) none = (refl, rw is at told)
@@ -70,15 +70,15 @@ settled_by m lines line end leads event none =
     let s = splits (start m) lines line end leads in
     let built : IsBuilt line.event = subst IsBuilt (sym event) tt in
     let low : s.mid.height ≡ 0 = height_kept (start m) s.mid lines s.before in
-    let reply : IsReply s.mid.state Sync line.reply =
-    subst (λ (e : Event). IsReply s.mid.state e line.reply) event (reply_agrees_back s.mid.height s.mid.state (s.mid.names line.who) line.event line.reply low built s.legal.reply) in
+    let reply : IsReplyByName s.mid.state Sync line.reply =
+    subst (λ (e : Event). IsReplyByName s.mid.state e line.reply) event (reply_agrees_back s.mid.height s.mid.state (s.mid.names line.who) line.event line.reply low built s.legal.reply) in
     let done = sync_done s.mid.state.halted s.mid.state line.reply refl reply none in
     let state : end.state ≡ s.mid.state =
-    ap (λ (p : Point). p.state) s.end_is ∙ after_agrees s.mid.state (s.mid.names line.who) (s.mid.number + 1) line.event line.reply built ∙ ap (λ (e : Event). after s.mid.state (s.mid.number + 1) e line.reply) event ∙ ap (λ (r : Reply). after s.mid.state (s.mid.number + 1) Sync r) done.1 in
+    ap (λ (p : Point). p.state) s.end_is ∙ after_agrees s.mid.state (s.mid.names line.who) (s.mid.number + 1) line.event line.reply built ∙ ap (λ (e : Event). after_by_name s.mid.state (s.mid.number + 1) e line.reply) event ∙ ap (λ (r : Reply). after_by_name s.mid.state (s.mid.number + 1) Sync r) done.1 in
     let c : Course = course_behind (start m) (course_start m) lines in
     let course : course_behind (start m) (course_start m) (lines ++ line ∷ []) ≡ record c { synced = s.mid.state.last.0 } =
     course_push (start m) s.mid (course_start m) lines line built s.before
-    ∙ ap (λ (e : Event). course_after s.mid.state (s.mid.number + 1) c e line.reply) event ∙ ap (λ (r : Reply). course_after s.mid.state (s.mid.number + 1) c Sync r) done.1 in
+    ∙ ap (λ (e : Event). course_after_event s.mid.state (s.mid.number + 1) c e line.reply) event ∙ ap (λ (r : Reply). course_after_event s.mid.state (s.mid.number + 1) c Sync r) done.1 in
     (ap (λ (x : State). x.halted) state ∙ done.0, ap (λ (x : Course). x.synced) course ∙ ap (λ (x : State). x.last.0) (sym state))
 
 pub session_settles : (m : State) (commands : List Command) (lines : List Line) (end : Point) → IsRunHistory m commands lines end → Settles m lines end

@@ -8,7 +8,7 @@ use Rattle.udt_model.specs.declared.line.FamilyHead.{FamilyHead}
 use Rattle.client_runner.specs.Commands.{IsHelpCommand, IsVersionCommand, IsTryCommand, IsInitCommand, IsInitWord, IsRunCommand, IsNoCommand}
 use Rattle.client_runner.specs.Refusals.{IsAnswered, IsInitRefused, IsOpenRefused, IsRefused, IsStopped}
 use Rattle.client_runner.specs.Completions.{IsComplete, IsDoneOrWant, IsInitComplete, IsRunComplete}
-use Rattle.client_runner.specs.Ends.{IsEnd, IsPrinted}
+use Rattle.client_runner.specs.Ends.{IsWorkEnd, IsPrinted}
 use Rattle.client_runner.specs.Works.{IsFileWork, IsInitWork, IsRunWork, IsWork}
 use Rattle.client_runner.specs.Works.IsWork.{helps, tells_version, refuses, tries, inits, gives_up, runs}
 use Rattle.client_runner.specs.Left.{Crashes}
@@ -105,7 +105,7 @@ module _ (words : List (List ℕ)) (standing : List ℕ → Standing) (old new :
   work_of_version meant text k (gives_up h e f u) = absurd (init_word_no_version words h k)
   work_of_version meant text k (runs folder file h w) = absurd (version_no_run words folder file k h)
 
-  module _ (status : Status) (was is : Option (List ℕ)) (failed : Type 0) (e : IsEnd (IsWork words standing old new crash before now) status was is failed) where
+  module _ (status : Status) (was is : Option (List ℕ)) (failed : Type 0) (e : IsWorkEnd (IsWork words standing old new crash before now) status was is failed) where
     pub is_complete : IsComplete status words standing (Rose before now) failed
     is_complete path bytes commands t s spelled quiet calm =
         done_or status e.meant e.text was is failed e.printed calm (file_done (standing path) before now path e.meant e.text bytes commands s spelled quiet (work_of_try e.meant e.text path t e.work))

@@ -11,7 +11,7 @@ IsPrinted status meant text old new sink_failed =
     ((status ≡ meant) × Appends old new text) ⊎ ((status ≡ statuses.SinkFault) × sink_failed × AppendsFront old new text)
 
 -- what was to be printed is printed, as far as the sink took it
-pub record IsEnd (Work : Status → List ℕ → Type 0) (status : Status) (old new : Option (List ℕ)) (sink_failed : Type 0) : Type 0 where
+pub record IsWorkEnd (Work : Status → List ℕ → Type 0) (status : Status) (old new : Option (List ℕ)) (sink_failed : Type 0) : Type 0 where
   pub meant : Status
   pub text : List ℕ
   pub work : Work meant text

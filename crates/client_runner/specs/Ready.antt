@@ -43,7 +43,7 @@ pub record IsTranscribed (commands : List Command) (r : Ready) : Type 0 where
   pub room : HasRoomForLines r.buffer r.lines.items
 
 -- the text is the transcript of these bytes, and the buffer has the room to write it
-pub record IsReady (bytes : List ℕ) (r : Ready) : Type 0 where
+pub record IsTextReady (bytes : List ℕ) (r : Ready) : Type 0 where
   pub transcript : IsTranscript bytes (text_of r)
   pub built : All IsBuiltLine r.lines.items
   pub room : HasRoomForLines r.buffer r.lines.items
@@ -52,7 +52,7 @@ pub record IsReady (bytes : List ℕ) (r : Ready) : Type 0 where
 pub record IsTried (standing : Standing) (r : Ready) : Type 0 where
   pub bytes : List ℕ
   pub stands : IsStanding standing (Some bytes)
-  pub ready : IsReady bytes r
+  pub ready : IsTextReady bytes r
 
 -- the stop of a fault of reading
 abbrev pub stop_of_read : ReadFault → Stop

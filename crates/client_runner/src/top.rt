@@ -10,7 +10,7 @@ ghost use Rattle.client_lang.specs.Print.{IsBuiltCommand, IsBuiltLine};
 ghost use Rattle.client_lang.specs.Stamps.{IsStampedCommand};
 ghost use Rattle.client_runner.specs.Refusals.{IsAnswered, IsInitRefused, IsOpenRefused, IsRefused, IsStopped};
 ghost use Rattle.client_runner.specs.Completions.{IsComplete, IsInitComplete, IsRunComplete};
-ghost use Rattle.client_runner.specs.Ends.{IsEnd, IsPrinted};
+ghost use Rattle.client_runner.specs.Ends.{IsWorkEnd, IsPrinted};
 ghost use Rattle.client_runner.specs.Works.{IsFileWork, IsInitWork, IsRunWork, IsWork};
 ghost use Rattle.client_runner.specs.Hosts.{UsesFile, UsesFolder, IsFileOf, IsFolderOf, StaysElsewhere, FileStaysOrGoes, StaysOrGoes};
 ghost use Rattle.client_runner.specs.Left.{crashes, crashes_at};
@@ -158,7 +158,7 @@ pub fn refuse_words<K: Sink>(out: &mut K) -> Status
 
 /// Writes the line of a stop. One that isn't fixed takes memory; where there is none, nothing is written.
 fn say_stop<K: Sink>(alloc: Global, out: &mut K, path: &[u8], stop: Stop) -> Status
-    ensures { IsEnd (IsMessage path.now stop) result (K.taken out.old) (K.taken out.new) (Rose (K.faults out.old) (K.faults out.new)) }
+    ensures { IsWorkEnd (IsMessage path.now stop) result (K.taken out.old) (K.taken out.new) (Rose (K.faults out.old) (K.faults out.new)) }
 {
     if let Some(line) = fixed_line(stop) {
         return say(out, line, status_of(stop));
@@ -184,7 +184,7 @@ fn say_ready<K: Sink>(out: &mut K, mut ready: Ready, status: Status) -> Status
 
 /// Prints the transcript of the file under a path, or why there is none.
 fn try_file<H: Host, K: Sink>(alloc: Global, path: &Text, host: &mut H, out: &mut K) -> Status
-    ensures ends { IsEnd (IsFileWork (H.standing host.old path.now) (H.faults host.old) (H.faults host.new) path.now)
+    ensures ends { IsWorkEnd (IsFileWork (H.standing host.old path.now) (H.faults host.old) (H.faults host.new) path.now)
         result (K.taken out.old) (K.taken out.new) (Rose (K.faults out.old) (K.faults out.new)) }
     ensures uses { UsesFile H.Host path.now host.old host.new }
 {
@@ -203,7 +203,7 @@ fn init<H: Host, K: Sink>(
     out: &mut K,
 ) -> Status
     requires { AreNew head.now.families }
-    ensures ends { IsEnd (IsInitWork (H.folder_at host.old path.now) (H.folder_at host.new path.now) (crashes (H.leaves_at host.old path.now) (H.leaves_at host.new path.now)) (H.faults host.old) (H.faults host.new) head.now.families)
+    ensures ends { IsWorkEnd (IsInitWork (H.folder_at host.old path.now) (H.folder_at host.new path.now) (crashes (H.leaves_at host.old path.now) (H.leaves_at host.new path.now)) (H.faults host.old) (H.faults host.new) head.now.families)
         result (K.taken out.old) (K.taken out.new) (Rose (K.faults out.old) (K.faults out.new)) }
     ensures uses { UsesFolder H.Host path.now host.old host.new }
 {
@@ -229,7 +229,7 @@ fn run_file<H: Host, K: Sink>(
     host: &mut H,
     out: &mut K,
 ) -> Status
-    ensures ends { IsEnd (IsRunWork (H.standing host.old file.now) (H.folder_at host.old folder.now) (H.folder_at host.new folder.now) (crashes (H.leaves_at host.old folder.now) (H.leaves_at host.new folder.now)) (H.faults host.old) (H.faults host.new) file.now)
+    ensures ends { IsWorkEnd (IsRunWork (H.standing host.old file.now) (H.folder_at host.old folder.now) (H.folder_at host.new folder.now) (crashes (H.leaves_at host.old folder.now) (H.leaves_at host.new folder.now)) (H.faults host.old) (H.faults host.new) file.now)
         result (K.taken out.old) (K.taken out.new) (Rose (K.faults out.old) (K.faults out.new)) }
     ensures others { StaysElsewhere file.now folder.now (H.standing host.old) (H.standing host.new) }
     ensures taken { FileStaysOrGoes file.now folder.now (H.standing host.old) (H.standing host.new) }
@@ -247,7 +247,7 @@ fn run_file<H: Host, K: Sink>(
 }
 
 fn plain<H: Host, K: Sink>(alloc: Global, words: &[Text], host: &mut H, out: &mut K) -> Status
-    ensures ends { IsEnd (IsWork words.now (H.standing host.old) (H.folder_at host.old) (H.folder_at host.new) (crashes_at (H.leaves_at host.old) (H.leaves_at host.new)) (H.faults host.old) (H.faults host.new))
+    ensures ends { IsWorkEnd (IsWork words.now (H.standing host.old) (H.folder_at host.old) (H.folder_at host.new) (crashes_at (H.leaves_at host.old) (H.leaves_at host.new)) (H.faults host.old) (H.faults host.new))
         result (K.taken out.old) (K.taken out.new) (Rose (K.faults out.old) (K.faults out.new)) }
     ensures others { (path : List ℕ) → ¬ IsFileOf words.now path → ¬ IsFolderOf words.now path → H.standing host.new path ≡ H.standing host.old path }
     ensures taken { (path : List ℕ) → IsFileOf words.now path → ¬ IsFolderOf words.now path → StaysOrGoes (H.standing host.old path) (H.standing host.new path) }
@@ -286,7 +286,7 @@ pub fn store_plain<H: Host, K: Sink>(
     out: &mut K,
 ) -> Status
     // What the status says has its cause, the sink took what belongs to it, and the folder keeps it.
-    ensures ends { IsEnd (IsWork words.now (H.standing host.old) (H.folder_at host.old) (H.folder_at host.new) (crashes_at (H.leaves_at host.old) (H.leaves_at host.new)) (H.faults host.old) (H.faults host.new))
+    ensures ends { IsWorkEnd (IsWork words.now (H.standing host.old) (H.folder_at host.old) (H.folder_at host.new) (crashes_at (H.leaves_at host.old) (H.leaves_at host.new)) (H.faults host.old) (H.faults host.new))
         result (K.taken out.old) (K.taken out.new) (Rose (K.faults out.old) (K.faults out.new)) }
 
     // A command is done, where nothing fails and there is memory.

@@ -17,12 +17,12 @@ use Rattle.udt_model.specs.declared.event.NamedOp.{NamedOp}
 use Rattle.udt_model.specs.declared.reply.Reply.{Reply}
 use Rattle.udt_model.specs.declared.reply.Reply.TheVariants.{OkAt, Fault, Done}
 use Rattle.udt_model.specs.State.{State, heads_of}
-use Rattle.solo_runner.specs.Named.{made}
+use Rattle.solo_runner.specs.Named.{versions_made}
 use Rattle.udt_model.specs.Crashes.{Course, Failing, IsOutcome, course_start, cut_at, settled}
 use Rattle.udt_model.specs.Acts.Act.{write}
 use Rattle.udt_model.specs.Names.{op_of as named_op}
 use Rattle.udt_model.specs.Steps.{after as after_act, admitted as act_admitted}
-use Rattle.solo_runner.specs.Named.{course_after}
+use Rattle.solo_runner.specs.Named.{course_after_event}
 use Rattle.solo_runner.proofs.Naming.{same_made}
 use Rattle.wal.specs.declared.numbered.Numbered.{Numbered}
 use Rattle.wal.specs.declared.wal.Wal.{Wal}
@@ -40,7 +40,7 @@ use Rattle.solo_runner.proofs.VersionLemmas.{Above, above_behind, cut_state, las
 
 -- the state after a write that was taken
 abbrev pub taken : State → List NamedOp → State
-taken m os = record m { versions = m.versions ++ made m m.last.0 os; last = record { 0 = m.last.0 + length os } }
+taken m os = record m { versions = m.versions ++ versions_made m m.last.0 os; last = record { 0 = m.last.0 + length os } }
 
 -- the state after a fault of the disk
 abbrev pub halted_at : State → ℕ → State
@@ -184,7 +184,7 @@ module _ {F : Type 0} (g : Ghosts F) where
         batches = live.batches;
         waiting = live.waiting ++ n ∷ [];
         holds = holds;
-        state_is = ap (λ (h : Option ℕ). let s : State = record m { versions = m.versions ++ made m m.last.0 os; last = record { 0 = m.last.0 + length os }; halted = h } in s) works
+        state_is = ap (λ (h : Option ℕ). let s : State = record m { versions = m.versions ++ versions_made m m.last.0 os; last = record { 0 = m.last.0 + length os }; halted = h } in s) works
             ∙ state_more fold m (live.batches ++ live.waiting) os live.state_is ∙ ap (state_of fold) (append_assoc live.batches live.waiting (n ∷ []));
         here = Contains-append_left c.ends ((m.last.0 + length os) ∷ []) (last_of fold.last.0 live.batches) live.here;
         all = Contains-push c.ends (m.last.0 + length os);
@@ -197,7 +197,7 @@ module _ {F : Type 0} (g : Ghosts F) where
       let n : Numbered = numbered_of m os in
       let all : List Numbered = live.batches ++ (live.waiting ++ n ∷ []) in
       let state : taken m os ≡ state_of fold all =
-      ap (λ (h : Option ℕ). let s : State = record m { versions = m.versions ++ made m m.last.0 os; last = record { 0 = m.last.0 + length os }; halted = h } in s) works
+      ap (λ (h : Option ℕ). let s : State = record m { versions = m.versions ++ versions_made m m.last.0 os; last = record { 0 = m.last.0 + length os }; halted = h } in s) works
       ∙ state_more fold m (live.batches ++ live.waiting) os live.state_is ∙ ap (state_of fold) (append_assoc live.batches live.waiting (n ∷ [])) in
       let last : m.last.0 + length os ≡ last_of fold.last.0 all = ap (λ (s : State). s.last.0) state in
       let up : c.synced ≤ m.last.0 + length os = omega (arith, live.synced, live_up fold old m c zero live) in
@@ -271,11 +271,11 @@ module _ {F : Type 0} (g : Ghosts F) where
 
   -- ---- events that leave the state
 
-  pub still_on : ((x : F) (image : Image) → g.left_since x (g.moment x) image → g.may_leave x image) → (old new : Wal F g) (m : State) (number : ℕ) (event : Event) (reply : Reply) → ((c : Course) → course_after m number c event reply ≡ c)
+  pub still_on : ((x : F) (image : Image) → g.left_since x (g.moment x) image → g.may_leave x image) → (old new : Wal F g) (m : State) (number : ℕ) (event : Event) (reply : Reply) → ((c : Course) → course_after_event m number c event reply ≡ c)
       → wal_file new ≡ wal_file old → ((bs ws : List Numbered) → Holds g old bs ws → Holds g new bs ws) → KeepsOn g old new m m number event reply
   still_on only_now old new m number event reply course file holds = record {
     keeps = λ fold c zero sizes keeps. subst (Keeps g fold new m) (sym (course c)) (same_keeps fold old new m c file holds keeps);
-    moments = λ fold c zero sizes keeps. same_moments only_now fold old new m m c (course_after m number c event reply) file keeps;
+    moments = λ fold c zero sizes keeps. same_moments only_now fold old new m m c (course_after_event m number c event reply) file keeps;
   }
 
   pub sync_on : (old new : Wal F g) (m : State) (number : ℕ) → m.halted ≡ None → wal_sizes new ≡ wal_sizes old → ((bs ws : List Numbered) → Holds g old bs ws → Holds g new (bs ++ ws) [])

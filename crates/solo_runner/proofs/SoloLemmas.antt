@@ -11,7 +11,7 @@ use Rattle.udt_model.specs.declared.line.Mark.{Mark}
 use Rattle.udt_model.specs.declared.line.Who.{Who}
 use Rattle.udt_model.specs.declared.line.Who.TheVariants.{Client, Runner}
 use Rattle.udt_model.specs.State.{State, heads_of}
-use Rattle.solo_runner.specs.Named.{IsReply, after}
+use Rattle.solo_runner.specs.Named.{IsReplyByName, after_by_name}
 use Rattle.udt_model.specs.Lines.{is_step, says_fault}
 use Rattle.udt_model.specs.Histories.{Point, start, IsLegal, IsSound, next_mark, behind, Leads, is_same, own_lines}
 use Rattle.udt_model.specs.Crashes.{Course, course_behind}
@@ -19,7 +19,7 @@ use Rattle.client_lang.specs.declared.command.Command.TheVariants as kinds
 use Rattle.udt_model.specs.declared.event.Event.{Event}
 use Rattle.udt_model.specs.declared.event.Event.TheVariants.{Sync, Release}
 use Rattle.solo_runner.specs.Expand.{Expand, IsClient, Task, IsSoloHistory, goes_on}
-use Rattle.solo_runner.specs.Named.{course_after}
+use Rattle.solo_runner.specs.Named.{course_after_event}
 use Rattle.udt_model.specs.Names.{act_of}
 use Rattle.udt_model.specs.Crashes.{course_after_or}
 use Rattle.udt_model.specs.Acts.{Act}
@@ -68,8 +68,8 @@ pub record IsNextLine (store : State) (who : Who) (number : ℕ) (last : Mark) (
   pub event_is : line.event ≡ event
   pub who_is : line.who ≡ who
   pub mark : line.mark ≡ mark_behind number last line.event line.reply
-  pub reply : IsReply store line.event line.reply
-  pub after_is : new ≡ after store (number + 1) line.event line.reply
+  pub reply : IsReplyByName store line.event line.reply
+  pub after_is : new ≡ after_by_name store (number + 1) line.event line.reply
   pub printed : IsBuiltLine line
 
 own_line : (line : Line) → line.who ≡ Client 1 → own_lines (Client 1) (line ∷ []) ≡ line ∷ []
@@ -107,13 +107,13 @@ legal_next p who number last store new event line low s n l next = record {
   mark = next.mark ∙ mark_is p who number last line n l next.who_is;
   named = is_named_built line.who (p.names line.who) line.event next.printed.event;
   reply = subst (λ (h : ℕ). lines.IsReply h p.state (p.names line.who) line.event line.reply) (sym low)
-      (reply_agrees p.state (p.names line.who) line.event line.reply next.printed.event (subst (λ (x : State). IsReply x line.event line.reply) (sym s) next.reply));
+      (reply_agrees p.state (p.names line.who) line.event line.reply next.printed.event (subst (λ (x : State). IsReplyByName x line.event line.reply) (sym s) next.reply));
 }
 
 state_next : (p : Point) (who : Who) (number : ℕ) (last : Mark) (store new : State) (event : Event) (line : Line) → p.state ≡ store → p.number ≡ number → IsNextLine store who number last event line new → (behind p line).state ≡ new
 state_next p who number last store new event line s n next =
     after_agrees p.state (p.names line.who) (p.number + 1) line.event line.reply next.printed.event
-    ∙ ap (λ (k : ℕ). after p.state (k + 1) line.event line.reply) n ∙ ap (λ (x : State). after x (number + 1) line.event line.reply) s ∙ sym next.after_is
+    ∙ ap (λ (k : ℕ). after_by_name p.state (k + 1) line.event line.reply) n ∙ ap (λ (x : State). after_by_name x (number + 1) line.event line.reply) s ∙ sym next.after_is
 
 pub ran_more : (m : State) (commands : List Command) (lines : List Line) (store new : State) (last : Mark) (event : Event) (line : Line)
     → HasRun m commands lines store last → IsNextLine store (Client 1) last.number last event line new → HasRun m (commands ++ kinds.Line event ∷ []) (lines ++ line ∷ []) new line.mark
@@ -178,20 +178,20 @@ synced_last m cs lines store new last line r n =
 -- ---- courses
 
 pub course_push : (p end : Point) (c : Course) (lines : List Line) (line : Line) → IsBuilt line.event → Leads p lines end
-    → course_behind p c (lines ++ line ∷ []) ≡ course_after end.state (end.number + 1) (course_behind p c lines) line.event line.reply
+    → course_behind p c (lines ++ line ∷ []) ≡ course_after_event end.state (end.number + 1) (course_behind p c lines) line.event line.reply
 course_push p end c [] line built e =
     ap (λ (a : Option Act). course_after_or p.state (p.number + 1) c a line.reply) (act_agrees (heads_of p.state) (p.names line.who) line.event built)
-    ∙ ap (λ (q : Point). course_after q.state (q.number + 1) c line.event line.reply) (sym e)
+    ∙ ap (λ (q : Point). course_after_event q.state (q.number + 1) c line.event line.reply) (sym e)
 course_push p end c (l ∷ lines) line built h = course_push (behind p l) end (course_after_or p.state (p.number + 1) c (act_of (heads_of p.state) (p.names l.who) l.event) l.reply) lines line built h.1
 
 -- what is kept before a line is kept behind it
 pub keeps_more : (Keeps : Course → Type 0) (m store : State) (commands : List Command) (last : Mark) (c : Course) (lines : List Line) (line : Line) (number : ℕ) → IsBuilt line.event → number ≡ last.number + 1 → HasRun m commands lines store last
-    → Keeps (course_after store number (course_behind (start m) c lines) line.event line.reply) → Keeps (course_behind (start m) c (lines ++ line ∷ []))
+    → Keeps (course_after_event store number (course_behind (start m) c lines) line.event line.reply) → Keeps (course_behind (start m) c (lines ++ line ∷ []))
 keeps_more Keeps m store commands last c lines line number built is r k =
     subst Keeps (sym (course_push (start m) r.end c lines line built r.run.legal
-    ∙ ap (λ (s : State). course_after s (r.end.number + 1) (course_behind (start m) c lines) line.event line.reply) r.state_is
-    ∙ ap (λ (j : ℕ). course_after store (j + 1) (course_behind (start m) c lines) line.event line.reply) r.number_is
-    ∙ ap (λ (j : ℕ). course_after store j (course_behind (start m) c lines) line.event line.reply) (sym is))) k
+    ∙ ap (λ (s : State). course_after_event s (r.end.number + 1) (course_behind (start m) c lines) line.event line.reply) r.state_is
+    ∙ ap (λ (j : ℕ). course_after_event store (j + 1) (course_behind (start m) c lines) line.event line.reply) r.number_is
+    ∙ ap (λ (j : ℕ). course_after_event store j (course_behind (start m) c lines) line.event line.reply) (sym is))) k
 
 -- ---- faults
 

@@ -24,7 +24,7 @@ use Rattle.udt_model.specs.declared.place.Place.{Place}
 use Rattle.udt_model.specs.declared.reply.Reply.{Reply}
 use Rattle.udt_model.specs.declared.reply.Reply.TheVariants as replies
 use Rattle.udt_model.specs.State.{State, place_from, family_or, heads_of}
-use Rattle.solo_runner.specs.Named.{accepted_unless, admitted, done_unless, family_of, made, place_of, unknown, version_of}
+use Rattle.solo_runner.specs.Named.{accepted_unless, reply_of_write, done_unless, family_of_op, versions_made, place_of, unknown_in_ops, version_of_op}
 use Rattle.udt_model.specs.Refusals.{unknown_place, ◌or_else◌}
 use Rattle.wal.specs.declared.numbered.Numbered.{Numbered}
 use Rattle.wal.specs.declared.wal.Wal.{Wal}
@@ -32,12 +32,12 @@ use Rattle.wal.specs.declared.wal.TheConstants.{PENDING_LIMIT}
 use Rattle.wal.specs.Replays.{IsBeforeOrAfter}
 use Rattle.wal.specs.Wals.{Holds, MayGoOn, wal_file, wal_pending, wal_sizes}
 use Rattle.client_lang.specs.Print.{IsBuilt}
-use Rattle.solo_runner.specs.Adding.{IsAdmitted, op_of, refusal_of, with_versions}
+use Rattle.solo_runner.specs.Adding.{IsAdmitted, op_of_version, refusal_of, with_versions}
 use Rattle.solo_runner.specs.Logging.{HasRoom, HoldsLogged, IsLogged, batch_behind, numbered_of}
 use Rattle.solo_runner.specs.LoggedStores.{IsInStep, IsStep}
 use Rattle.udt_model.specs.Crashes.{Course}
 use Rattle.solo_runner.specs.Adding.{IsWriteRefusal}
-use Rattle.solo_runner.specs.Named.{course_after}
+use Rattle.solo_runner.specs.Named.{course_after_event}
 use Rattle.solo_runner.specs.LoggedStores.{IsStepCause}
 use Rattle.solo_runner.proofs.Adding.{refusal_built, refusal_leaves, refusal_sound, reply_found, take_front}
 use Rattle.solo_runner.proofs.VersionLemmas.{length-ops}
@@ -46,13 +46,13 @@ use Rattle.solo_runner.proofs.KeepingLemmas.{halted_at, still_on, sync_fails_on,
 
 -- ---- the batch of a write
 
-made_stamped : (m : State) (n : ℕ) (os : List NamedOp) → All (λ (o : NamedOp). o.ts.0 ≤ 2 ^ 64 - 2) os → All IsStamped (map op_of (made m n os))
+made_stamped : (m : State) (n : ℕ) (os : List NamedOp) → All (λ (o : NamedOp). o.ts.0 ≤ 2 ^ 64 - 2) os → All IsStamped (map op_of_version (versions_made m n os))
 made_stamped m n [] all = All-nil IsStamped
 made_stamped m n (o ∷ os) all =
-    All-cons IsStamped (op_of (version_of (family_of m o) o (n + 1))) (map op_of (made m (n + 1) os)) (All-head (λ (o : NamedOp). o.ts.0 ≤ 2 ^ 64 - 2) o os all) (made_stamped m (n + 1) os (All-tail (λ (o : NamedOp). o.ts.0 ≤ 2 ^ 64 - 2) o os all))
+    All-cons IsStamped (op_of_version (version_of_op (family_of_op m o) o (n + 1))) (map op_of_version (versions_made m (n + 1) os)) (All-head (λ (o : NamedOp). o.ts.0 ≤ 2 ^ 64 - 2) o os all) (made_stamped m (n + 1) os (All-tail (λ (o : NamedOp). o.ts.0 ≤ 2 ^ 64 - 2) o os all))
 
 -- a write's operations are a batch
-pub made_batch : (m : State) (n : ℕ) (os : List NamedOp) → 0 < length os → length os ≤ 64 → All (λ (o : NamedOp). o.ts.0 ≤ 2 ^ 64 - 2) os → IsBatch (map op_of (made m n os))
+pub made_batch : (m : State) (n : ℕ) (os : List NamedOp) → 0 < length os → length os ≤ 64 → All (λ (o : NamedOp). o.ts.0 ≤ 2 ^ 64 - 2) os → IsBatch (map op_of_version (versions_made m n os))
 made_batch m n os some within stamped = record {
   some = omega (arith, some, length-ops m n os);
   within = omega (arith, within, length-ops m n os);
@@ -68,8 +68,8 @@ none_second None b none = none
 none_second (Some r) b none = absurd (none-some r (sym none))
 
 -- a write that isn't refused names known families
-pub all_known : (m : State) (os : List NamedOp) → refusal_of m os ≡ None → unknown m os ≡ None
-all_known m os none = none_first (unknown m os) _ (none_first (unknown m os or_else _) _ none)
+pub all_known : (m : State) (os : List NamedOp) → refusal_of m os ≡ None → unknown_in_ops m os ≡ None
+all_known m os none = none_first (unknown_in_ops m os) _ (none_first (unknown_in_ops m os or_else _) _ none)
 
 either_within : (b : Bool) (p q : Option Place) (j k : ℕ) → (unknown_place p ≡ None → (family_or j p).0 < k) → (unknown_place q ≡ None → (family_or j q).0 < k)
     → unknown_place (cond b p q) ≡ None → (family_or j (cond b p q)).0 < k
@@ -83,11 +83,11 @@ place_within n j (head ∷ heads) name known =
     (λ _. omega arith) (λ behind. let within = place_within (n + 1) j heads name behind in omega (arith, within)) known
 
 -- the families of a write's operations are among those of the store
-pub made_within : (m : State) (n k : ℕ) (os : List NamedOp) → k ≡ length (heads_of m) → unknown m os ≡ None → All (λ (op : WriteOp). op.family.0 < k) (map op_of (made m n os))
+pub made_within : (m : State) (n k : ℕ) (os : List NamedOp) → k ≡ length (heads_of m) → unknown_in_ops m os ≡ None → All (λ (op : WriteOp). op.family.0 < k) (map op_of_version (versions_made m n os))
 made_within m n k [] size known = All-nil (λ (op : WriteOp). op.family.0 < k)
 made_within m n k (o ∷ os) size known =
-    let first : (family_of m o).0 < 0 + length (heads_of m) = place_within 0 (length (heads_of m)) (heads_of m) o.family (none_first (unknown_place (place_of m o.family)) (unknown m os) known) in
-    All-cons (λ (op : WriteOp). op.family.0 < k) (op_of (version_of (family_of m o) o (n + 1))) (map op_of (made m (n + 1) os)) (omega (arith, first, size)) (made_within m (n + 1) k os size (none_second (unknown_place (place_of m o.family)) (unknown m os) known))
+    let first : (family_of_op m o).0 < 0 + length (heads_of m) = place_within 0 (length (heads_of m)) (heads_of m) o.family (none_first (unknown_place (place_of m o.family)) (unknown_in_ops m os) known) in
+    All-cons (λ (op : WriteOp). op.family.0 < k) (op_of_version (version_of_op (family_of_op m o) o (n + 1))) (map op_of_version (versions_made m (n + 1) os)) (omega (arith, first, size)) (made_within m (n + 1) k os size (none_second (unknown_place (place_of m o.family)) (unknown_in_ops m os) known))
 
 drop_front : (vs more : List Version) (n : ℕ) → n ≡ length vs → drop n (vs ++ more) ≡ more
 drop_front [] more n e = rw e refl
@@ -95,54 +95,54 @@ drop_front (v ∷ vs) more n e = let k : n ≡ suc (length vs) = omega arith in 
 
 -- a write was admitted to the store, behind the versions that it had
 pub record HasAdded (m now : State) (count : ℕ) (os : List NamedOp) : Type 0 where
-  pub is : now ≡ with_versions m (m.versions ++ made m m.last.0 os)
+  pub is : now ≡ with_versions m (m.versions ++ versions_made m m.last.0 os)
   pub counted : count ≡ length m.versions
 
-pub added_versions : (m now : State) (count : ℕ) (os : List NamedOp) → HasAdded m now count os → drop count now.versions ≡ made m m.last.0 os
-added_versions m now count os added = ap (λ (s : State). drop count s.versions) added.is ∙ drop_front m.versions (made m m.last.0 os) count added.counted
+pub added_versions : (m now : State) (count : ℕ) (os : List NamedOp) → HasAdded m now count os → drop count now.versions ≡ versions_made m m.last.0 os
+added_versions m now count os added = ap (λ (s : State). drop count s.versions) added.is ∙ drop_front m.versions (versions_made m m.last.0 os) count added.counted
 
 pub is_added : (m now : State) (count : ℕ) (os : List NamedOp) (found : Option Reply) → found ≡ None → IsAdmitted m os found now → count ≡ length m.versions → HasAdded m now count os
-is_added m now count os found none admitted counted = record { is = subst (λ (f : Option Reply). IsAdmitted m os f now) none admitted; counted = counted }
+is_added m now count os found none is_allowed counted = record { is = subst (λ (f : Option Reply). IsAdmitted m os f now) none is_allowed; counted = counted }
 
 -- what logging them asks
-pub added_batch : (m now : State) (count : ℕ) (os : List NamedOp) → HasAdded m now count os → 0 < length os → length os ≤ 64 → All (λ (o : NamedOp). o.ts.0 ≤ 2 ^ 64 - 2) os → IsBatch (map op_of (drop count now.versions))
+pub added_batch : (m now : State) (count : ℕ) (os : List NamedOp) → HasAdded m now count os → 0 < length os → length os ≤ 64 → All (λ (o : NamedOp). o.ts.0 ≤ 2 ^ 64 - 2) os → IsBatch (map op_of_version (drop count now.versions))
 added_batch m now count os added some within stamped =
-    subst (λ (vs : List Version). IsBatch (map op_of vs)) (sym (added_versions m now count os added)) (made_batch m m.last.0 os some within stamped)
+    subst (λ (vs : List Version). IsBatch (map op_of_version vs)) (sym (added_versions m now count os added)) (made_batch m m.last.0 os some within stamped)
 
-pub added_last : (m now : State) (count : ℕ) (os : List NamedOp) → HasAdded m now count os → m.last.0 + length os < 2 ^ 56 → now.last.0 + length (map op_of (drop count now.versions)) < 2 ^ 56
+pub added_last : (m now : State) (count : ℕ) (os : List NamedOp) → HasAdded m now count os → m.last.0 + length os < 2 ^ 56 → now.last.0 + length (map op_of_version (drop count now.versions)) < 2 ^ 56
 added_last m now count os added room =
-    let size : length (map op_of (drop count now.versions)) ≡ length os = ap (λ (vs : List Version). length (map op_of vs)) (added_versions m now count os added) ∙ length-ops m m.last.0 os in
+    let size : length (map op_of_version (drop count now.versions)) ≡ length os = ap (λ (vs : List Version). length (map op_of_version vs)) (added_versions m now count os added) ∙ length-ops m m.last.0 os in
     let last : now.last.0 ≡ m.last.0 = ap (λ (s : State). s.last.0) added.is in
     omega (arith, size, last, room)
 
-pub added_within : (m now : State) (count k : ℕ) (os : List NamedOp) → HasAdded m now count os → k ≡ length (heads_of m) → refusal_of m os ≡ None → All (λ (op : WriteOp). op.family.0 < k) (map op_of (drop count now.versions))
+pub added_within : (m now : State) (count k : ℕ) (os : List NamedOp) → HasAdded m now count os → k ≡ length (heads_of m) → refusal_of m os ≡ None → All (λ (op : WriteOp). op.family.0 < k) (map op_of_version (drop count now.versions))
 added_within m now count k os added size taken =
-    subst (λ (vs : List Version). All (λ (op : WriteOp). op.family.0 < k) (map op_of vs)) (sym (added_versions m now count os added)) (made_within m m.last.0 k os size (all_known m os taken))
+    subst (λ (vs : List Version). All (λ (op : WriteOp). op.family.0 < k) (map op_of_version vs)) (sym (added_versions m now count os added)) (made_within m m.last.0 k os size (all_known m os taken))
 
 pub added_behind : (m now : State) (count : ℕ) (os : List NamedOp) → HasAdded m now count os → batch_behind now count ≡ numbered_of m os
 added_behind m now count os added =
-    ap (λ (k : ℕ). let n : Numbered = record { first = record { 0 = k + 1 }; batch = map op_of (drop count now.versions) } in n) (ap (λ (s : State). s.last.0) added.is)
-    ∙ ap (λ (vs : List Version). let n : Numbered = record { first = record { 0 = m.last.0 + 1 }; batch = map op_of vs } in n) (added_versions m now count os added)
+    ap (λ (k : ℕ). let n : Numbered = record { first = record { 0 = k + 1 }; batch = map op_of_version (drop count now.versions) } in n) (ap (λ (s : State). s.last.0) added.is)
+    ∙ ap (λ (vs : List Version). let n : Numbered = record { first = record { 0 = m.last.0 + 1 }; batch = map op_of_version vs } in n) (added_versions m now count os added)
 
 -- without them the store is as it was
 pub added_back : (m now new : State) (count : ℕ) (os : List NamedOp) → HasAdded m now count os → new ≡ with_versions now (take count now.versions) → new ≡ m
 added_back m now new count os added is =
-    is ∙ ap (λ (s : State). with_versions s (take count s.versions)) added.is ∙ ap (with_versions m) (take_front m.versions (made m m.last.0 os) count added.counted)
+    is ∙ ap (λ (s : State). with_versions s (take count s.versions)) added.is ∙ ap (with_versions m) (take_front m.versions (versions_made m m.last.0 os) count added.counted)
 
 -- numbered, they are taken
 pub added_taken : (m now new : State) (count : ℕ) (os : List NamedOp) → HasAdded m now count os → new ≡ record now { last = record { 0 = now.last.0 + length os } } → new ≡ taken m os
 added_taken m now new count os added is = is ∙ ap (λ (s : State). let t : State = record s { last = record { 0 = s.last.0 + length os } } in t) added.is
 
 -- a write that is refused leaves the course
-course_stays : (m : State) (number : ℕ) (c : Course) (os : List NamedOp) (sync : Bool) (r : Reply) → IsWriteRefusal r → course_after m number c (Write os sync) r ≡ c
+course_stays : (m : State) (number : ℕ) (c : Course) (os : List NamedOp) (sync : Bool) (r : Reply) → IsWriteRefusal r → course_after_event m number c (Write os sync) r ≡ c
 course_stays m number c os sync (replies.OkAt n) refusal = absurd refusal
 course_stays m number c os sync replies.Fault refusal = absurd refusal
 course_stays m number c os sync r refusal = refl
 
 pub refused_same : (old new : State) (os : List NamedOp) (found : Option Reply) (r : Reply) → found ≡ Some r → IsAdmitted old os found new → new ≡ old
-refused_same old new os found r some admitted = subst (λ (f : Option Reply). IsAdmitted old os f new) some admitted
+refused_same old new os found r some is_allowed = subst (λ (f : Option Reply). IsAdmitted old os f new) some is_allowed
 
-pub refused_told : (m : State) (os : List NamedOp) (found : Option Reply) (r : Reply) → m.halted ≡ None → found ≡ refusal_of m os → found ≡ Some r → r ≡ admitted m os
+pub refused_told : (m : State) (os : List NamedOp) (found : Option Reply) (r : Reply) → m.halted ≡ None → found ≡ refusal_of m os → found ≡ Some r → r ≡ reply_of_write m os
 refused_told m os found r works is some = ap (accepted_unless (m.last.0 + length os)) (sym some) ∙ reply_found m os found works is
 
 -- ---- steps
@@ -153,10 +153,10 @@ module _ {F : Type 0} (g : Ghosts F) where
       subst (λ (s : State). IsStep g old new s n number event reply) (sym first) (subst (λ (s : State). IsStep g old new m' s number event reply) (sym second) step)
 
   -- a write is taken
-  pub step_taken : (old new : Wal F g) (m : State) (number : ℕ) (os : List NamedOp) (sync : Bool) → m.halted ≡ None → replies.OkAt (m.last.0 + length os) ≡ admitted m os → IsInStep g old m
+  pub step_taken : (old new : Wal F g) (m : State) (number : ℕ) (os : List NamedOp) (sync : Bool) → m.halted ≡ None → replies.OkAt (m.last.0 + length os) ≡ reply_of_write m os → IsInStep g old m
       → IsLogged g old new (numbered_of m os) sync (Ok tt) → IsStep g old new m (taken m os) number (Write os sync) (replies.OkAt (m.last.0 + length os))
   step_taken old new m number os sync works told in_step logged =
-      let next : m.last.0 + 1 + length (map op_of (made m m.last.0 os)) ≡ m.last.0 + length os + 1 = omega (arith, length-ops m m.last.0 os) in
+      let next : m.last.0 + 1 + length (map op_of_version (versions_made m m.last.0 os)) ≡ m.last.0 + length os + 1 = omega (arith, length-ops m m.last.0 os) in
       record {
         legal = inl told;
         after_is = refl;
@@ -171,7 +171,7 @@ module _ {F : Type 0} (g : Ghosts F) where
       }
 
   -- the disk fails under a write
-  pub step_failed : (old new : Wal F g) (m : State) (number : ℕ) (os : List NamedOp) (sync : Bool) → m.halted ≡ None → replies.OkAt (m.last.0 + length os) ≡ admitted m os → IsInStep g old m
+  pub step_failed : (old new : Wal F g) (m : State) (number : ℕ) (os : List NamedOp) (sync : Bool) → m.halted ≡ None → replies.OkAt (m.last.0 + length os) ≡ reply_of_write m os → IsInStep g old m
       → IsLogged g old new (numbered_of m os) sync (Err DiskFault) → IsStep g old new m (halted_at m number) number (Write os sync) replies.Fault
   step_failed old new m number os sync works told in_step logged = record {
     legal = inr (inr (refl, sym told));
@@ -207,7 +207,7 @@ module _ {F : Type 0} (g : Ghosts F) where
       holds_still false holds = holds
 
   -- a write is refused
-  pub step_refused : ((x : F) (image : Image) → g.left_since x (g.moment x) image → g.may_leave x image) → (wal : Wal F g) (m n : State) (number : ℕ) (os : List NamedOp) (sync : Bool) (r : Reply) → n ≡ m → IsInStep g wal m → r ≡ admitted m os → IsWriteRefusal r
+  pub step_refused : ((x : F) (image : Image) → g.left_since x (g.moment x) image → g.may_leave x image) → (wal : Wal F g) (m n : State) (number : ℕ) (os : List NamedOp) (sync : Bool) (r : Reply) → n ≡ m → IsInStep g wal m → r ≡ reply_of_write m os → IsWriteRefusal r
       → IsStep g wal wal m n number (Write os sync) r
   step_refused only_now wal m n number os sync r same in_step told refusal = step_at wal wal m m n m number (Write os sync) r refl same
       (record {
@@ -228,7 +228,7 @@ module _ {F : Type 0} (g : Ghosts F) where
     pub state_is : m ≡ plain
     pub works : plain.halted ≡ None
     pub added : HasAdded plain now count os
-    pub told : replies.OkAt (plain.last.0 + length os) ≡ admitted plain os
+    pub told : replies.OkAt (plain.last.0 + length os) ≡ reply_of_write plain os
     pub logged : IsLogged g old new (batch_behind now count) sync result
     pub in_step : IsInStep g old m
 
@@ -236,10 +236,10 @@ module _ {F : Type 0} (g : Ghosts F) where
   pub is_logged : (old new : Wal F g) (plain now : State) (halted : Option ℕ) (count : ℕ) (os : List NamedOp) (found : Option Reply) (sync : Bool) (told result : Result (Unit {0}) LogFault)
       → halted ≡ None → plain.halted ≡ None → found ≡ None → IsAdmitted plain os found now → found ≡ refusal_of plain os → count ≡ length plain.versions
       → told ≡ result → IsLogged g old new (batch_behind now count) sync told → IsInStep g old (record plain { halted = halted }) → Logs old new (record plain { halted = halted }) plain now count os sync result
-  is_logged old new plain now halted count os found sync told result open_now works none admitted refusal counted is logged in_step = record {
+  is_logged old new plain now halted count os found sync told result open_now works none is_allowed refusal counted is logged in_step = record {
     state_is = ap (λ (h : Option ℕ). let s : State = record plain { halted = h } in s) (open_now ∙ sym works);
     works = works;
-    added = is_added plain now count os found none admitted counted;
+    added = is_added plain now count os found none is_allowed counted;
     told = ap (accepted_unless (plain.last.0 + length os)) (sym none) ∙ reply_found plain os found works refusal;
     logged = subst (IsLogged g old new (batch_behind now count) sync) is logged;
     in_step = in_step;

@@ -12,7 +12,7 @@ use Rattle.ts_key.specs.declared.version.Version.{Version}
 use Rattle.udt_disk.specs.declared.file.DiskFile.{Ghosts}
 use Rattle.udt_model.specs.declared.event.NamedOp.{NamedOp}
 use Rattle.udt_model.specs.State.{State, unflushed}
-use Rattle.solo_runner.specs.Named.{family_of, made, version_of}
+use Rattle.solo_runner.specs.Named.{family_of_op, versions_made, version_of_op}
 use Rattle.udt_model.specs.Crashes.{cut_at, settled}
 use Rattle.udt_model.proofs.Laws.{settled_unflushed}
 use Rattle.wal.specs.declared.numbered.Numbered.{Numbered}
@@ -22,7 +22,7 @@ use Rattle.wal.specs.Records.{IsLoggedBatch}
 use Rattle.wal.specs.Sequences.{sequence_after, GoesOn, IsInSequence}
 use Rattle.wal.specs.Wals.{IsWalOf}
 use Rattle.head_manifest.specs.declared.fold.Folded.{Folded}
-use Rattle.solo_runner.specs.Adding.{op_of}
+use Rattle.solo_runner.specs.Adding.{op_of_version}
 use Rattle.solo_runner.specs.Logging.{numbered_of}
 use Rattle.udt_model.specs.Versions.{logged}
 use Rattle.plain_recovery.specs.Stores.{head_of, last_of, state_of, versions_of}
@@ -139,31 +139,31 @@ whole_state fold (b ∷ bs) above =
 
 -- ---- a write, and its batch
 
-pub length-made : (m : State) (n : ℕ) (os : List NamedOp) → length (made m n os) ≡ length os
+pub length-made : (m : State) (n : ℕ) (os : List NamedOp) → length (versions_made m n os) ≡ length os
 length-made m n [] = refl
 length-made m n (o ∷ os) = ap suc (length-made m (n + 1) os)
 
-pub length-ops : (m : State) (n : ℕ) (os : List NamedOp) → length (map op_of (made m n os)) ≡ length os
+pub length-ops : (m : State) (n : ℕ) (os : List NamedOp) → length (map op_of_version (versions_made m n os)) ≡ length os
 length-ops m n [] = refl
 length-ops m n (o ∷ os) = ap suc (length-ops m (n + 1) os)
 
-logged_made : (m : State) (n : ℕ) (os : List NamedOp) → logged (n + 1) (map op_of (made m n os)) ≡ made m n os
+logged_made : (m : State) (n : ℕ) (os : List NamedOp) → logged (n + 1) (map op_of_version (versions_made m n os)) ≡ versions_made m n os
 logged_made m n [] = refl
-logged_made m n (o ∷ os) = ap (λ (vs : List Version). version_of (family_of m o) o (n + 1) ∷ vs) (logged_made m (n + 1) os)
+logged_made m n (o ∷ os) = ap (λ (vs : List Version). version_of_op (family_of_op m o) o (n + 1) ∷ vs) (logged_made m (n + 1) os)
 
 -- what a write makes of the state of batches
 pub state_more : (fold : Folded) (m : State) (all : List Numbered) (os : List NamedOp) → m ≡ state_of fold all
-    → (let n : State = record m { versions = m.versions ++ made m m.last.0 os; last = record { 0 = m.last.0 + length os }; halted = None } in n) ≡ state_of fold (all ++ numbered_of m os ∷ [])
+    → (let n : State = record m { versions = m.versions ++ versions_made m m.last.0 os; last = record { 0 = m.last.0 + length os }; halted = None } in n) ≡ state_of fold (all ++ numbered_of m os ∷ [])
 state_more fold m all os is =
     let b : Numbered = numbered_of m os in
-    let versions : m.versions ++ made m m.last.0 os ≡ versions_of (all ++ b ∷ []) =
-    ap (λ (s : State). s.versions ++ made m m.last.0 os) is
+    let versions : m.versions ++ versions_made m m.last.0 os ≡ versions_of (all ++ b ∷ []) =
+    ap (λ (s : State). s.versions ++ versions_made m m.last.0 os) is
     ∙ ap (λ (vs : List Version). versions_of all ++ vs) (sym (logged_made m m.last.0 os) ∙ sym (append-nil (logged (m.last.0 + 1) b.batch)))
     ∙ sym (versions_append all (b ∷ [])) in
     let last : m.last.0 + length os ≡ last_of fold.last.0 (all ++ b ∷ []) =
     let e : m.last.0 + length os ≡ m.last.0 + 1 + length b.batch - 1 = omega (arith, length-ops m m.last.0 os) in
     e ∙ sym (last_append fold.last.0 all (b ∷ [])) in
-    ap (λ (s : State). let n : State = record s { versions = m.versions ++ made m m.last.0 os; last = record { 0 = m.last.0 + length os }; halted = None } in n) is
+    ap (λ (s : State). let n : State = record s { versions = m.versions ++ versions_made m m.last.0 os; last = record { 0 = m.last.0 + length os }; halted = None } in n) is
     ∙ ap (λ (vs : List Version). let n : State = unflushed (map head_of fold.families) (vs) (record { 0 = m.last.0 + length os }) None in n) versions
     ∙ ap (λ (k : ℕ). let n : State = unflushed (map head_of fold.families) (versions_of (all ++ b ∷ [])) (record { 0 = k }) None in n) last
 

@@ -7,8 +7,8 @@ use Rattle.udt_model.specs.declared.event.Event.TheVariants.{Write}
 use Rattle.udt_model.specs.declared.reply.Reply.{Reply}
 use Rattle.udt_model.specs.State.{State, heads_of}
 use Rattle.udt_model.specs.Crashes.{Course}
-use Rattle.solo_runner.specs.Named.{course_after}
-use Rattle.solo_runner.specs.Named.{IsReply, after}
+use Rattle.solo_runner.specs.Named.{course_after_event}
+use Rattle.solo_runner.specs.Named.{IsReplyByName, after_by_name}
 use Rattle.udt_model.specs.Lines.{says_fault}
 use Rattle.udt_disk.specs.Runs.{IsSameFile}
 use Rattle.udt_disk.specs.Runs.{Leaves}
@@ -44,9 +44,9 @@ module _ {F : Type 0} (g : Ghosts F) where
   -- Where the old log kept the history, the new one keeps it with this event; and at each moment between them a crash left an
   -- outcome of the one or of the other. The families of the fold have the log's sizes.
   pub record KeepsOn (old new : Wal F g) (m n : State) (number : ℕ) (event : Event) (reply : Reply) : Type 0 where
-    pub keeps : (fold : Folded) (c : Course) → fold.last.0 ≡ 0 → stores.sizes_of fold ≡ wal_sizes old → Keeps g fold old m c → Keeps g fold new n (course_after m number c event reply)
+    pub keeps : (fold : Folded) (c : Course) → fold.last.0 ≡ 0 → stores.sizes_of fold ≡ wal_sizes old → Keeps g fold old m c → Keeps g fold new n (course_after_event m number c event reply)
     pub moments : (fold : Folded) (c : Course) → fold.last.0 ≡ 0 → stores.sizes_of fold ≡ wal_sizes old → Keeps g fold old m c
-        → Leaves g (wal_file old) (wal_file new) (λ image. ReadsAsOutcome fold m c image ⊎ ReadsAsOutcome fold n (course_after m number c event reply) image)
+        → Leaves g (wal_file old) (wal_file new) (λ image. ReadsAsOutcome fold m c image ⊎ ReadsAsOutcome fold n (course_after_event m number c event reply) image)
 
   -- a write that isn't to be synced waits; so it does until the next sync, or until so many bytes wait
   abbrev pub PutsOff : Wal F g → Wal F g → State → Event → Type 0
@@ -55,8 +55,8 @@ module _ {F : Type 0} (g : Ghosts F) where
 
   -- what the event of this number leaves of the log and the state with this reply, and that the reply is legal
   pub record IsStep (old new : Wal F g) (m n : State) (number : ℕ) (event : Event) (reply : Reply) : Type 0 where
-    pub legal : IsReply m event reply
-    pub after_is : n ≡ after m number event reply
+    pub legal : IsReplyByName m event reply
+    pub after_is : n ≡ after_by_name m number event reply
     pub built : IsBuiltReply reply
     pub in_step : IsInStep new n
     pub cause : IsStepCause (g.faults (wal_file old)) (g.faults (wal_file new)) (says_fault reply)

@@ -14,16 +14,16 @@ use Rattle.wal.specs.declared.wal.TheConstants.{PENDING_LIMIT}
 use Rattle.wal.specs.Replays.{IsBeforeOrAfter}
 use Rattle.wal.specs.Sequences.{sequence_after}
 use Rattle.wal.specs.Wals.{Holds, MayGoOn, waiting_with, wal_file, wal_pending, wal_sizes}
-use Rattle.solo_runner.specs.Adding.{op_of}
-use Rattle.solo_runner.specs.Named.{made}
+use Rattle.solo_runner.specs.Adding.{op_of_version}
+use Rattle.solo_runner.specs.Named.{versions_made}
 
 -- the batch of the versions of a store behind the first ones, with the sequences behind the last one
 abbrev pub batch_behind : State → ℕ → Numbered
-batch_behind m count = record { first = record { 0 = m.last.0 + 1 }; batch = map op_of (drop count m.versions) }
+batch_behind m count = record { first = record { 0 = m.last.0 + 1 }; batch = map op_of_version (drop count m.versions) }
 
 -- the batch of a write's operations, with the sequences behind the last one
 abbrev pub numbered_of : State → List NamedOp → Numbered
-numbered_of m ops = record { first = record { 0 = m.last.0 + 1 }; batch = map op_of (made m m.last.0 ops) }
+numbered_of m ops = record { first = record { 0 = m.last.0 + 1 }; batch = map op_of_version (versions_made m m.last.0 ops) }
 
 module _ {F : Type 0} (g : Ghosts F) where
   -- a batch that begins with this sequence may be added

@@ -17,8 +17,8 @@ use Rattle.solo_runner.specs.declared.logged.LoggedStore.{LoggedStore}
 
 module _ {F : Type 0} (g : Ghosts F) where
   -- how often the file of the log has failed
-  abbrev pub faults_of : LoggedStore F g → ℕ
-  faults_of s = g.faults (wal_file (wal_of s))
+  abbrev pub log_faults : LoggedStore F g → ℕ
+  log_faults s = g.faults (wal_file (wal_of s))
 
   -- What a crash may leave of the log are outcomes of the history so far, in a folder whose manifest has this fold.
   abbrev pub KeepsCourse : LoggedStore F g → Folded → Course → Type 0
@@ -28,8 +28,8 @@ module _ {F : Type 0} (g : Ghosts F) where
   pub record GoesWith (old new : LoggedStore F g) (lines : List Line) : Type 0 where
     pub in_step : IsInStep g (wal_of new) (store_state new)
     pub kept : (fold : Folded) → KeepsCourse old fold (course_start (store_state old)) → KeepsCourse new fold (course_behind (start (store_state old)) (course_start (store_state old)) lines)
-    pub later : faults_of old ≤ faults_of new
-    pub sound : AreSoundUnless (faults_of old) (faults_of new) lines
+    pub later : log_faults old ≤ log_faults new
+    pub sound : AreSoundUnless (log_faults old) (log_faults new) lines
     pub same : IsSameFile g (wal_file (wal_of old)) (wal_file (wal_of new))
 
   -- client 1 has made these commands

@@ -7,7 +7,7 @@ ghost use Rattle.udt_model.specs.declared.event.Event.TheVariants.{Write, Get};
 ghost use Rattle.udt_model.specs.declared.event.NamedOp.{NamedOp as Named};
 ghost use Rattle.client_lang.specs.Print.{IsBuilt};
 ghost use Rattle.wal.specs.Wals.{wal_file, wal_sizes};
-ghost use Rattle.solo_runner.specs.Adding.{op_of};
+ghost use Rattle.solo_runner.specs.Adding.{op_of_version};
 ghost use Rattle.solo_runner.specs.Logging.{HasRoom, IsLogged, batch_behind};
 
 use super::store::{PlainStore, told_or_want};
@@ -51,9 +51,9 @@ fn log_behind<F: DiskFile>(
     sync: bool,
 ) -> Result<(), LogFault>
     requires within { count ≤ length plain.now.versions }
-    requires batch { IsBatch (map op_of (drop count plain.now.versions)) }
-    requires last { plain.now.last.0 + length (map op_of (drop count plain.now.versions)) < SEQUENCE_LIMIT + 1 }
-    requires families { All (λ (op : Operation). op.family.0 < length (wal_sizes wal.old)) (map op_of (drop count plain.now.versions)) }
+    requires batch { IsBatch (map op_of_version (drop count plain.now.versions)) }
+    requires last { plain.now.last.0 + length (map op_of_version (drop count plain.now.versions)) < SEQUENCE_LIMIT + 1 }
+    requires families { All (λ (op : Operation). op.family.0 < length (wal_sizes wal.old)) (map op_of_version (drop count plain.now.versions)) }
     requires room { HasRoom F.DiskFile wal.old (plain.now.last.0 + 1) }
     ensures { IsLogged F.DiskFile wal.old wal.new (batch_behind plain.now count) sync result }
 {

@@ -2,14 +2,14 @@
 //! at or above the latest timestamp needs none.
 ghost use Rattle.std.specs.Prelude.{◌≡◌, ℕ, ◌+◌, ◌-◌, ◌<◌, ◌≤◌, [], false, nat_lt, if◌then◌else◌, length, take, drop, map, Bool, None, Ok, IfOk, IfSome, OnErr};
 ghost use Rattle.ts_key.specs.declared.limits.TheConstants.{BATCH_LIMIT, FAMILY_LIMIT};
-ghost use Rattle.solo_runner.specs.Named.{place_of, admitted, refusal, refused, reply_of_sync, unknown as unknown_of};
+ghost use Rattle.solo_runner.specs.Named.{place_of, reply_of_write, refusal_of_op, refusal_of_ops, reply_of_solo_sync, unknown_in_ops};
 ghost use Rattle.udt_model.specs.State.{heads_of, unflushed};
 ghost use Rattle.udt_model.specs.Steps.{got, reply_of_read as told_reply};
-ghost use Rattle.solo_runner.specs.Named.{IsReply, after as state_after};
+ghost use Rattle.solo_runner.specs.Named.{IsReplyByName, after_by_name};
 ghost use Rattle.udt_model.specs.Lines.{says_fault};
 ghost use Rattle.client_lang.specs.Print.{IsBuilt, IsBuiltReply};
 ghost use Rattle.ts_key.specs.Batches.{IsBatch};
-ghost use Rattle.solo_runner.specs.Adding.{Grows, IsAdded, IsAdmitted, IsWriteRefusal, after_op, op_of, refusal_of, with_versions};
+ghost use Rattle.solo_runner.specs.Adding.{Grows, IsAdded, IsAdmitted, IsWriteRefusal, after_op, op_of_version, refusal_of, with_versions};
 ghost use Rattle.solo_runner.specs.Transcripts.{fresh};
 
 use crate::versions::Versions;
@@ -64,8 +64,8 @@ pub(super) fn told_or_want(reply: Result<Reply, NoMemory>) -> Reply
 
 /// The batch of these versions, which shares the bytes of their keys and values.
 fn batch_of(alloc: Global, versions: &[Version]) -> Result<Batch, NoMemory>
-    requires { IsBatch (map op_of versions.now) }
-    ensures { IfOk result (λ batch. batch ≡ map op_of versions.now) }
+    requires { IsBatch (map op_of_version versions.now) }
+    ensures { IfOk result (λ batch. batch ≡ map op_of_version versions.now) }
 {
     let mut ops = Vec::with_capacity(alloc, versions.len())?;
     for version in versions {
@@ -131,8 +131,8 @@ impl PlainStore {
     /// The reply to an event, after which the store is as the model says. Want of memory changes nothing.
     pub fn step(&mut self, event: &Event) -> Reply
         requires { IsBuilt event.now }
-        ensures legal { IsReply self.old event.now result }
-        ensures after { (number : ℕ) → self.new ≡ state_after self.old number event.now result }
+        ensures legal { IsReplyByName self.old event.now result }
+        ensures after { (number : ℕ) → self.new ≡ after_by_name self.old number event.now result }
         ensures sound { says_fault result ≡ false }
         ensures built { IsBuiltReply result }
     {
@@ -151,7 +151,7 @@ impl PlainStore {
 
     /// A store in memory has nothing to sync.
     fn sync(&self) -> Reply
-        ensures reply { result ≡ reply_of_sync self.now }
+        ensures reply { result ≡ reply_of_solo_sync self.now }
         ensures sound { says_fault result ≡ false }
         ensures built { IsBuiltReply result }
     {
@@ -162,8 +162,8 @@ impl PlainStore {
     /// Takes a write whole, or leaves the store as it was.
     fn write(&mut self, ops: &[NamedOp]) -> Result<Reply, NoMemory>
         requires { length ops.now ≤ BATCH_LIMIT }
-        ensures reply { IfOk result (λ reply. reply ≡ admitted self.old ops.now) }
-        ensures ok { (sync : Bool) (number : ℕ) → IfOk result (λ reply. self.new ≡ state_after self.old number (Event.Write ops.now sync) reply) }
+        ensures reply { IfOk result (λ reply. reply ≡ reply_of_write self.old ops.now) }
+        ensures ok { (sync : Bool) (number : ℕ) → IfOk result (λ reply. self.new ≡ after_by_name self.old number (Event.Write ops.now sync) reply) }
         ensures err { OnErr result (self.new ≡ self.old) }
         ensures sound { IfOk result (λ reply. says_fault reply ≡ false) }
         ensures built { IfOk result IsBuiltReply }
@@ -235,8 +235,8 @@ impl PlainStore {
     /// The batch of the versions behind the first `count`.
     pub(super) fn batch_behind(&self, count: usize) -> Result<Batch, NoMemory>
         requires within { count ≤ length self.now.versions }
-        requires batch { IsBatch (map op_of (drop count self.now.versions)) }
-        ensures { IfOk result (λ batch. batch ≡ map op_of (drop count self.now.versions)) }
+        requires batch { IsBatch (map op_of_version (drop count self.now.versions)) }
+        ensures { IfOk result (λ batch. batch ≡ map op_of_version (drop count self.now.versions)) }
     {
         batch_of(
             self.versions.allocator(),
@@ -271,7 +271,7 @@ impl PlainStore {
 
     /// `unknown` where one of the operations names no family.
     pub(super) fn unknown(&self, ops: &[NamedOp]) -> Option<Reply>
-        ensures unknown { result ≡ unknown_of self.now ops.now }
+        ensures unknown { result ≡ unknown_in_ops self.now ops.now }
         ensures built { IfSome result IsWriteRefusal }
     {
         for op in ops {
@@ -300,7 +300,7 @@ impl PlainStore {
     /// Adds the version of each operation, up to the first that is refused.
     fn add_each(&mut self, ops: &[NamedOp]) -> Result<Option<Reply>, NoMemory>
         requires { length ops.now ≤ BATCH_LIMIT }
-        ensures refusal { IfOk result (λ found. found ≡ refused self.old self.old.versions self.old.last.0 1 ops.now) }
+        ensures refusal { IfOk result (λ found. found ≡ refusal_of_ops self.old self.old.versions self.old.last.0 1 ops.now) }
         ensures ok { IfOk result (λ found. IsAdded self.old ops.now found self.new) }
         ensures err { OnErr result (Grows self.old self.new) }
         ensures built { IfOk result (λ found. IfSome found IsWriteRefusal) }
@@ -322,7 +322,7 @@ impl PlainStore {
         number: u32,
         sequence: u64,
     ) -> Result<Option<Reply>, NoMemory>
-        ensures refusal { IfOk result (λ found. found ≡ refusal self.old.versions number (place_of self.old op.now.family) op.now) }
+        ensures refusal { IfOk result (λ found. found ≡ refusal_of_op self.old.versions number (place_of self.old op.now.family) op.now) }
         ensures ok { IfOk result (λ found. self.new ≡ after_op self.old op.now sequence found) }
         ensures err { OnErr result (self.new ≡ self.old) }
         ensures built { IfOk result (λ found. IfSome found IsWriteRefusal) }

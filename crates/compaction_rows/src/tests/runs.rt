@@ -6,9 +6,10 @@ ghost use Rattle.compaction.specs.Made.{IsInput};
 ghost use Rattle.compaction_rows.specs.Inputs.{IsOfFirst};
 
 use super::files::DiskFiles;
-use super::tables::{files, holds, put, table};
+use super::plans::is_plan;
+use super::tables::{empty_store, files, holds, put, table, with_tables};
 use collection_laws::plain_collect;
-use compaction::{JobCause, Output, Plan, run_compaction};
+use compaction::{JobCause, Output, Plan, pick, run_compaction, whole};
 use std::alloc::Global;
 use std::test::Fail;
 use super_version::LiveTable;
@@ -95,6 +96,27 @@ fn what_the_floor_hides_is_left_out(rt: HostRuntime) -> Result<(), Fail> {
     };
     let counts = counts(alloc, &outs)?;
     assert!(rt; counts.as_slice() == [2].as_slice());
+    Ok(())
+}
+
+#[test]
+fn what_is_kept_already_is_kept_again(rt: HostRuntime) -> Result<(), Fail> {
+    let alloc = rt.alloc();
+    let mut versions = Vec::new(alloc);
+    versions.push(put(alloc, b"a", 9, 3, b"w")?)?;
+    versions.push(put(alloc, b"a", 8, 2, b"v")?)?;
+    let mut flushed = Vec::new(alloc);
+    flushed.push(table(alloc, 3, &versions)?)?;
+    let now = with_tables(alloc, &empty_store(alloc)?, 0, flushed)?;
+    assert!(rt; is_plan(&whole(alloc, &now, Family(0))?, &[3], 6, 0));
+    assert!(rt; pick(alloc, &now, Family(0))?.is_none());
+    let plan = plan_of(alloc, &versions)?;
+    let mut files = files(alloc, 4)?;
+    let Ok(outs) = run_compaction(alloc, &plan, Form::Persist, Ts(8), &[], &mut files) else {
+        return Err(Fail::new("no tables"));
+    };
+    assert!(rt; outs.len() == 1 && outs[0].number == 4);
+    assert!(rt; holds(alloc, &outs[0].table, &versions)?);
     Ok(())
 }
 
@@ -192,17 +214,78 @@ fn scrambled(alloc: Global, from: u64, count: u64) -> Result<Vec<Version>, Fail>
     Ok(collection_laws::in_order(alloc, versions)?)
 }
 
-/// The plan of three tables of the versions, with a span of deeper keys.
-fn plan_of_three(alloc: Global, low: &[u8], high: &[u8]) -> Result<Plan, Fail>
-    ensures { IfOk result (λ p. All (IsInput p.family Persist) p.inputs) }
+/// A compaction of so many tables, where keys of a span lie deeper.
+#[derive(Clone, Copy)]
+struct Row {
+    count: u64,
+    floor: Ts,
+    seqs: &'static [Seq],
+    low: &'static [u8],
+    high: &'static [u8],
+}
+
+const ROWS: &[Row] = &[
+    Row {
+        count: 3,
+        floor: Ts(0),
+        seqs: &[],
+        low: b"z",
+        high: b"z",
+    },
+    Row {
+        count: 3,
+        floor: Ts(40),
+        seqs: &[Seq(120), Seq(60), Seq(200)],
+        low: b"z",
+        high: b"z",
+    },
+    Row {
+        count: 3,
+        floor: Ts(96),
+        seqs: &[Seq(150)],
+        low: b"key02",
+        high: b"key05",
+    },
+    Row {
+        count: 3,
+        floor: Ts(200),
+        seqs: &[],
+        low: b"key00",
+        high: b"key03",
+    },
+    Row {
+        count: 2,
+        floor: Ts(200),
+        seqs: &[],
+        low: b"key00",
+        high: b"key12",
+    },
+    Row {
+        count: 1,
+        floor: Ts(60),
+        seqs: &[Seq(30)],
+        low: b"z",
+        high: b"z",
+    },
+];
+
+/// How many versions each of the tables has.
+const TABLE_VERSIONS: u64 = 70;
+
+/// The first sequence of a table.
+fn first_of(index: u64) -> u64 {
+    index.wrapping_mul(TABLE_VERSIONS).wrapping_add(1)
+}
+
+fn tables_of(alloc: Global, count: u64) -> Result<Vec<LiveTable>, Fail>
+    ensures { IfOk result (λ all. All IsOfFirst all.items) }
 {
-    let mut tables = Vec::new(alloc);
-    tables.push(table(alloc, 3, &scrambled(alloc, 1, 70)?)?)?;
-    tables.push(table(alloc, 4, &scrambled(alloc, 71, 70)?)?)?;
-    tables.push(table(alloc, 5, &scrambled(alloc, 141, 70)?)?)?;
-    let mut deeper = Vec::new(alloc);
-    deeper.push(span(alloc, low, high)?)?;
-    Ok(plan(tables, deeper))
+    let mut all = Vec::new(alloc);
+    for index in 0..count {
+        let versions = scrambled(alloc, first_of(index), TABLE_VERSIONS)?;
+        all.push(table(alloc, index.wrapping_add(3), &versions)?)?;
+    }
+    Ok(all)
 }
 
 fn span(alloc: Global, low: &[u8], high: &[u8]) -> Result<KeySpan, Fail> {
@@ -212,14 +295,18 @@ fn span(alloc: Global, low: &[u8], high: &[u8]) -> Result<KeySpan, Fail> {
     })
 }
 
-/// Whether a compaction of three tables keeps what the definition says.
-fn is_right(alloc: Global, floor: Ts, seqs: &[Seq], low: &[u8], high: &[u8]) -> Result<bool, Fail> {
-    let spans = [span(alloc, low, high)?];
-    let all = scrambled(alloc, 1, 210)?;
-    let wanted = plain_collect(alloc, &all, floor, seqs, &spans)?;
-    let plan = plan_of_three(alloc, low, high)?;
+/// Whether the compaction keeps what the definition says.
+fn is_right(alloc: Global, row: &Row) -> Result<bool, Fail> {
+    let spans = [span(alloc, row.low, row.high)?];
+    let count = row.count.wrapping_mul(TABLE_VERSIONS);
+    let all = scrambled(alloc, 1, count)?;
+    let wanted = plain_collect(alloc, &all, row.floor, row.seqs, &spans)?;
+    let mut deeper = Vec::new(alloc);
+    deeper.push(span(alloc, row.low, row.high)?)?;
+    let plan = plan(tables_of(alloc, row.count)?, deeper);
     let mut files = files(alloc, 300)?;
-    let Ok(outs) = run_compaction(alloc, &plan, Form::Persist, floor, seqs, &mut files) else {
+    let Ok(outs) = run_compaction(alloc, &plan, Form::Persist, row.floor, row.seqs, &mut files)
+    else {
         return Ok(false);
     };
     let right = outs.len() == 1 && holds(alloc, &outs[0].table, &wanted)?;
@@ -227,11 +314,9 @@ fn is_right(alloc: Global, floor: Ts, seqs: &[Seq], low: &[u8], high: &[u8]) -> 
 }
 
 #[test]
-fn three_tables_keep_what_the_definition_says(rt: HostRuntime) -> Result<(), Fail> {
-    let alloc = rt.alloc();
-    assert!(rt; is_right(alloc, Ts(0), &[], b"z", b"z")?);
-    assert!(rt; is_right(alloc, Ts(40), &[Seq(120), Seq(60), Seq(200)], b"z", b"z")?);
-    assert!(rt; is_right(alloc, Ts(96), &[Seq(150)], b"key02", b"key05")?);
-    assert!(rt; is_right(alloc, Ts(200), &[], b"key00", b"key03")?);
+fn tables_keep_what_the_definition_says(rt: HostRuntime) -> Result<(), Fail> {
+    for row in ROWS {
+        assert!(rt; is_right(rt.alloc(), row)?);
+    }
     Ok(())
 }

@@ -25,101 +25,162 @@ fn why(rt: &HostRuntime, words: &[&str]) -> Result<(Status, String), Fail> {
     Ok((status, said.ok_or("no reason")?))
 }
 
+/// The words end with this status and reason.
+fn says(rt: &HostRuntime, words: &[&str], status: Status, reason: &str) -> Result<(), Fail> {
+    let (ended, said) = why(rt, words)?;
+    if ended == status && said.as_str() == reason {
+        Ok(())
+    } else {
+        Err(said.into())
+    }
+}
+
+const COMMAND_LINES: [(&[&str], &str); 11] = [
+    (&[], "a command is missing; see udtstore --help"),
+    (&["-h"], "unknown command -h; see udtstore --help"),
+    (&["frob", "x"], "unknown command frob; see udtstore --help"),
+    (&["try"], "try wants one file"),
+    (&["run", "X"], "run wants a folder and a file"),
+    (&["--help", "me"], "--help and --version stand alone"),
+    (
+        &["init", "X"],
+        "init wants 1 to 16 families behind the folder, as NAME:persist",
+    ),
+    (&["init", "X", "d"], "d: a family is NAME:persist"),
+    (
+        &["init", "X", "d:strip"],
+        "d:strip: a family is NAME:persist",
+    ),
+    (
+        &["init", "X", "D:persist"],
+        "D:persist: a name is 1 to 32 of a-z, 0-9 and _",
+    ),
+    (
+        &["init", "X", "d:persist", "d:persist"],
+        "two families have one name",
+    ),
+];
+
 #[test]
 fn command_lines_have_their_reasons(rt: HostRuntime) -> Result<(), Fail> {
-    let cases: [(&[&str], &str); 11] = [
-        (&[], "a command is missing; see udtstore --help"),
-        (&["-h"], "unknown command -h; see udtstore --help"),
-        (&["frob", "x"], "unknown command frob; see udtstore --help"),
-        (&["try"], "try wants one file"),
-        (&["run", "X"], "run wants a folder and a file"),
-        (&["--help", "me"], "--help and --version stand alone"),
-        (
-            &["init", "X"],
-            "init wants 1 to 16 families behind the folder, as NAME:persist",
-        ),
-        (&["init", "X", "d"], "d: a family is NAME:persist"),
-        (
-            &["init", "X", "d:strip"],
-            "d:strip: a family is NAME:persist",
-        ),
-        (
-            &["init", "X", "D:persist"],
-            "D:persist: a name is 1 to 32 of a-z, 0-9 and _",
-        ),
-        (
-            &["init", "X", "d:persist", "d:persist"],
-            "two families have one name",
-        ),
-    ];
-    for (words, wanted) in cases {
-        let (status, said) = why(&rt, words)?;
-        assert!(rt; status == Status::Usage);
-        assert!(rt; said.as_str() == wanted, "{said}");
+    for (words, wanted) in COMMAND_LINES {
+        says(&rt, words, Status::Usage, wanted)?;
     }
     Ok(())
 }
 
-/// The reason of these three words, which end in another way than done.
-fn said(rt: &HostRuntime, verb: &str, first: &str, second: &str) -> Result<String, Fail> {
-    let (_, said) = why(rt, &[verb, first, second])?;
-    Ok(said)
-}
-
-/// A folder of its own for a test, in the place for temporary files.
-fn temporary(rt: &HostRuntime) -> Result<String, Fail> {
+/// A folder of its own for a test, in the place for temporary files, with the command files `F` and, with a bad line, `B`.
+fn temporary(rt: &HostRuntime, name: &str) -> Result<String, Fail> {
     let place = env::temp_dir(rt)?;
     let id = process::id(rt.process());
-    let path = format!(in rt.alloc(); "{}/udtstore-{id}-reasons", place.display())?;
+    let path = format!(in rt.alloc(); "{}/udtstore-{id}-{name}", place.display())?;
     fs::create_dir(rt, path.as_str())?;
+    write(rt, path.as_str(), "F", "put d a 1 x\n")?;
+    write(rt, path.as_str(), "B", "put d a 1 x\nput d a 1\n")?;
     Ok(path)
 }
 
+fn write(rt: &HostRuntime, place: &str, name: &str, text: &str) -> Result<(), Fail> {
+    let path = format!(in rt.alloc(); "{place}/{name}")?;
+    Ok(fs::write(rt, path.as_str(), text)?)
+}
+
+/// The words tell why of this path below a place.
+fn tells(
+    rt: &HostRuntime,
+    words: &[&str],
+    status: Status,
+    place: &str,
+    told: (&str, &str),
+) -> Result<(), Fail> {
+    let (name, reason) = told;
+    let wanted = format!(in rt.alloc(); "{place}/{name}: {reason}")?;
+    says(rt, words, status, wanted.as_str())
+}
+
+/// A run of a file over the folder `X`, both below the place, tells why of one of them.
+fn run_tells(
+    rt: &HostRuntime,
+    place: &str,
+    file: &str,
+    status: Status,
+    told: (&str, &str),
+) -> Result<(), Fail> {
+    let folder = format!(in rt.alloc(); "{place}/X")?;
+    let file = format!(in rt.alloc(); "{place}/{file}")?;
+    tells(
+        rt,
+        &["run", folder.as_str(), file.as_str()],
+        status,
+        place,
+        told,
+    )
+}
+
+/// An init of a folder below the place tells why of it.
+fn init_tells(
+    rt: &HostRuntime,
+    place: &str,
+    folder: &str,
+    status: Status,
+    reason: &str,
+) -> Result<(), Fail> {
+    let path = format!(in rt.alloc(); "{place}/{folder}")?;
+    tells(
+        rt,
+        &["init", path.as_str(), "d:persist"],
+        status,
+        place,
+        (folder, reason),
+    )
+}
+
+/// Files that are run over a folder without a store, and what is told of the file or the folder.
+const RUNS: [(&str, Status, (&str, &str)); 3] = [
+    (
+        "B",
+        Status::Usage,
+        (
+            "B",
+            "line 2: put wants a family, a key, a timestamp and a value",
+        ),
+    ),
+    ("G", Status::Usage, ("G", "there is no such file")),
+    (
+        "F",
+        Status::Folder,
+        ("X", "there is no store; udtstore init makes one"),
+    ),
+];
+
 #[test]
 fn folders_and_files_have_their_reasons(rt: HostRuntime) -> Result<(), Fail> {
-    let alloc = rt.alloc();
-    let path = temporary(&rt)?;
-    let file = format!(in alloc; "{path}/F")?;
-    let folder = format!(in alloc; "{path}/X")?;
-    let below = format!(in alloc; "{path}/F/X")?;
-    let missing = format!(in alloc; "{path}/G")?;
-    fs::write(&rt, file.as_str(), "put d a 1 x\nput d a 1\n")?;
-    let found = said(&rt, "run", folder.as_str(), file.as_str())?;
-    let wanted = format!(in alloc;
-        "{file}: line 2: put wants a family, a key, a timestamp and a value"
-    )?;
-    assert!(rt; found == wanted, "{found}");
-    fs::write(&rt, file.as_str(), "put d a 1 x\n")?;
-    let found = said(&rt, "run", folder.as_str(), missing.as_str())?;
-    let wanted = format!(in alloc; "{missing}: there is no such file")?;
-    assert!(rt; found == wanted, "{found}");
-    let found = said(&rt, "run", folder.as_str(), file.as_str())?;
-    let wanted = format!(in alloc; "{folder}: there is no store; udtstore init makes one")?;
-    assert!(rt; found == wanted, "{found}");
-    let found = said(&rt, "init", below.as_str(), "d:persist")?;
-    let wanted = format!(in alloc; "{below}: not a directory")?;
-    assert!(rt; found == wanted, "{found}");
-    let found = said(&rt, "init", file.as_str(), "d:persist")?;
-    let wanted = format!(in alloc; "{file}: not a directory")?;
-    assert!(rt; found == wanted, "{found}");
-    fs::remove_dir_all(&rt, path.as_str())?;
-    Ok(())
+    let place = temporary(&rt, "reasons")?;
+    for (file, status, told) in RUNS {
+        run_tells(&rt, place.as_str(), file, status, told)?;
+    }
+    for folder in ["F/X", "F"] {
+        let status = Status::DiskFault;
+        init_tells(&rt, place.as_str(), folder, status, "not a directory")?;
+    }
+    Ok(fs::remove_dir_all(&rt, place.as_str())?)
+}
+
+/// A run over a folder that another host holds tells that it is locked.
+fn held_tells(rt: &HostRuntime, place: &str) -> Result<(), Fail> {
+    let path = format!(in rt.alloc(); "{place}/X")?;
+    let text = Text::of(rt.alloc(), path.as_bytes())?;
+    let mut holder = RealHost::new(rt);
+    let held = holder.open_folder(&text, true)?.ok_or("no folder")?;
+    let told = ("X", "it is locked by another process");
+    let ran = run_tells(rt, place, "F", Status::DiskFault, told);
+    holder.close_folder(&text, held);
+    ran
 }
 
 #[test]
 fn a_held_folder_has_its_reason(rt: HostRuntime) -> Result<(), Fail> {
-    let alloc = rt.alloc();
-    let path = temporary(&rt)?;
-    let file = format!(in alloc; "{path}/F")?;
-    let folder = format!(in alloc; "{path}/X")?;
-    fs::write(&rt, file.as_str(), "put d a 1 x\n")?;
-    let mut host = RealHost::new(&rt);
-    let text = Text::of(alloc, folder.as_bytes())?;
-    let held = host.open_folder(&text, true)?.ok_or("no folder")?;
-    let found = said(&rt, "run", folder.as_str(), file.as_str())?;
-    let wanted = format!(in alloc; "{folder}: it is locked by another process")?;
-    assert!(rt; found == wanted, "{found}");
-    host.close_folder(&text, held);
-    fs::remove_dir_all(&rt, path.as_str())?;
-    Ok(())
+    let place = temporary(&rt, "held")?;
+    held_tells(&rt, place.as_str())?;
+    Ok(fs::remove_dir_all(&rt, place.as_str())?)
 }

@@ -4,7 +4,7 @@ use Rattle.udt_disk.specs.Crash.{Image}
 use Rattle.gate_log.specs.declared.fault.LogFault.TheVariants as faults
 use Rattle.udt_model.specs.State.{State}
 use Rattle.solo_runner.specs.Adding.{IsWriteRefusal}
-use Rattle.solo_runner.specs.Named.{admitted}
+use Rattle.solo_runner.specs.Named.{reply_of_write}
 use Rattle.solo_runner.specs.LoggedStores.{store_state, wal_of}
 use Rattle.solo_runner.proofs.StepLemmas.{added_batch, added_last, added_within, is_added, is_logged, logs_failed, logs_nothing, logs_taken, refused_same, refused_told, step_refused}
 use Rattle.solo_runner.proofs.logged.LoggedStore.take.Goals as goal
@@ -63,7 +63,7 @@ returns-in-Ok-Some g c =
     let works : s.plain.halted ≡ _ = found.ensures.works in
     let back : c.admit.new.self ≡ s.plain = refused_same s.plain c.admit.new.self c.args.ops.now found.field-0 found.refusal found.field-0-is found.ensures.ok in
     let state : store_state s ≡ s.plain = ap (λ (h : Option ℕ). let m : State = record s.plain { halted = h } in m) (c.requires.works ∙ sym works) in
-    let told = ap (λ (m : State). admitted m c.args.ops.now) (sym state) in
+    let told = ap (λ (m : State). reply_of_write m c.args.ops.now) (sym state) in
     step_refused g.F.DiskFile only_now (wal_of s) (store_state s) _ c.args.number c.args.ops.now c.args.sync found.refusal
     (ap (λ (m : State). let n : State = record m { halted = s.halted } in n) back)
     c.requires.in_step
