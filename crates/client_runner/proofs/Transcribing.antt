@@ -50,7 +50,7 @@ pub transcribed : {E : Type 0} (commands : List Command) (lines : List Line) (he
     → header ≡ print_header 0 (heads_of fresh) → IfOk r (λ ready. ready.buffer.items ≡ header) → IfOk r (λ ready. ready.lines.items ≡ lines) → IfOk r (λ ready. HasRoomForLines ready.buffer lines) → IfOk r (IsTranscribed commands)
 transcribed commands lines header (Err e) history built none is front told room = tt
 transcribed commands lines header (Ok ready) history built none is front told room =
-    subst (λ (ls : List Line). IsSoloHistory fresh commands ls → All IsBuiltLine ls → list_any (λ (l : Line). tells_trouble l.reply) ls ≡ false → HasRoomForLines ready.buffer ls → IsTranscribed commands ready) (sym told)
+    subst (λ (ls : List Line). IsSoloHistory fresh commands ls → All IsBuiltLine ls → list_any (λ (l : Line). tells_trouble l.reply) ls ≡ false → HasRoomForLines ready.buffer ls → IsTranscribed commands ready) told
     (λ history built none room. record {
       history = history;
       sound = λ k l lt. sound_reply (get_or ready.lines.items k l).reply (all_none (λ (x : Line). tells_trouble x.reply) ready.lines.items none k l lt);

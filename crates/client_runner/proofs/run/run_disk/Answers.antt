@@ -42,7 +42,7 @@ returns-in-Err-clause-stopped g c =
       left = inl (record { stands = λ told n. stands_all d f old new e.gives_back told n; no_more = λ n image left. leaves_all d f old new e.gives_back n image left });
     }
 
-pub run_parts-disk-requires-clause-parts : goal.run_parts-requires-parts
+pub run_parts-disk-requires-clause-parts : goal.run_parts-disk-requires-clause-parts
 run_parts-disk-requires-clause-parts g c =
     let e = c.in-Ok.ensures in
     (c.args.disk, record { opened = e.opened; reads = e.reads; folds = e.folds; fits = e.fits; ready = e.ready; sizes = e.sizes; pending = e.pending; wal_name = e.wal_name; manifest_name = e.manifest_name; wal_told = e.wal_told; wal_model = e.wal_model; manifest_told = e.manifest_told; manifest_model = e.manifest_model })
