@@ -1,4 +1,5 @@
 use Rattle.std.proofs.Common.{◌≡◌, sym, ap, ◌∙◌, subst}
+use Rattle.solo_store.specs.Stores.{IsStoreReady}
 use Rattle.client_runner.specs.Runs.{HasRunParts}
 use Rattle.client_runner.proofs.RunParts.{IsClosed, IsStoreOf, parts_given_up, parts_over, parts_unmade, same_by}
 use Rattle.client_runner.proofs.run.run_parts.Goals.{in-Ok-header, in-Err-header}
@@ -54,3 +55,12 @@ returns-in-Err-clause-told g c = let of = c.requires.parts in (c.in-Err.ensures.
 
 pub returns-in-Err-clause-model : goal.returns-in-Err-clause-model
 returns-in-Err-clause-model g c = let of = c.requires.parts in (c.in-Err.ensures.closed of.0 of.1).model ∙ sym of.1.reads.model
+
+pub close-requires-after_bounds : goal.close-requires-after_bounds
+close-requires-after_bounds g c =
+    let d = g.D.Disk in
+    let f = g.D.File.DiskFile in
+    elim c.match-header-2.branch [
+      | in-Ok-header w ↦ subst (IsStoreReady d f) (sym w.store-is) w.run_over-ready.ensures.session.goes_on.ready
+      | in-Err-header w ↦ subst (IsStoreReady d f) (sym w.store-is) c.in-Ok.ensures.ready
+    ]
