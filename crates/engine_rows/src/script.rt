@@ -23,6 +23,12 @@ pub enum Step {
         count: u8,
         sync: bool,
     },
+    /// A synced put of a key.
+    Put {
+        family: u32,
+        key: u8,
+        ts: u64,
+    },
     Raise {
         family: u32,
         floor: u64,
@@ -37,23 +43,35 @@ pub enum Step {
     Flush(Flush),
 }
 
+/// The put of a key.
+fn put_of(alloc: Global, family: u32, ts: u64, key: u8) -> Result<WriteOp, AllocError> {
+    let Ok(key) = Key::of(alloc, &[key]) else {
+        return Err(AllocError);
+    };
+    let Ok(value) = Value::of(alloc, b"v") else {
+        return Err(AllocError);
+    };
+    Ok(WriteOp {
+        family: Family(family),
+        key,
+        ts: Ts(ts),
+        op: Op::Put(value),
+    })
+}
+
 /// The puts of a step.
 fn batch_of(alloc: Global, family: u32, ts: u64, count: u8) -> Result<Batch, AllocError> {
     let mut ops = Vec::new(alloc);
     for key in 0..count {
-        let Ok(key) = Key::of(alloc, &[key]) else {
-            return Err(AllocError);
-        };
-        let Ok(value) = Value::of(alloc, b"v") else {
-            return Err(AllocError);
-        };
-        ops.push(WriteOp {
-            family: Family(family),
-            key,
-            ts: Ts(ts),
-            op: Op::Put(value),
-        })?;
+        ops.push(put_of(alloc, family, ts, key)?)?;
     }
+    Batch::of(ops).map_err(|_| AllocError)
+}
+
+/// The put of one key, as a batch.
+fn one_put(alloc: Global, family: u32, ts: u64, key: u8) -> Result<Batch, AllocError> {
+    let mut ops = Vec::new(alloc);
+    ops.push(put_of(alloc, family, ts, key)?)?;
     Batch::of(ops).map_err(|_| AllocError)
 }
 
@@ -169,6 +187,12 @@ fn stepped(
                 return Err(EngineFault::NoMemory);
             };
             engine.write(alloc, now.as_ref(), &batch, sync)
+        }
+        Step::Put { family, key, ts } => {
+            let Ok(batch) = one_put(alloc, family, ts, key) else {
+                return Err(EngineFault::NoMemory);
+            };
+            engine.write(alloc, now.as_ref(), &batch, true)
         }
         Step::Raise { family, floor } => {
             engine.raise(alloc, now.as_ref(), Family(family), Ts(floor))

@@ -46,6 +46,17 @@ const PUT_AND_SEAL: &[Step] = &[
     Step::Seal { family: 0 },
 ];
 
+/// By the second seal nothing is in the active memtable, and a sealed one waits.
+const PUT_AND_TWO_SEALS: &[Step] = &[
+    Step::Put {
+        family: 0,
+        key: 0,
+        ts: 7,
+    },
+    Step::Seal { family: 0 },
+    Step::Seal { family: 0 },
+];
+
 const SEAL: &[Step] = &[Step::Seal { family: 0 }];
 
 const JOB_FILE: &[Step] = &[Step::JobFile];
@@ -310,8 +321,13 @@ fn sequences_end(rt: HostRuntime) -> Result<(), Fail> {
 fn file_numbers_end(rt: HostRuntime) -> Result<(), Fail> {
     let next = 1 << 63;
     let full = Some(EngineFault::FilesFull { next });
-    for (steps, wanted) in [(SEAL, None), (PUT_AND_SEAL, full), (JOB_FILE, full)] {
-        let disk = store_at(rt.alloc(), next, Seq(0))?;
+    for (first, steps, wanted) in [
+        (next, SEAL, None),
+        (next, PUT_AND_SEAL, full),
+        (next, JOB_FILE, full),
+        (next - 1, PUT_AND_TWO_SEALS, full),
+    ] {
+        let disk = store_at(rt.alloc(), first, Seq(0))?;
         let (_disk, fault) = history(rt.alloc(), disk, steps)?;
         assert_eq!(rt; fault, wanted);
     }

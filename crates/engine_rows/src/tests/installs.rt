@@ -3,12 +3,14 @@
 use crate::flushes::Flush;
 use crate::script::{Step, history, version_of};
 use crate::tests::{OUTCOMES, floor_of, has_file, made, made_in};
+use point_read::{Read, get};
 use std::alloc::Global;
 use std::test::Fail;
 use store_engine::EngineFault;
 use super_version::SuperVersion;
 use ts_key::{Family, Form, Seq, Ts};
 use udt_disk::{FileName, Outcome, Trouble};
+use udt_model::Stamp;
 
 /// The table of the put of `\0` at 7 with sequence 1 and value `v` in family 0.
 const OF_FIRST: &[u8] =
@@ -67,7 +69,7 @@ fn flushed_of(version: &SuperVersion, family: u32) -> Option<(u64, usize)> {
     Some((state.through.0, state.levels.get(0)?.len()))
 }
 
-/// The calls by which a put that was sealed is flushed: those on its table, the edit, and the removal of its log. With each the call that
+/// The calls by which a put that was sealed is flushed: those on its table, and the edit. With each the call that
 /// follows the last, which isn't made.
 const FLUSH_CALLS: &[(FileName, u64, u64)] = &[
     (FileName::Table(3), 1, 4),
@@ -123,6 +125,7 @@ fn a_log_stays_while_a_family_needs_it(rt: HostRuntime) -> Result<(), Fail> {
         assert_eq!(rt; version.last, Seq(2));
         assert_eq!(rt; flushed_of(&version, 1), Some((2, 1)));
         assert_eq!(rt; flushed_of(&version, 0), Some((0, 0)));
+        assert!(rt; is_found(&version, 0, 7, Stamp::At(Ts(7))));
     }
     Ok(())
 }
@@ -197,36 +200,40 @@ fn the_next_job_has_the_next_number(rt: HostRuntime) -> Result<(), Fail> {
     Ok(())
 }
 
+/// Whether a read of a key of family 0 at `t` finds `v` with this stamp.
+fn is_found(version: &SuperVersion, key: u8, t: u64, wanted: Stamp) -> bool {
+    if version.families.len() == 0 {
+        return false;
+    }
+    match get(version, Family(0), &[key], Ts(t), version.last) {
+        Read::Found { value, stamp } => value == b"v".as_slice() && stamp == wanted,
+        _ => false,
+    }
+}
+
 #[test]
 fn a_stripping_flush_raises_the_floor(rt: HostRuntime) -> Result<(), Fail> {
-    let written = Step::Write {
-        family: 0,
-        ts: 10,
-        count: 1,
-        sync: true,
-    };
+    let synced = |key, ts| Step::Put { family: 0, key, ts };
     let flush = Step::Flush(Flush {
         family: 0,
         through: 1,
         floor: 11,
         image: STRIPPED,
     });
-    let steps = [written, Step::Seal { family: 0 }, written, flush];
+    let steps = [synced(0, 10), Step::Seal { family: 0 }, synced(1, 5), flush];
     for outcome in OUTCOMES {
         let disk = made_in(rt.alloc(), Form::Strip, Vec::new(rt.alloc()))?.ok_or("no store")?;
         let (disk, fault) = history(rt.alloc(), disk, &steps)?;
         assert_eq!(rt; fault, None);
-        let (disk, fault) = history(
-            rt.alloc(),
-            disk.after_crash(rt.alloc(), *outcome)?,
-            &[put(0, 11), put(0, 10)],
-        )?;
+        let left = disk.after_crash(rt.alloc(), *outcome)?;
+        let (disk, fault) = history(rt.alloc(), left, &[synced(1, 5)])?;
         let floor = Ts(11);
         assert_eq!(rt; fault, Some(EngineFault::BelowFloor { op: 1, floor }));
         let version = version_of(rt.alloc(), disk)?;
         assert_eq!(rt; version.last, Seq(2));
         assert_eq!(rt; floor_of(&version, 0), 11);
         assert_eq!(rt; flushed_of(&version, 0), Some((1, 1)));
+        assert!(rt; is_found(&version, 1, 11, Stamp::Below));
     }
     Ok(())
 }
