@@ -17,7 +17,7 @@ use Rattle.udt_model.specs.Names.{act_of, no_names}
 use Rattle.udt_model.specs.Histories.{Point, Leads, behind, is_same, next_mark, own_lines, start}
 use Rattle.client_lang.specs.declared.command.Command.{Command}
 use Rattle.client_lang.specs.Print.{IsBuilt, IsBuiltLine}
-use Rattle.solo_store.specs.Steps.{course_behind_event}
+use Rattle.solo_store.specs.Acting.{course_behind_event}
 use Rattle.solo_runner.specs.Expand.{Expand, IsClient}
 use Rattle.solo_runner.specs.Marks.{mark_behind}
 use Rattle.solo_runner.proofs.Naming.{act_same, none_held}
