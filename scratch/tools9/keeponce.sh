@@ -10,7 +10,7 @@ git add -A scratch && git commit -q -m "Kept for later: notes and tools"
 cd /work/main
 [ "$(git branch --show-current)" = main ] || exit 0
 heads=""
-for n in base seal install engine house compact opening lang solo scan runner; do
+for n in planter base seal install engine house compact opening lang solo scan runner; do
   [ -d /work/h/$n ] || continue
   for b in $(git -C /work/h/$n for-each-ref --format='%(refname:short)' refs/heads | grep '^h9-'); do
     git fetch -q /work/h/$n +$b:refs/keep/$b 2>/dev/null || continue
